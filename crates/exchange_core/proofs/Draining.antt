@@ -6,14 +6,14 @@ use Rattle.exchange_core.specs.declared.event.Event.TheVariants.{Answered, Drain
 use Rattle.exchange_core.specs.declared.phase.Phase.TheVariants.{Closing}
 use Rattle.exchange_core.specs.declared.course.Course.{Course}
 use Rattle.exchange_core.specs.Course.{after}
-use Rattle.exchange_core.specs.May.{may_come, is_idle, is_head, is_moving}
+use Rattle.exchange_core.specs.May.{may_come, is_idle, is_head, is_at_gate, is_moving}
 use Rattle.exchange_core.specs.Log.{course_of, IsLegal, count, one_if, is_request_read, is_last_answer}
 use Rattle.exchange_core.proofs.Sound.{Sound, sound}
 use Rattle.exchange_core.proofs.Marks.{closes_stands}
 
 -- one more request may be read
 abbrev may_ask_more : Course → Bool
-may_ask_more c = is_idle c.phase || (is_head c.phase || (is_moving c.phase && (c.begun && not c.closes)))
+may_ask_more c = is_idle c.phase || (is_head c.phase || ((is_at_gate c.phase || is_moving c.phase) && not c.closes))
 
 one_step : (c : Course) (event : Event) → Sound c → c.draining ≡ true → may_come c event ≡ true
     → one_if (is_request_read event) + one_if (may_ask_more (after c event)) ≤ one_if (may_ask_more c)

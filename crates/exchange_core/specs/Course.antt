@@ -107,9 +107,9 @@ begun_after begun RequestRead = false
 begun_after begun (Answered keeps) = false
 begun_after begun _ = begun
 
--- the answer that goes out is the last one of its connection, since it was begun while the proxy drained
+-- the answer of the message that moves is the last one of its connection: its transaction started while the proxy drained
 abbrev pub closes_after : (draining closes : Bool) → Event → Bool
-closes_after draining closes Begun = draining
+closes_after draining closes Started = draining
 closes_after draining closes RequestRead = false
 closes_after draining closes (Answered keeps) = false
 closes_after draining closes _ = closes

@@ -190,7 +190,7 @@ has_begun events = stands is_begun (λ event. is_request_read event || is_answer
 abbrev pub is_half_out : List Event → Bool
 is_half_out events = stands is_half_told (λ event. is_request_read event || is_told event) events
 
--- the answer that goes out was begun while the proxy drained
+-- the transaction of the answer that goes out started while the proxy drained
 abbrev pub is_last_answer : List Event → Bool
 is_last_answer [] = false
 is_last_answer (event ∷ before) = closes_after (stands is_drain never before) (is_last_answer before) event

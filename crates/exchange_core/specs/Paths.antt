@@ -62,10 +62,12 @@ late = reverse (
     RequestRead ∷ Planned true false ∷ Lent false ∷ Reserved ∷ Dialed ∷ Started ∷ LetPass ∷ Failed causes.Deadline ∷ Returned false
     ∷ Released ∷ HungUp ∷ Late ∷ [])
 
--- the proxy drains while a request goes on, whose answer would keep the connection
+-- the proxy drains while a request goes on: its answer keeps the connection, and the next one ends it, though it would keep it
 abbrev pub drained : List Event
 drained = reverse (
     RequestRead ∷ Planned true false ∷ Lent false ∷ Reserved ∷ Dialed ∷ Started ∷ LetPass ∷ Drain ∷ Begun ∷ Served true
+    ∷ Answered true ∷ Returned true ∷ Released ∷ HungUp ∷ HeadBegun
+    ∷ RequestRead ∷ Planned true false ∷ Lent true ∷ Reserved ∷ Dialed ∷ Started ∷ LetPass ∷ Begun ∷ Served true
     ∷ Answered true ∷ Returned true ∷ Released ∷ HungUp ∷ UserClosed ∷ [])
 
 -- the user goes away while its service is asked

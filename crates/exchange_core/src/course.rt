@@ -25,7 +25,8 @@ pub struct Course {
     pub half_told: bool,
     /// A byte of the answer to this request went to the user, and not all.
     pub begun: bool,
-    /// It is the last answer of its connection, since it was begun while the proxy drained.
+    /// The answer of the message that moves is the last one of its connection, and its head says so: its transaction started while the
+    /// proxy drained.
     pub closes: bool,
     /// The proxy drains.
     pub draining: bool,
@@ -170,10 +171,8 @@ impl Course {
             Event::Dialed => course.origin = true,
             Event::Renewed => course.connection = self.connection.renewed(),
             Event::Served { usable } => course.connection = self.connection.said(usable),
-            Event::Begun => {
-                course.begun = true;
-                course.closes = self.draining;
-            }
+            Event::Started => course.closes = self.draining,
+            Event::Begun => course.begun = true,
             Event::Answered { .. } => {
                 course.begun = false;
                 course.closes = false;
@@ -189,7 +188,6 @@ impl Course {
             | Event::Queued
             | Event::Planned { .. }
             | Event::Stuck
-            | Event::Started
             | Event::Sent
             | Event::Failed(_)
             | Event::Refused

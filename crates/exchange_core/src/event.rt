@@ -103,7 +103,7 @@ pub enum Event {
     /// No byte moved for too long. The proxy tells it of a user that sends no head, takes no refusal, or doesn't close. Of a message
     /// that waits it tells `Failed` instead.
     Late,
-    /// The proxy drains: an answer that is begun from now on is the last one of its connection.
+    /// The proxy drains: an answer whose transaction starts from now on is the last one of its connection.
     Drain,
     /// The proxy stops.
     Stop,

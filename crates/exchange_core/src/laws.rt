@@ -156,8 +156,8 @@ pub fn a_lost_user_ends_an_exchange()
         → length more ≤ 3 }
 {}
 
-/// An answer that is begun while the proxy drains is the last one of its connection. So at most one more request is read: one
-/// that was on its way, or that of a user whose answer had been begun before.
+/// An answer whose transaction starts while the proxy drains is the last one of its connection. So at most one more request is
+/// read: one that was on its way, or that of a user whose answer's transaction had started before.
 pub fn a_drain_ends_an_exchange()
     ensures closes { (events : List Event) (keeps : Bool) → IsLegal (Answered keeps ∷ events)
         → is_last_answer events ≡ true → (course_of (Answered keeps ∷ events)).phase ≡ Closing }
