@@ -43,10 +43,21 @@ impl Model for Record {
 }
 
 impl Record {
-    ghost use Rattle.std.specs.Prelude.{◌≡◌, ◌<◌, ◌-◌, ◌↔◌, IfSome, IsTrue, option_copied};
+    ghost use Rattle.std.specs.Prelude.{◌≡◌, ◌<◌, ◌-◌, ◌↔◌, Some, None, IfSome, IsSome, IsTrue, option_copied};
     ghost use Rattle.adapt_bytes.specs.declared.limits.TheConstants.{COUNT_LIMIT};
     ghost use Rattle.options_book.specs.Options.{IsFresh, most_connections, unquoted};
     ghost use Rattle.options_book.specs.Transfer.{treat_of};
+
+    /// Has a record whose response says no Options-TTL be fresh for so many seconds; for ever where they are 0.
+    pub fn set_default_ttl(&mut self, seconds: u64)
+        ensures stands { IsSome self.old.ttl → self.new ≡ self.old }
+        ensures ever { seconds ≡ 0 → self.new ≡ self.old }
+        ensures lasts { self.old.ttl ≡ None → 0 < seconds → self.new ≡ record self.old { ttl = Some seconds } }
+    {
+        if self.ttl.is_none() && seconds > 0 {
+            self.ttl = Some(seconds);
+        }
+    }
 
     /// Whether the record is fresh at the time `now`, in seconds: fewer seconds than Options-TTL have passed since it
     /// was read, and `last_tag`, the last ISTag that an answer of the service had, if any, is the record's. A record that

@@ -2,9 +2,9 @@
 use crate::steps::{Stage, put_whole};
 use crate::words::{number_after, put_back, put_closed, put_numbers};
 use adapt_bytes::MAX_CONNECTIONS;
-use service_pool::{Journal, PoolState, RebasingJournal, Window};
+use service_pool::{Checked, Journal, PoolState, RebasingJournal, Window};
 use std::alloc::Global;
-use test_rows::{NoMemory, Row, put_line, put_shown, says};
+use test_rows::{NoMemory, Row, put_line, put_number, put_shown, says};
 
 /// Adds the steps that the journal has.
 fn put_journal<J: Journal>(out: &mut Vec<u8>, state: &PoolState<u32, J>) -> Result<(), NoMemory> {
@@ -14,6 +14,19 @@ fn put_journal<J: Journal>(out: &mut Vec<u8>, state: &PoolState<u32, J>) -> Resu
         }
     }
     put_line(out, b"and no more")
+}
+
+/// Adds what becomes of the idle connection at an index, where those above 20 are picked.
+fn put_checked<J: Journal>(
+    out: &mut Vec<u8>,
+    state: &mut PoolState<u32, J>,
+    index: u64,
+) -> Result<(), NoMemory> {
+    match state.close_idle(index.min(16) as usize, &|connection: &u32| *connection > 20) {
+        Checked::Closed(connection) => put_number(out, b"closes", u64::from(connection)),
+        Checked::Stays => put_line(out, b"stays"),
+        Checked::Missing => put_line(out, b"none"),
+    }
 }
 
 /// Adds what a step answers that needs a lease.
@@ -50,6 +63,9 @@ impl<J: Journal> Stage for PoolState<u32, J> {
         if let Some(maximum) = number_after(step, b"limit") {
             let closed = self.set_max(*out.allocator(), maximum.min(MAX_CONNECTIONS))?;
             return put_closed(out, &closed);
+        }
+        if let Some(index) = number_after(step, b"close") {
+            return put_checked(out, self, index);
         }
         if says(step, b"base") {
             put_numbers(out, self.base())

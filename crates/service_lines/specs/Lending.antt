@@ -1,5 +1,5 @@
 -- What was asked of a connector, the newest answer first, where connections are lent, renewed and put back.
-use Rattle.std.specs.Prelude.{◌≡◌, ℕ, zero, suc, ◌⊎◌, Bool, true, false, List, ◌∷◌, Option, Some, None, Result, Ok, Err, if◌then◌else◌}
+use Rattle.std.specs.Prelude.{◌≡◌, ℕ, zero, suc, ◌-◌, ◌<◌, ◌⊎◌, Bool, true, false, List, ◌∷◌, Option, Some, None, Result, Ok, Err}
 use Rattle.trace_core.specs.declared.history.Point.{Point}
 use Rattle.trace_core.specs.declared.history.Point.TheVariants.{Reqmod, Respmod}
 use Rattle.service_lines.specs.declared.connector.Act.{Act}
@@ -33,6 +33,16 @@ Tells point (found.Idle idle lease) = (point_of lease ≡ point) × (is_reused l
 Tells point (found.Fresh lease) = (point_of lease ≡ point) × (is_reused lease ≡ false)
 Tells point found.Busy = point ≡ point
 
+-- a connection that lies idle since a moment has done so for fewer seconds than one may
+abbrev pub IsYoung : (since now most : ℕ) → Type 0
+IsYoung since now most = now - since < most
+
+-- an idle connection that was found is young
+abbrev pub FindsYoung : {I Q A : Type 0} → (I → ℕ) → (now most : ℕ) → Found I Q A → Type 0
+FindsYoung since now most (found.Idle idle lease) = IsYoung (since idle) now most
+FindsYoung since now most (found.Fresh lease) = now ≡ now
+FindsYoung since now most found.Busy = now ≡ now
+
 -- the lease that was found
 abbrev pub HasLease : {I Q A : Type 0} → Found I Q A → Leased Q A → Type 0
 HasLease (found.Idle idle lease) other = other ≡ lease
@@ -47,10 +57,10 @@ after_take (Some (found.Fresh lease)) p = p
 after_take (Some found.Busy) p = p
 
 -- what was asked to lend it: an idle connection is brought into use, and a fresh one is opened; and this was the fault
-abbrev pub after_lend : {I Q A : Type 0} → Found I Q A → Option LendFault → List Act → List Act
-after_lend (found.Idle idle lease) fault p = Resumed fault ∷ p
-after_lend (found.Fresh lease) fault p = Opened fault ∷ p
-after_lend found.Busy fault p = p
+abbrev pub after_lend : {I Q A : Type 0} → (I → ℕ) → Found I Q A → Option LendFault → List Act → List Act
+after_lend since (found.Idle idle lease) fault p = Resumed (since idle) fault ∷ p
+after_lend since (found.Fresh lease) fault p = Opened fault ∷ p
+after_lend since found.Busy fault p = p
 
 -- this many idle connections were looked at that aren't fit for use
 abbrev pub after_dead : ℕ → List Act → List Act
@@ -62,18 +72,26 @@ pub record TakesLive {I Q A : Type 0} (before after : List Act → Type 0) (resu
   pub dead : ℕ
   pub each : (p : List Act) → before p → after (after_take (Some result) (after_dead dead p))
 
--- What lending came to, where this had happened before it. A connection that was idle was looked at and brought into use; another one
--- was opened.
-abbrev pub LendsTo : {U Q A : Type 0} → (before after : List Act → Type 0) → (ℕ → List Act → List Act) → Result (LeasedConnection U Q A) LendFault → Type 0
-LendsTo before after passed (Ok connection) = (n : ℕ) × ((p : List Act) → before p
-    → after (if is_reused connection.lease then Resumed None ∷ Looked true ∷ passed n p else Opened None ∷ passed n p))
-LendsTo before after passed (Err Busy) = (n : ℕ) × ((p : List Act) → before p → after (passed n p))
-LendsTo before after passed (Err fault) = (n : ℕ) × (((p : List Act) → before p → after (Resumed (Some fault) ∷ Looked true ∷ passed n p))
-    ⊎ ((p : List Act) → before p → after (Opened (Some fault) ∷ passed n p)))
+-- An idle connection was lent at this moment, or failed for this: it was young, was looked at and brought into use, once this many that
+-- aren't fit for use were passed over.
+pub record LendsIdle (now most : ℕ) (before after : List Act → Type 0) (fault : Option LendFault) : Type 0 where
+  pub dead : ℕ
+  pub since : ℕ
+  pub young : IsYoung since now most
+  pub each : (p : List Act) → before p → after (Resumed since fault ∷ Looked true ∷ after_dead dead p)
 
--- Lending: idle connections that aren't fit for use were passed over.
-abbrev pub Lends : {U Q A : Type 0} → (before after : List Act → Type 0) → Result (LeasedConnection U Q A) LendFault → Type 0
-Lends before after result = LendsTo before after after_dead result
+-- A connection was opened, or failed for this, once this many idle ones that aren't fit for use were passed over.
+pub record LendsFresh (before after : List Act → Type 0) (fault : Option LendFault) : Type 0 where
+  pub dead : ℕ
+  pub each : (p : List Act) → before p → after (Opened fault ∷ after_dead dead p)
+
+-- Lending at this moment, where a connection may lie idle for so many seconds: the lease tells whether the connection was idle.
+abbrev pub Lends : {U Q A : Type 0} → (now most : ℕ) → (before after : List Act → Type 0) → Result (LeasedConnection U Q A) LendFault → Type 0
+Lends now most before after (Ok connection) =
+    (is_reused connection.lease ≡ true → LendsIdle now most before after None)
+    × (is_reused connection.lease ≡ false → LendsFresh before after None)
+Lends now most before after (Err Busy) = (n : ℕ) × ((p : List Act) → before p → after (after_dead n p))
+Lends now most before after (Err fault) = LendsIdle now most before after (Some fault) ⊎ LendsFresh before after (Some fault)
 
 -- A connection with a lease of this point was lent, if any was.
 abbrev pub IsOf : {U Q A : Type 0} → Point → Result (LeasedConnection U Q A) LendFault → Type 0
@@ -86,14 +104,18 @@ Reopens before after (Ok used) = (p : List Act) → before p → after (Opened N
 Reopens before after (Err fault) = ((p : List Act) → before p → after (Opened (Some fault) ∷ p))
     ⊎ ((fault ≡ Unreached) × ((p : List Act) → before p → after p))
 
--- What was asked to put a connection back that lies idle then: it lives, and nothing lies unread on it. Otherwise it was closed.
-abbrev pub LaysDown : {I : Type 0} → (before after : List Act → Type 0) → Option I → Type 0
-LaysDown before after (Some idle) = (p : List Act) → before p → after (Rested true ∷ Checked true ∷ p)
-LaysDown before after None = ((p : List Act) → before p → after (Rested false ∷ Checked true ∷ p))
-    ⊎ ((p : List Act) → before p → after (Closed ∷ Checked false ∷ p))
+-- What was asked to put a connection back that lies idle then: it lives, and nothing lies unread on it. Otherwise it was closed, as each
+-- one is where none is kept.
+abbrev pub LaysDown : {I : Type 0} → (keeps : Bool) → (before after : List Act → Type 0) → Option I → Type 0
+LaysDown keeps before after (Some idle) = (keeps ≡ true) × ((p : List Act) → before p → after (Rested true ∷ Checked true ∷ p))
+LaysDown keeps before after None = ((keeps ≡ true) × ((p : List Act) → before p → after (Rested false ∷ Checked true ∷ p)))
+    ⊎ ((keeps ≡ true) × ((p : List Act) → before p → after (Closed ∷ Checked false ∷ p)))
+    ⊎ ((keeps ≡ false) × ((p : List Act) → before p → after (Closed ∷ p)))
 
--- What was asked to put a connection back: one that lies idle then lives, and has nothing unread on it.
-abbrev pub PutsBack : (before after : List Act → Type 0) → Type 0
-PutsBack before after = ((p : List Act) → before p → after (Rested true ∷ Checked true ∷ p))
-    ⊎ ((p : List Act) → before p → after (Rested false ∷ Checked true ∷ p))
-    ⊎ ((p : List Act) → before p → after (Closed ∷ Checked false ∷ p))
+-- What was asked to put a connection back, where one may lie idle for so many seconds: one that lies idle then lives, and has nothing
+-- unread on it.
+abbrev pub PutsBack : (most : ℕ) → (before after : List Act → Type 0) → Type 0
+PutsBack most before after = ((0 < most) × ((p : List Act) → before p → after (Rested true ∷ Checked true ∷ p)))
+    ⊎ ((0 < most) × ((p : List Act) → before p → after (Rested false ∷ Checked true ∷ p)))
+    ⊎ ((0 < most) × ((p : List Act) → before p → after (Closed ∷ Checked false ∷ p)))
+    ⊎ ((most ≡ 0) × ((p : List Act) → before p → after (Closed ∷ p)))

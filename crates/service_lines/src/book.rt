@@ -1,6 +1,6 @@
 //! What the services said, as one thread knows it.
 
-ghost use Rattle.std.specs.Prelude.{◌≡◌, ◌↔◌, IsTrue, Some, None, ◌⊎◌, option_copied, option_map};
+ghost use Rattle.std.specs.Prelude.{◌≡◌, ◌↔◌, IsTrue, true, false, Some, None, ◌⊎◌, option_copied, option_map};
 ghost use Rattle.service_lines.specs.Books.{Serves};
 
 use options_book::Record;
@@ -11,6 +11,8 @@ use std::alloc::Global;
 pub struct PointBook {
     said: Option<Record>,
     tag: Option<Vec<u8>>,
+    /// Whether the service is to be asked again, whatever its record says.
+    stale: bool,
 }
 
 impl PointBook {
@@ -21,6 +23,7 @@ impl PointBook {
         PointBook {
             said: None,
             tag: None,
+            stale: false,
         }
     }
 
@@ -36,10 +39,18 @@ impl PointBook {
 
     /// Keeps a record.
     pub fn keep(&mut self, said: Record)
-        ensures { (self.new.said ≡ Some said) × (self.new.tag ≡ None) }
+        ensures { (self.new.said ≡ Some said) × (self.new.tag ≡ None) × (self.new.stale ≡ false) }
     {
         self.said = Some(said);
         self.tag = None;
+        self.stale = false;
+    }
+
+    /// Has the service be asked again before a further message is planned. What it said stays until then.
+    pub fn expire(&mut self)
+        ensures { self.new ≡ record self.old { stale = true } }
+    {
+        self.stale = true;
     }
 
     /// Whether there is a record that serves at this moment.
@@ -51,7 +62,7 @@ impl PointBook {
             None => None,
         };
         match &self.said {
-            Some(record) => record.is_fresh(now, tag),
+            Some(record) => !self.stale && record.is_fresh(now, tag),
             None => false,
         }
     }
@@ -59,6 +70,7 @@ impl PointBook {
     /// Takes note of the tag of an answer. Where no memory is found for it the record goes.
     pub fn note_tag(&mut self, alloc: Global, tag: &[u8])
         ensures noted { ((option_map (λ tag. tag.items) self.new.tag ≡ Some tag.now) × (self.new.said ≡ self.old.said)) ⊎ ((self.new.said ≡ None) × (self.new.tag ≡ self.old.tag)) }
+        ensures stale { self.new.stale ≡ self.old.stale }
         ensures known { option_map (λ tag. tag.items) self.old.tag ≡ Some tag.now → self.new ≡ self.old }
     {
         let known = match &self.tag {

@@ -1,6 +1,6 @@
 //! What opens connections and wakes threads, as traits.
 
-ghost use Rattle.std.specs.Prelude.{◌≡◌, List, ◌∷◌, Err, is_some};
+ghost use Rattle.std.specs.Prelude.{◌≡◌, ℕ, List, ◌∷◌, Err, IfSome, is_some};
 ghost use Rattle.service_lines.specs.declared.connector.Act.{Act as AnyAct};
 ghost use Rattle.service_lines.specs.Lending.{fault_in};
 
@@ -24,8 +24,8 @@ pub enum Act {
     Opened(Option<LendFault>),
     /// Whether an idle connection is fit for use.
     Looked(bool),
-    /// It brought an idle connection into use, or failed for this.
-    Resumed(Option<LendFault>),
+    /// It brought a connection into use that lay idle since this moment, or failed for this.
+    Resumed(u64, Option<LendFault>),
     /// Whether a used connection may lie idle.
     Checked(bool),
     /// Whether it took a connection out of use, to lie idle. Otherwise it closed it.
@@ -38,6 +38,15 @@ pub enum Act {
 pub trait Edge: Copy + Drop {
     /// A connection that lies idle in a pool, with its place among the descriptors.
     type Idle: Drop;
+
+    ghost since: { Self.Idle → ℕ };
+
+    /// The moment since which a connection lies idle, in seconds.
+    fn since(idle: &Self::Idle) -> u64
+        ensures { result ≡ since idle.now };
+
+    /// Whether an idle connection's service hasn't ended it, and has said nothing on it that nobody asked for.
+    fn is_quiet(&self, idle: &Self::Idle) -> bool;
 
     /// Ends the wait of a thread, so that its first waiter is driven.
     fn wake(&self, thread: usize);
@@ -60,9 +69,11 @@ pub trait Keeper<E: Edge> {
     fn may_rest(&mut self, used: &Self::Used) -> bool
         ensures { (p : List AnyAct) → past self.old p → past self.new (Act.Checked result ∷ p) };
 
-    /// Takes a connection out of use. `None` where it can't lie idle, as without a descriptor for it: then it is closed.
-    fn rest(&mut self, used: Self::Used) -> Option<E::Idle>
-        ensures { (p : List AnyAct) → past self.old p → past self.new (Act.Rested (is_some result) ∷ p) };
+    /// Takes a connection out of use, to lie idle since this moment. `None` where it can't lie idle, as without a descriptor for it:
+    /// then it is closed.
+    fn rest(&mut self, used: Self::Used, now: u64) -> Option<E::Idle>
+        ensures since { IfSome result (λ idle. E.since idle ≡ now) }
+        ensures asked { (p : List AnyAct) → past self.old p → past self.new (Act.Rested (is_some result) ∷ p) };
 
     /// Closes a connection.
     fn close(&mut self, used: Self::Used)
@@ -83,5 +94,5 @@ pub trait Connector<E: Edge>: Keeper<E> {
     /// Brings an idle connection into use. Where it fails, the connection is closed. It is never `Busy`.
     fn resume(&mut self, idle: E::Idle) -> Result<Self::Used, LendFault>
         ensures free { result ≡ Err LendFault.Busy → ⊥ }
-        ensures asked { (p : List AnyAct) → Self.past self.old p → Self.past self.new (Act.Resumed (fault_in result) ∷ p) };
+        ensures asked { (p : List AnyAct) → Self.past self.old p → Self.past self.new (Act.Resumed (E.since idle) (fault_in result) ∷ p) };
 }

@@ -2,7 +2,7 @@
 
 ghost use Rattle.std.specs.Prelude.{◌≡◌, ◌↔◌, false, List, Err, Ok, IfOk, IfSome, OnOk, ◌∷◌};
 ghost use Rattle.service_lines.specs.declared.connector.Act.{Act as AnyAct};
-ghost use Rattle.service_lines.specs.Lending.{point_of, is_reused, fault_in, Tells, HasLease, IsOf, after_take, after_lend, TakesLive, Lends, Reopens, LaysDown, PutsBack};
+ghost use Rattle.service_lines.specs.Lending.{point_of, is_reused, fault_in, Tells, HasLease, IsOf, FindsYoung, after_take, after_lend, TakesLive, Lends, Reopens, LaysDown, PutsBack};
 
 use crate::connector::{Act, Connector, Edge, Keeper, LendFault};
 use crate::leased::{Found, Leased, LeasedConnection};
@@ -13,12 +13,18 @@ use std::sync::ledger::Ledger;
 use trace_core::Point;
 use wait_queue::Waiter;
 
-/// Takes a connection out of use, if it may lie idle. `None` where it is closed.
-fn lay_down<E: Edge, C: Keeper<E>>(connector: &mut C, used: C::Used) -> Option<E::Idle>
-    ensures { LaysDown (C.past connector.old) (C.past connector.new) result }
+/// Takes a connection out of use at this moment, if connections are kept and it may lie idle. `None` where it is closed.
+fn lay_down<E: Edge, C: Keeper<E>>(
+    connector: &mut C,
+    used: C::Used,
+    keeps: bool,
+    now: u64,
+) -> Option<E::Idle>
+    ensures asked { LaysDown keeps (C.past connector.old) (C.past connector.new) result }
+    ensures since { IfSome result (λ idle. E.since idle ≡ now) }
 {
-    if connector.may_rest(&used) {
-        connector.rest(used)
+    if keeps && connector.may_rest(&used) {
+        connector.rest(used, now)
     } else {
         connector.close(used);
         None
@@ -32,11 +38,13 @@ impl<'a, E: Edge, Q: Ledger, A: Ledger> Pools<'a, E, Q, A> {
         rt: &R,
         connector: &mut C,
         point: Point,
+        now: u64,
     ) -> Option<Found<E::Idle, Q, A>>
         ensures tells { IfSome result (Tells point) }
+        ensures young { IfSome result (FindsYoung E.since now self.now.idle_seconds) }
         ensures looks { (p : List AnyAct) → C.past connector.old p → C.past connector.new (after_take result p) }
     {
-        match self.take(rt, point) {
+        match self.take_young(rt, point, now) {
             Found::Idle(idle, lease) => {
                 if connector.is_fit(&idle) {
                     Some(Found::Idle(idle, lease))
@@ -51,18 +59,21 @@ impl<'a, E: Edge, Q: Ledger, A: Ledger> Pools<'a, E, Q, A> {
         }
     }
 
-    /// Takes a connection, but never one that its service has ended meanwhile, or on which it has said what nobody asked for.
+    /// Takes a connection, but never one that is too old, that its service has ended meanwhile, or on which it has said what nobody asked
+    /// for.
     fn take_live<R: Wait, C: Connector<E>>(
         &self,
         rt: &R,
         connector: &mut C,
         point: Point,
+        now: u64,
     ) -> Found<E::Idle, Q, A>
         ensures tells { Tells point result }
+        ensures young { FindsYoung E.since now self.now.idle_seconds result }
         ensures takes { TakesLive (C.past connector.old) (C.past connector.new) result }
     {
         for _ in 0..MAX_CONNECTIONS {
-            if let Some(found) = self.take_fit(rt, connector, point) {
+            if let Some(found) = self.take_fit(rt, connector, point, now) {
                 return found;
             }
         }
@@ -97,7 +108,7 @@ impl<'a, E: Edge, Q: Ledger, A: Ledger> Pools<'a, E, Q, A> {
     ) -> Result<LeasedConnection<C::Used, Q, A>, LendFault>
         ensures busy { (result ≡ Err LendFault.Busy) ↔ (found ≡ Found.Busy) }
         ensures lease { IfOk result (λ connection. HasLease found connection.lease) }
-        ensures asked { (p : List AnyAct) → C.past connector.old p → C.past connector.new (after_lend found (fault_in result) p) }
+        ensures asked { (p : List AnyAct) → C.past connector.old p → C.past connector.new (after_lend E.since found (fault_in result) p) }
     {
         match found {
             Found::Idle(idle, lease) => {
@@ -112,34 +123,37 @@ impl<'a, E: Edge, Q: Ledger, A: Ledger> Pools<'a, E, Q, A> {
         }
     }
 
-    /// Lends a connection to a point's service, an idle one first, whoever waits.
+    /// Lends a connection to a point's service at this moment, in seconds: an idle one first, whoever waits.
     fn lend_now<R: Wait, C: Connector<E>>(
         &self,
         rt: &R,
         connector: &mut C,
         point: Point,
+        now: u64,
     ) -> Result<LeasedConnection<C::Used, Q, A>, LendFault>
         ensures point { IsOf point result }
-        ensures lends { Lends (C.past connector.old) (C.past connector.new) result }
+        ensures lends { Lends now self.now.idle_seconds (C.past connector.old) (C.past connector.new) result }
     {
-        let found = self.take_live(rt, connector, point);
+        let found = self.take_live(rt, connector, point, now);
         self.lend_found(rt, connector, found)
     }
 
-    /// Lends a connection to a point's service, an idle one first. One who comes while others wait for theirs gets none.
+    /// Lends a connection to a point's service at this moment, in seconds: an idle one first. One who comes while others wait for theirs
+    /// gets none.
     pub fn lend<R: Wait, C: Connector<E>>(
         &self,
         rt: &R,
         connector: &mut C,
         point: Point,
+        now: u64,
     ) -> Result<LeasedConnection<C::Used, Q, A>, LendFault>
         ensures point { IsOf point result }
-        ensures lends { Lends (C.past connector.old) (C.past connector.new) result }
+        ensures lends { Lends now self.now.idle_seconds (C.past connector.old) (C.past connector.new) result }
     {
         if self.waiting.is_awaited(rt, point) {
             return Err(LendFault::Busy);
         }
-        self.lend_now(rt, connector, point)
+        self.lend_now(rt, connector, point, now)
     }
 
     /// Lends a connection to one who waits, once it is its turn. With a connection it has left the queue, and the next one is called.
@@ -149,14 +163,15 @@ impl<'a, E: Edge, Q: Ledger, A: Ledger> Pools<'a, E, Q, A> {
         connector: &mut C,
         point: Point,
         waiter: Waiter,
+        now: u64,
     ) -> Result<LeasedConnection<C::Used, Q, A>, LendFault>
         ensures point { IsOf point result }
-        ensures lends { Lends (C.past connector.old) (C.past connector.new) result }
+        ensures lends { Lends now self.now.idle_seconds (C.past connector.old) (C.past connector.new) result }
     {
         if !self.waiting.is_first(rt, point, waiter) {
             return Err(LendFault::Busy);
         }
-        let lent = self.lend_now(rt, connector, point);
+        let lent = self.lend_now(rt, connector, point, now);
         if lent.is_ok() {
             self.waiting.leave(rt, point, waiter);
         }
@@ -201,18 +216,19 @@ impl<'a, E: Edge, Q: Ledger, A: Ledger> Pools<'a, E, Q, A> {
         self.connection_of(rt, used, lease)
     }
 
-    /// Puts a connection back that may serve again. One that its service has ended, or on which it says what nobody asked for, is
-    /// closed, and its lease given up.
+    /// Puts a connection back at this moment, in seconds, that may serve again. One that its service has ended, or on which it says what
+    /// nobody asked for, is closed, and its lease given up; so is any one where none may lie idle.
     pub fn put<R: Wait, C: Keeper<E>>(
         &self,
         rt: &R,
         connector: &mut C,
         connection: LeasedConnection<C::Used, Q, A>,
+        now: u64,
     )
-        ensures { PutsBack (C.past connector.old) (C.past connector.new) }
+        ensures { PutsBack self.now.idle_seconds (C.past connector.old) (C.past connector.new) }
     {
         let LeasedConnection { wire, lease } = connection;
-        match lay_down(connector, wire) {
+        match lay_down(connector, wire, self.idle_seconds > 0, now) {
             Some(idle) => self.put_idle(rt, idle, lease),
             None => self.give_up(rt, lease),
         }

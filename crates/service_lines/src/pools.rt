@@ -1,7 +1,7 @@
 //! The pools of both points.
 
-ghost use Rattle.std.specs.Prelude.{◌≡◌, ◌≤◌, true, false, Some, OnOk, OnErr};
-ghost use Rattle.service_lines.specs.Lending.{Tells, point_of, is_reused};
+ghost use Rattle.std.specs.Prelude.{◌≡◌, ◌↔◌, ◌≤◌, true, false, Some, OnOk, OnErr};
+ghost use Rattle.service_lines.specs.Lending.{Tells, IsYoung, FindsYoung, point_of, is_reused};
 
 use crate::book::PointBook;
 use crate::connector::Edge;
@@ -9,7 +9,7 @@ use crate::leased::{Found, Leased};
 use crate::queues::Waiting;
 use adapt_bytes::MAX_CONNECTIONS;
 use options_book::Record;
-use service_pool::{Pool, Taken};
+use service_pool::{Checked, Pool, Taken};
 use std::alloc::{AllocError, Global};
 use std::sync::Wait;
 use std::sync::ledger::Ledger;
@@ -19,14 +19,16 @@ use trace_core::Point;
 ///
 /// ```
 /// // An exchange takes a connection, and puts it back once its service has said all.
-/// let connection = pools.lend(rt, &mut connector, Point::Reqmod)?;
+/// let connection = pools.lend(rt, &mut connector, Point::Reqmod, now)?;
 /// assert!(rt; !connection.lease.reused());
-/// pools.put(rt, &mut connector, connection);
+/// pools.put(rt, &mut connector, connection, now);
 /// ```
 #[derive(Drop)]
 pub struct Pools<'a, E: Edge, Q: Ledger, A: Ledger> {
     pub request: &'a Pool<E::Idle, Q>,
     pub response: &'a Pool<E::Idle, A>,
+    /// How many seconds a connection may lie idle. None does where it is 0.
+    pub idle_seconds: u64,
     /// Those who wait for a connection of them.
     pub waiting: Waiting<'a, E>,
 }
@@ -37,6 +39,7 @@ impl<'a, E: Edge, Q: Ledger, A: Ledger> Pools<'a, E, Q, A> {
         Pools {
             request: self.request,
             response: self.response,
+            idle_seconds: self.idle_seconds,
             waiting: self.waiting.for_thread(),
         }
     }
@@ -57,6 +60,58 @@ impl<'a, E: Edge, Q: Ledger, A: Ledger> Pools<'a, E, Q, A> {
                 Taken::Busy => Found::Busy,
             },
         }
+    }
+
+    /// Whether an idle connection has lain idle for as long as one may at this moment.
+    pub(crate) fn is_old(&self, idle: &E::Idle, now: u64) -> bool
+        ensures { result ≡ false ↔ IsYoung (E.since idle.now) now self.now.idle_seconds }
+    {
+        now.saturating_sub(E::since(idle)) >= self.idle_seconds
+    }
+
+    /// Takes a connection of a point's service, but never one that is too old: those are closed, and their leases given up.
+    pub(crate) fn take_young<R: Wait>(&self, rt: &R, point: Point, now: u64) -> Found<E::Idle, Q, A>
+        ensures tells { Tells point result }
+        ensures young { FindsYoung E.since now self.now.idle_seconds result }
+    {
+        for _ in 0..MAX_CONNECTIONS {
+            match self.take(rt, point) {
+                Found::Idle(idle, lease) => {
+                    if !self.is_old(&idle, now) {
+                        return Found::Idle(idle, lease);
+                    }
+                    drop(idle);
+                    self.give_up(rt, lease);
+                }
+                Found::Fresh(lease) => return Found::Fresh(lease),
+                Found::Busy => return Found::Busy,
+            }
+        }
+        Found::Busy
+    }
+
+    /// Whether an idle connection is of no use at this moment: it is too old, or its service has ended it or spoken on it unasked.
+    fn is_over(&self, idle: &E::Idle, now: u64) -> bool {
+        self.is_old(idle, now) || !self.waiting.edge.is_quiet(idle)
+    }
+
+    /// Closes the idle connections of a pool that are of no use at this moment. Each is looked at under the pool's lock, which is let
+    /// go in between.
+    fn tidy_pool<R: Wait, L: Ledger>(&self, rt: &R, pool: &Pool<E::Idle, L>, now: u64) {
+        let mut index = 0usize;
+        for _ in 0..2 * MAX_CONNECTIONS {
+            match pool.close_idle(rt, index, &|idle: &E::Idle| self.is_over(idle, now)) {
+                Checked::Closed(idle) => drop(idle),
+                Checked::Stays => index = index.saturating_add(1),
+                Checked::Missing => return,
+            }
+        }
+    }
+
+    /// Closes the idle connections of both services that are of no use at this moment.
+    pub fn tidy<R: Wait>(&self, rt: &R, now: u64) {
+        self.tidy_pool(rt, self.request, now);
+        self.tidy_pool(rt, self.response, now);
     }
 
     /// Puts a connection that lies idle back, for the one that waits longest. One that is too many is closed.

@@ -1,9 +1,14 @@
 -- What a pool shows, what it keeps, and what a take does.
-use Rattle.std.specs.Prelude.{◌≡◌, ℕ, ◌≤◌, ◌<◌, List, [], ◌∷◌, ◌++◌, length}
+use Rattle.std.specs.Prelude.{◌≡◌, ℕ, ◌≤◌, ◌<◌, Bool, true, false, List, [], ◌∷◌, ◌++◌, length, slice_index_or}
+use Rattle.std.specs.Borrow.{Bor}
+use Rattle.std.specs.Fn.{Shared, FnReturnsAt}
+use Rattle.std.specs.List.{remove}
 use Rattle.service_pool.specs.declared.state.Found.{Found}
 use Rattle.service_pool.specs.declared.state.Found.TheVariants.{Idle, Fresh, Busy}
+use Rattle.service_pool.specs.declared.state.Checked.{Checked}
+use Rattle.service_pool.specs.declared.state.Checked.TheVariants.{Closed, Stays, Missing}
 use Rattle.service_pool.specs.declared.step.Numbers.{Numbers}
-use Rattle.service_pool.specs.declared.step.PoolStep.TheVariants.{Take}
+use Rattle.service_pool.specs.declared.step.PoolStep.TheVariants.{Take, GiveUp}
 use Rattle.service_pool.specs.Journal.{Journaled, stepped, IsSound}
 
 -- the idle connections, the one put last at the end, and the numbers with their journal
@@ -38,3 +43,21 @@ abbrev pub lease_count : {C : Type 0} → Found C → ℕ
 lease_count (Idle c) = 1
 lease_count Fresh = 1
 lease_count Busy = 0
+
+-- the idle connection at an index leaves, as one that is taken and given up; or all stays as it was
+abbrev pub Closes : {C : Type 0} → (Journaled → Journaled) → Pooled C → Pooled C → ℕ → Checked C → Type 0
+Closes make_room old new index (Closed c) =
+    (index < length old.idle) × (c ≡ slice_index_or old.idle index c) × (new.idle ≡ remove old.idle index)
+    × (new.journal ≡ stepped make_room (stepped make_room old.journal Take) GiveUp)
+Closes make_room old new index Stays = (index < length old.idle) × (new ≡ old)
+Closes make_room old new index Missing = (length old.idle ≤ index) × (new ≡ old)
+
+-- the test said so of the connection at an index
+abbrev pub Tests : {F C : Type 0} → Shared F (Bor C × Unit {0}) Bool → F → List C → ℕ → Bool → Type 0
+Tests {C = C} test f idle index said = (c : C) × (c ≡ slice_index_or idle index c) × FnReturnsAt test f c said
+
+-- the test picks the connection that leaves, and doesn't pick one that stays
+abbrev pub IsPicked : {F C : Type 0} → Shared F (Bor C × Unit {0}) Bool → F → List C → ℕ → Checked C → Type 0
+IsPicked test f idle index (Closed c) = Tests test f idle index true
+IsPicked test f idle index Stays = Tests test f idle index false
+IsPicked test f idle index Missing = Unit {0}

@@ -1,13 +1,13 @@
 //! The locked part of a pool: its state, and the book of its leases.
 ghost use Rattle.std.specs.Prelude.{◌≡◌, ◌↔◌, ◌+◌, ◌≤◌, ◌<◌, [], ◌∷◌, ◌++◌, false, IsErr, IfOk, IfErr, OnOk, OnErr, IfSome, IfNone, vec_len};
 ghost use Rattle.service_pool.specs.Leasing.{found, Tells};
-ghost use Rattle.service_pool.specs.Pooled.{Takes, IsBusy, IsKept};
+ghost use Rattle.service_pool.specs.Pooled.{Takes, Closes, IsPicked, IsBusy, IsKept};
 ghost use Rattle.service_pool.specs.Replay.{open_count};
 ghost use Rattle.service_pool.specs.Journal.{slid, stepped};
 
 use crate::NoMemory;
 use crate::lease::{Lease, Taken, give_back, lend};
-use crate::state::{Found, PoolState};
+use crate::state::{Checked, Found, PoolState};
 use crate::step::{AuditFault, LEDGER_PARTS, Numbers, Over, PoolStep};
 use crate::window::Window;
 use adapt_bytes::MAX_CONNECTIONS;
@@ -145,6 +145,17 @@ impl<C, L: Ledger> Locked<C, L> {
         self.state.replace()?;
         lease.renew();
         Ok(())
+    }
+
+    /// Hands out the idle connection at this index, 0 being the oldest, to be closed, where the test picks
+    /// it, by the steps `Take` and `GiveUp`. No lease is made for it.
+    pub fn close_idle<F: Fn(&C) -> bool>(&mut self, index: usize, is_over: &F) -> Checked<C>
+        requires { F.IsAlwaysCallable is_over.now }
+        ensures closes { Closes slid self.old self.new index result }
+        ensures picked { IsPicked F.Fn is_over.now self.old.idle index result }
+        ensures kept { IsKept self.new }
+    {
+        self.state.close_idle(index, is_over)
     }
 
     /// Sets the largest number of open connections, as the step `Limit`, and hands back idle ones to

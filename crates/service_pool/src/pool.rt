@@ -6,7 +6,7 @@ ghost use Rattle.service_pool.specs.Leasing.{Tells};
 use crate::NoMemory;
 use crate::lease::{Lease, Taken};
 use crate::locked::Locked;
-use crate::state::PoolState;
+use crate::state::{Checked, PoolState};
 use crate::step::{AuditFault, LEDGER_PARTS, Numbers, Over};
 use adapt_bytes::MAX_CONNECTIONS;
 use std::alloc::Global;
@@ -92,6 +92,19 @@ impl<C, L: Ledger> Pool<C, L> {
         ensures err { OnErr result (lease.new ≡ lease.old) }
     {
         self.locked.lock(rt).replace(lease)
+    }
+
+    /// Hands out the idle connection at this index, 0 being the oldest, to be closed, where the test picks
+    /// it. The test is made under the lock, so it has to be a short one.
+    pub fn close_idle<F: Fn(&C) -> bool>(
+        &self,
+        rt: &impl Wait,
+        index: usize,
+        is_over: &F,
+    ) -> Checked<C>
+        requires { F.IsAlwaysCallable is_over.now }
+    {
+        self.locked.lock(rt).close_idle(index, is_over)
     }
 
     /// Sets the largest number of open connections, and hands back idle ones to be closed: oldest

@@ -1,8 +1,9 @@
 //! A pool as one thread sees it: its idle connections, and its numbers with their journal. Nothing
 //! here knows a lock.
 ghost use Rattle.std.specs.Prelude.{◌≡◌, ◌↔◌, ◌+◌, ◌≤◌, ◌<◌, [], ◌∷◌, ◌++◌, take, drop, IsErr, IfOk, OnOk, OnErr, IfSome, IfNone, slice_get, vec_len, vec_capacity};
+ghost use Rattle.std.specs.Fn.{FnReturnsAt};
 ghost use Rattle.std.specs.VecDeque.{deque_len, deque_capacity};
-ghost use Rattle.service_pool.specs.Pooled.{Takes, IsBusy, IsKept, lease_count, none_open};
+ghost use Rattle.service_pool.specs.Pooled.{Takes, Closes, IsPicked, IsBusy, IsKept, lease_count, none_open};
 ghost use Rattle.service_pool.specs.Replay.{open_count, replay};
 ghost use Rattle.service_pool.specs.Journal.{opening, stepped};
 
@@ -49,6 +50,17 @@ pub enum Found<C> {
     Fresh,
     /// No connection is idle, and no more may be opened.
     Busy,
+}
+
+/// The result of a look at an idle connection.
+#[derive(Debug, Drop, PartialEq, Eq)]
+pub enum Checked<C> {
+    /// It left the pool, and is to be closed.
+    Closed(C),
+    /// It stays.
+    Stays,
+    /// There is no connection at this index.
+    Missing,
 }
 
 impl<C, J: Journal> PoolState<C, J> {
@@ -176,6 +188,37 @@ impl<C, J: Journal> PoolState<C, J> {
         Ok(())
     }
 
+    /// Hands out the idle connection at this index, 0 being the oldest, to be closed, where the test picks
+    /// it. It leaves as one that is taken and given up at once, by these two steps. One that stays is no
+    /// step.
+    pub fn close_idle<F: Fn(&C) -> bool>(&mut self, index: usize, is_over: &F) -> Checked<C>
+        requires { F.IsAlwaysCallable is_over.now }
+        ensures closes { Closes J.makes_room self.old self.new index result }
+
+        // None is closed that the test doesn't pick, and none stays that it does.
+        ensures picked { IsPicked F.Fn is_over.now self.old.idle index result }
+        ensures leased { self.new.journal.numbers.leased ≡ self.old.journal.numbers.leased }
+        ensures kept { IsKept self.new }
+    {
+        let picked = match self.idle.get(index) {
+            Some(connection) => picks(is_over, connection),
+            None => return Checked::Missing,
+        };
+        if !picked {
+            return Checked::Stays;
+        }
+        // Shows that one is idle.
+        let _numbers = self.journal.numbers();
+        match self.idle.remove(index) {
+            Some(connection) => {
+                self.journal.apply(PoolStep::Take);
+                self.journal.apply(PoolStep::GiveUp);
+                Checked::Closed(connection)
+            }
+            None => unreachable!(),
+        }
+    }
+
     /// Sets the largest number of open connections, as the step `Limit`, and hands back idle ones to
     /// be closed: oldest first, until at most that many are open or no connection is idle. `Err` if
     /// their list finds no memory.
@@ -197,6 +240,14 @@ impl<C, J: Journal> PoolState<C, J> {
         self.journal.apply(PoolStep::Limit(maximum));
         Ok(closed)
     }
+}
+
+// Whether the test picks a connection.
+fn picks<C, F: Fn(&C) -> bool>(is_over: &F, connection: &C) -> bool
+    requires { F.IsAlwaysCallable is_over.now }
+    ensures { FnReturnsAt F.Fn is_over.now connection.now result }
+{
+    is_over(connection)
 }
 
 // Moves the first items of a queue to the end of a list, which has room for them.

@@ -65,6 +65,7 @@ fn put_on_pools<'s, Q: Ledger, A: Ledger, R: Wait>(
     let pools = Pools {
         request: &request,
         response: &response,
+        idle_seconds: row.number(b"idle").unwrap_or(60),
         waiting: Waiting {
             queues: &queues,
             edge: Memory { stage },

@@ -24,6 +24,8 @@ pub struct Stage {
     pub fault: Cell<Option<LendFault>>,
     /// The threads that were woken, the last one in the last digit.
     pub woken: Cell<u64>,
+    /// The moment, in seconds.
+    pub now: Cell<u64>,
 }
 
 impl Stage {
@@ -37,6 +39,7 @@ impl Stage {
             wanted: Cell::new(0),
             fault: Cell::new(None),
             woken: Cell::new(0),
+            now: Cell::new(0),
         }
     }
 
@@ -68,6 +71,7 @@ impl<'a> Drop for Berth<'a> {
 #[derive(Drop)]
 pub struct Idle<'a> {
     number: u64,
+    since: u64,
     berth: Berth<'a>,
 }
 
@@ -79,6 +83,16 @@ pub struct Memory<'a> {
 
 impl<'a> Edge for Memory<'a> {
     type Idle = Idle<'a>;
+
+    ghost since = { λ idle. idle.since };
+
+    fn since(idle: &Idle<'a>) -> u64 {
+        idle.since
+    }
+
+    fn is_quiet(&self, idle: &Idle<'a>) -> bool {
+        self.stage.is_quiet(idle.number)
+    }
 
     fn wake(&self, thread: usize) {
         let digit = thread as u64 % 10;
@@ -127,7 +141,7 @@ impl<'a, 'o> Keeper<Memory<'a>> for Hand<'a, 'o> {
         is_quiet
     }
 
-    fn rest(&mut self, used: u64) -> Option<Idle<'a>> {
+    fn rest(&mut self, used: u64, now: u64) -> Option<Idle<'a>> {
         let room = self.stage.room.get();
         self.say(b"rests", used);
         self.say_truth(room > 0);
@@ -137,6 +151,7 @@ impl<'a, 'o> Keeper<Memory<'a>> for Hand<'a, 'o> {
         self.stage.room.set(room - 1);
         Some(Idle {
             number: used,
+            since: now,
             berth: Berth { stage: self.stage },
         })
     }
@@ -176,7 +191,11 @@ impl<'a, 'o> Connector<Memory<'a>> for Hand<'a, 'o> {
     }
 
     fn resume(&mut self, idle: Idle<'a>) -> Result<u64, LendFault> {
-        let Idle { number, berth } = idle;
+        let Idle {
+            number,
+            since: _,
+            berth,
+        } = idle;
         drop(berth);
         self.say(b"resumes", number);
         match self.stage.fault.get() {

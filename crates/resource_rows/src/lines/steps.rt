@@ -16,10 +16,10 @@ use trace_core::Point;
 use wait_queue::Waiter;
 
 /// The steps that threads take, in the order of `put_step`.
-const STEPS: &[u8] = b"woken lend turn put close renew join leave first room maximum numbers";
+const STEPS: &[u8] = b"woken lend turn put close renew join leave first room maximum numbers tidy";
 
 /// The steps from outside, in the order of `put_outside`.
-const OUTSIDE: &[u8] = b"end say read refuse short serve";
+const OUTSIDE: &[u8] = b"end say read refuse short serve now";
 
 /// The connections that are lent. None has a `Drop`.
 pub type Held<Q, A> = Vec<LeasedConnection<u64, Q, A>>;
@@ -120,6 +120,7 @@ fn put_outside(stage: &Stage, word: &[u8], text: &[u8], out: &mut Vec<u8>) -> Re
         Some(3) => stage.fault.set(Some(LendFault::Unreached)),
         Some(4) => stage.fault.set(Some(LendFault::NoMemory)),
         Some(5) => stage.fault.set(None),
+        Some(6) => stage.now.set(number),
         _ => return put_line(out, b"no step"),
     }
     put_line(out, b"so")
@@ -177,13 +178,17 @@ impl<'a, 's, Q: Ledger, A: Ledger, R: Wait> Play<'a, 's, Q, A, R> {
         waiter: Option<Waiter>,
         out: &mut Vec<u8>,
     ) -> Result<(), NoMemory> {
+        let now = self.stage.now.get();
         let mut hand = Hand {
             stage: self.stage,
             out,
         };
         let lent = match waiter {
-            Some(waiter) => self.pools.lend_in_turn(self.rt, &mut hand, point, waiter),
-            None => self.pools.lend(self.rt, &mut hand, point),
+            Some(waiter) => {
+                self.pools
+                    .lend_in_turn(self.rt, &mut hand, point, waiter, now)
+            },
+            None => self.pools.lend(self.rt, &mut hand, point, now),
         };
         let Hand { stage: _, out } = hand;
         self.keep(lent, out)
@@ -210,7 +215,8 @@ impl<'a, 's, Q: Ledger, A: Ledger, R: Wait> Play<'a, 's, Q, A, R> {
             return self.keep(lent, out);
         }
         if says(word, b"put") {
-            self.pools.put(self.rt, &mut hand, connection);
+            let now = self.stage.now.get();
+            self.pools.put(self.rt, &mut hand, connection, now);
         } else {
             self.pools.close(self.rt, &mut hand, connection);
         }
@@ -234,6 +240,10 @@ impl<'a, 's, Q: Ledger, A: Ledger, R: Wait> steps::Stage for Play<'a, 's, Q, A, 
                 put_pools(self.rt, self.alloc, &self.pools, word, text, out)
             }
             Some(10 | 11) => put_pools(self.rt, self.alloc, &self.pools, word, text, out),
+            Some(12) => {
+                self.pools.tidy(self.rt, self.stage.now.get());
+                put_counts(self.rt, &self.pools, Point::Reqmod, out)
+            }
             _ => put_outside(self.stage, word, text, out),
         }
     }
