@@ -11,6 +11,13 @@ pub struct Readiness {
     can_write: AtomicBool,
     closed: AtomicBool,
     failed: AtomicBool,
+    answered: AtomicBool,
+    /// Whether it is still to be dialled.
+    undialled: AtomicBool,
+    /// Whether an event came before it was dialled.
+    polled: AtomicBool,
+    /// Whether a write waits for that.
+    wanted: AtomicBool,
     taken: AtomicU64,
 }
 
@@ -22,6 +29,10 @@ impl Readiness {
             can_write: AtomicBool::new(true),
             closed: AtomicBool::new(false),
             failed: AtomicBool::new(false),
+            answered: AtomicBool::new(true),
+            undialled: AtomicBool::new(false),
+            polled: AtomicBool::new(false),
+            wanted: AtomicBool::new(false),
             taken: AtomicU64::new(0),
         }
     }
@@ -30,13 +41,43 @@ impl Readiness {
     pub fn dialled() -> Readiness {
         let ready = Readiness::new();
         ready.read_out();
+        ready.answered.store(false, Ordering::Relaxed);
         ready
+    }
+
+    /// Of a connection that is dialled at its first write. A poll reports once that its socket isn't connected, which says nothing of the
+    /// connection: so the socket is connected only after that, when no such event can come any more.
+    pub fn undialled() -> Readiness {
+        let ready = Readiness::dialled();
+        ready.undialled.store(true, Ordering::Relaxed);
+        ready
+    }
+
+    /// Whether the connection is still to be dialled.
+    pub fn is_undialled(&self) -> bool {
+        self.undialled.load(Ordering::Relaxed)
+    }
+
+    /// Whether the connection may be dialled: the poll has reported its socket. If not, that event is news.
+    pub fn may_dial(&self) -> bool {
+        self.wanted.store(true, Ordering::Relaxed);
+        self.polled.load(Ordering::Relaxed)
+    }
+
+    /// The connection is dialled now.
+    pub fn dial(&self) {
+        self.undialled.store(false, Ordering::Relaxed);
     }
 
     /// Takes note of an event: there may be bytes to read, there may be room to write, the other side has ended its
     /// bytes or the connection has failed. True if that is news: a read or a write that found nothing to do may find
     /// something now.
     pub fn note(&self, readable: bool, writable: bool, closed: bool) -> bool {
+        if self.is_undialled() {
+            self.polled.store(true, Ordering::Relaxed);
+            return self.wanted.load(Ordering::Relaxed);
+        }
+        self.answered.store(true, Ordering::Relaxed);
         let reads = (readable || closed) && raise(&self.can_read);
         let writes = (writable || closed) && raise(&self.can_write);
         let ends = closed && raise(&self.closed);
@@ -45,12 +86,17 @@ impl Readiness {
 
     /// Takes note that the connection is gone both ways, as after a reset by the other peer. True if that is news.
     pub fn fail(&self) -> bool {
-        raise(&self.failed)
+        !self.is_undialled() && raise(&self.failed)
     }
 
     /// Whether the connection is gone both ways. One whose other side has only ended its bytes isn't.
     pub fn has_failed(&self) -> bool {
         self.failed.load(Ordering::Relaxed)
+    }
+
+    /// Whether the connection was dialled, and no event has said yet that the other side took or refused it.
+    pub fn is_on_its_way(&self) -> bool {
+        !self.is_undialled() && !self.answered.load(Ordering::Relaxed)
     }
 
     /// Takes note of bytes that were written.

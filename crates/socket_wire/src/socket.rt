@@ -1,17 +1,18 @@
 //! A socket as a wire: its counts, and its readiness.
 
-ghost use Rattle.std.specs.Prelude.{◌≡◌, []};
+ghost use Rattle.std.specs.Prelude.{◌≡◌, ◌<◌, [], length};
 ghost use Rattle.std.specs.Io.{ReadsAtMost, WritesAtMost};
-ghost use Rattle.wire_kit.specs.Past.{Past, nothing_yet, after_read, after_write};
+ghost use Rattle.wire_kit.specs.Past.{Past, FitsPut, nothing_yet, after_read, after_write};
 ghost use Rattle.socket_wire.specs.Socket.{IsPast};
 
 use crate::ready::Readiness;
-use libc::net::{_SS_SIZE, connect};
+use libc::net::{_SS_SIZE, AF_INET, connect};
 use mio::net::TcpStream;
 use mio::{Interest, Registry, Token};
+use os::errno;
 use std::io::{self, ErrorKind, Read, Write};
 use std::marker::PhantomData;
-use std::net::Shutdown;
+use std::net::{Shutdown, SocketAddrV4};
 use std::os::fd::AsRawFd;
 use std::sync::Arc;
 use wire_kit::{Got, Put, Wire};
@@ -48,6 +49,35 @@ fn write_once(stream: &mut TcpStream, bytes: &[u8]) -> io::Result<usize>
 /// How many bytes of an address the system reads.
 const ADDRESS: u32 = 16;
 
+/// What the system answers where a connection is on its way.
+const EINPROGRESS: i32 = 115;
+
+/// An address as the system reads it: the family, the port with its high byte first, and the four bytes of the host (ip(7)).
+fn address_bytes(address: SocketAddrV4) -> [u8; _SS_SIZE] {
+    let mut bytes = [0u8; _SS_SIZE];
+    bytes[..2].copy_from_slice(&(AF_INET as u16).to_ne_bytes());
+    bytes[2..4].copy_from_slice(&address.port().to_be_bytes());
+    bytes[4..8].copy_from_slice(&address.ip().octets());
+    bytes
+}
+
+/// Connects a socket to an address. False where that fails at once; the connection may still be on its way.
+fn connect_to(stream: &TcpStream, address: SocketAddrV4) -> bool {
+    let bytes = address_bytes(address);
+    let status = unsafe { connect(stream.as_raw_fd(), &bytes, ADDRESS) };
+    status >= 0 || errno() == EINPROGRESS
+}
+
+/// Whether a connection is dialled.
+#[derive(Clone, Copy)]
+enum Dialled {
+    Yes,
+    /// The poll has to report its socket first.
+    NotYet,
+    /// The system refused.
+    Failed,
+}
+
 /// What lies unread on a connection.
 #[derive(Clone, Copy, Debug, PartialEq, Eq)]
 pub enum Unread {
@@ -60,7 +90,7 @@ pub enum Unread {
 }
 
 /// A connection that never blocks, with its counts, to a peer of the role `R`. A call that can give nothing before the next event
-/// answers Wait without asking the system.
+/// answers Wait without asking the system. It may be one that is dialled at its first write: until then it waits.
 ///
 /// A connection to a peer of one role is another type than one of another role, and nothing makes the one of the other: a wire that
 /// is handed for another doesn't compile.
@@ -78,6 +108,8 @@ pub enum Unread {
 #[derive(Drop)]
 pub struct SocketWire<R> {
     stream: TcpStream,
+    /// Where the connection is still to be dialled.
+    late: Option<SocketAddrV4>,
     ready: Arc<Readiness>,
     read: u64,
     taken: u64,
@@ -97,6 +129,7 @@ impl<R> SocketWire<R> {
     {
         SocketWire {
             stream,
+            late: None,
             ready,
             read: 0,
             taken: 0,
@@ -107,6 +140,33 @@ impl<R> SocketWire<R> {
             reads: 0,
             writes: 0,
             role: PhantomData,
+        }
+    }
+
+    /// Has its socket, which isn't connected yet, be connected to this address at the first write.
+    pub fn dial_late(&mut self, address: SocketAddrV4)
+        ensures { (p : Past) → IsPast self.old p → IsPast self.new p }
+    {
+        self.late = Some(address);
+    }
+
+    /// Dials the connection, if that is still to be done.
+    fn dial(&mut self) -> Dialled
+        ensures kept { self.new ≡ record self.old { late = self.new.late } }
+        ensures past { (p : Past) → IsPast self.old p → IsPast self.new p }
+    {
+        let Some(address) = self.late else {
+            return Dialled::Yes;
+        };
+        if !self.ready.may_dial() {
+            return Dialled::NotYet;
+        }
+        self.late = None;
+        self.ready.dial();
+        if connect_to(&self.stream, address) {
+            Dialled::Yes
+        } else {
+            Dialled::Failed
         }
     }
 
@@ -166,6 +226,7 @@ impl<R> SocketWire<R> {
     pub fn into_stream(self) -> TcpStream {
         let SocketWire {
             stream,
+            late: _,
             ready: _,
             read: _,
             taken: _,
@@ -194,6 +255,47 @@ impl<R> SocketWire<R> {
     {
         self.write_waits = self.write_waits.saturating_add(1);
         Put::Wait
+    }
+
+    fn fail_to_write(&mut self) -> Put
+        ensures answer { result ≡ Put.Fault }
+        ensures counted { (p : Past) → IsPast self.old p → IsPast self.new (after_write p [] Put.Fault) }
+    {
+        self.faults = self.faults.saturating_add(1);
+        Put::Fault
+    }
+
+    /// Offers bytes on a connection that was dialled.
+    fn write_dialled(&mut self, bytes: &[u8]) -> Put
+        requires { 0 < length bytes.now }
+        ensures fits { FitsPut (length bytes.now) result }
+        ensures past { (p : Past) → IsPast self.old p → IsPast self.new (after_write p bytes.now result) }
+    {
+        if !self.ready.can_write() || bytes.len() as u64 > u64::MAX - self.taken {
+            return self.wait_to_write();
+        }
+        if self.writes == 1 {
+            let _ = self.hurry();
+        }
+        match write_once(&mut self.stream, bytes) {
+            Ok(0) => self.wait_to_write(),
+            Ok(n) => {
+                self.taken += n as u64;
+                self.ready.took(n as u64);
+                self.writes = self.writes.saturating_add(1);
+                if n < bytes.len() {
+                    self.ready.filled();
+                }
+                Put::Took(n)
+            }
+            Err(error) => match error.kind() {
+                ErrorKind::WouldBlock => {
+                    self.ready.filled();
+                    self.wait_to_write()
+                }
+                _ => self.fail_to_write(),
+            },
+        }
     }
 }
 
@@ -241,33 +343,10 @@ impl<R> Wire for SocketWire<R> {
     }
 
     fn try_write(&mut self, bytes: &[u8]) -> Put {
-        if !self.ready.can_write() || bytes.len() as u64 > u64::MAX - self.taken {
-            return self.wait_to_write();
-        }
-        if self.writes == 1 {
-            let _ = self.hurry();
-        }
-        match write_once(&mut self.stream, bytes) {
-            Ok(0) => self.wait_to_write(),
-            Ok(n) => {
-                self.taken += n as u64;
-                self.ready.took(n as u64);
-                self.writes = self.writes.saturating_add(1);
-                if n < bytes.len() {
-                    self.ready.filled();
-                }
-                Put::Took(n)
-            }
-            Err(error) => match error.kind() {
-                ErrorKind::WouldBlock => {
-                    self.ready.filled();
-                    self.wait_to_write()
-                }
-                _ => {
-                    self.faults = self.faults.saturating_add(1);
-                    Put::Fault
-                }
-            },
+        match self.dial() {
+            Dialled::Yes => self.write_dialled(bytes),
+            Dialled::NotYet => self.wait_to_write(),
+            Dialled::Failed => self.fail_to_write(),
         }
     }
 
