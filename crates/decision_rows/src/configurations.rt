@@ -3,6 +3,7 @@ use crate::listed::{index_of, put_counted};
 use crate::questions::{Subject, cut, put_lines};
 use proxy_config::{Config, ConfigFault, Hosts, ServicePoint, read_config};
 use std::alloc::Global;
+use std::net::SocketAddrV4;
 use test_rows::{NoMemory, Row, number, put_all, put_count, put_line, put_number, put_shown};
 
 /// The keys that have no default.
@@ -45,7 +46,7 @@ fn put_log(out: &mut Vec<u8>, log: &Option<String>) -> Result<(), NoMemory> {
 const NUMBERS: &[u8] =
     b"listen |\nadmin |\nshards |\ncapacity |\nrows |\njournal |\ndeadline |\npreview_limit |\nallow_limit |\nwindow ";
 
-/// Adds each number but the last.
+/// Adds each number but the times.
 fn put_numbers(out: &mut Vec<u8>, config: &Config) -> Result<(), NoMemory> {
     let numbers = [
         u64::from(config.listen.port()),
@@ -63,12 +64,44 @@ fn put_numbers(out: &mut Vec<u8>, config: &Config) -> Result<(), NoMemory> {
     put_line(out, b"")
 }
 
+/// Adds where the counters are asked for.
+fn put_metrics(out: &mut Vec<u8>, metrics: &Option<SocketAddrV4>) -> Result<(), NoMemory> {
+    match metrics {
+        Some(address) => put_number(out, b"metrics", u64::from(address.port())),
+        None => put_line(out, b"no metrics"),
+    }
+}
+
+/// The names of the times, in the order of `put_times`.
+const TIMES: &[u8] = b"service_idle |\noptions_ttl |\nhead_deadline |\nconnect_deadline ";
+
+/// Adds each time but `deadline` and `wait`.
+fn put_times(out: &mut Vec<u8>, config: &Config) -> Result<(), NoMemory> {
+    let times = [
+        config.service_idle,
+        config.options_ttl,
+        config.head_deadline,
+        config.connect_deadline,
+    ];
+    put_counted(out, TIMES, &times)?;
+    put_line(out, b"")
+}
+
+/// Adds what the keys between the log and the hosts say.
+fn put_tuning(out: &mut Vec<u8>, config: &Config) -> Result<(), NoMemory> {
+    put_shown(out, b"log_query", &config.log_query)?;
+    put_metrics(out, &config.metrics)?;
+    put_shown(out, b"dial", &config.dial)?;
+    put_times(out, config)
+}
+
 /// Adds each value.
 fn put_values(out: &mut Vec<u8>, config: &Config) -> Result<(), NoMemory> {
     put_numbers(out, config)?;
     put_shown(out, b"retry", &config.retry)?;
     put_number(out, b"wait", config.wait)?;
     put_log(out, &config.log)?;
+    put_tuning(out, config)?;
     put_service(out, &config.reqmod)?;
     put_service(out, &config.respmod)
 }

@@ -59,6 +59,10 @@ impl Subject for Record {
         if let Some(text) = question.strip_prefix(b"fresh at ") {
             return put_fresh(out, self, text);
         }
+        if let Some(digits) = question.strip_prefix(b"lasts ") {
+            self.set_default_ttl(number(digits).unwrap_or(0));
+            return put_line(out, b"so");
+        }
         if let Some(path) = question.strip_prefix(b"path ") {
             return put_treat(out, self.treat(extension(path)));
         }

@@ -85,6 +85,8 @@ fn entry_of<'a>(row: &Row<'a>) -> Entry<'a> {
             Some(why) => *why,
             None => Why::Served,
         },
+        found: row.get(b"found"),
+        received: row.number(b"in").unwrap_or(0),
     }
 }
 
@@ -94,13 +96,19 @@ const SERVED: Family = Family {
     help: b"Those that were served.",
 };
 
+const TIMES: Family = Family {
+    name: b"times",
+    kind: Kind::Histogram,
+    help: b"The seconds that they took.",
+};
+
 const OPEN: Family = Family {
     name: b"open",
     kind: Kind::Gauge,
     help: b"Those that are open.",
 };
 
-/// Adds the text of two families, of which the first has two numbers.
+/// Adds the text of three families: two numbers of the first, and one of a reason; two bounds of the second; one number of the third.
 pub fn put_metrics(alloc: Global, row: &Row<'_>, out: &mut Vec<u8>) -> Result<(), NoMemory> {
     let metrics = [
         Metric::Family(SERVED),
@@ -109,6 +117,20 @@ pub fn put_metrics(alloc: Global, row: &Row<'_>, out: &mut Vec<u8>) -> Result<()
             SERVED,
             b"{at=\"second\"}",
             row.number(b"second").unwrap_or(0),
+        ),
+        Metric::Reason(
+            SERVED,
+            b"third",
+            Why::UserGone,
+            row.number(b"gone").unwrap_or(0),
+        ),
+        Metric::Family(TIMES),
+        Metric::Bucket(TIMES, b"{le=\"0.5\"}", row.number(b"short").unwrap_or(0)),
+        Metric::Bucket(TIMES, b"{le=\"+Inf\"}", row.number(b"timed").unwrap_or(0)),
+        Metric::Times(
+            TIMES,
+            row.number(b"timed").unwrap_or(0),
+            row.number(b"took").unwrap_or(0),
         ),
         Metric::Family(OPEN),
         Metric::Sample(OPEN, b"", row.number(b"open").unwrap_or(0)),

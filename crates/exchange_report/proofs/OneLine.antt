@@ -10,7 +10,7 @@ use Rattle.adapt_bytes.specs.Numeral.{numeral, three_digits}
 use Rattle.adapt_bytes.proofs.Written.{Writes-numeral}
 use Rattle.exchange_report.specs.Words.{word_of}
 use Rattle.exchange_report.specs.Lines.{HasNoEnd, IsOneLine}
-use Rattle.exchange_report.specs.Entry.{address_text, user_text, origin_text, tag_text, status_text, head_text, request_text, reply_word, verdict_text, why_word, line_text}
+use Rattle.exchange_report.specs.Entry.{address_text, user_text, origin_text, tag_text, status_text, head_text, request_text, reply_word, verdict_text, why_word, end_text, line_text}
 use Rattle.exchange_report.specs.declared.entry.Address.{Address}
 use Rattle.exchange_report.specs.declared.entry.Entry.{Entry}
 use Rattle.exchange_report.specs.declared.verdict.Reply.{Reply}
@@ -18,8 +18,8 @@ use Rattle.exchange_report.specs.declared.verdict.Reply.TheVariants.{Missing, Pl
 use Rattle.exchange_report.specs.declared.verdict.Verdict.{Verdict}
 use Rattle.exchange_report.specs.declared.why.Why.{Why}
 use Rattle.exchange_report.specs.declared.why.Why.TheVariants.{Served, BadRequest, NotServed, RequestBroken, UnknownHost, OriginRefused, OriginBroken, OriginDeadline, ServiceRefused, ServiceStatus, ServiceBroken, ServiceDeadline, Busy, Full, NoRow, NoSeat, NoMemory, UserDeadline, UserGone, Stopping}
-use Rattle.exchange_report.specs.declared.words.TheConstants.{MAX_TARGET, MAX_METHOD, MAX_KIND}
-use Rattle.exchange_report.proofs.OneWord.{IsPlain, plain_word}
+use Rattle.exchange_report.specs.declared.words.TheConstants.{MAX_TARGET, MAX_METHOD, MAX_KIND, MAX_FOUND}
+use Rattle.exchange_report.proofs.OneWord.{IsVisible, plain_word}
 
 -- a text that is written out ends no line: this computes
 const : (text : List ℕ) → IsTrue (list_all (λ b. not (eqb b 10)) text) → HasNoEnd text
@@ -42,7 +42,7 @@ number n = digits (numeral 10 n) (Writes-numeral 10 n (omega arith) (omega arith
 three : (n : ℕ) → HasNoEnd (three_digits n)
 three n = grind (arith, rules)
 
-plain : (text : List ℕ) → All IsPlain text → HasNoEnd text
+plain : (text : List ℕ) → All IsVisible text → HasNoEnd text
 plain [] h = All-nil (λ b. b ≢ 10)
 plain (b ∷ text) h = grind (rules, h, plain text)
 
@@ -135,20 +135,32 @@ request e method target kind =
 -- the end's fields, before the byte that ends the line
 abbrev fields : Entry → List ℕ
 fields e = codes " reqmod=" ++ verdict_text e.reqmod ++ codes " respmod=" ++ verdict_text e.respmod ++ codes " why=" ++ why_word e.why
+    ++ codes " found=" ++ word_of (take MAX_FOUND e.found.now) ++ codes " in=" ++ numeral 10 e.received
 
 threes : (a m b t c o : List ℕ) → HasNoEnd a → HasNoEnd m → HasNoEnd b → HasNoEnd t → HasNoEnd c → HasNoEnd o
     → HasNoEnd (a ++ m ++ b ++ t ++ c ++ o)
 threes a m b t c o ha hm hb ht hc ho =
     joined (a ++ m ++ b ++ t ++ c) o (joined (a ++ m ++ b ++ t) c (joined (a ++ m ++ b) t (joined (a ++ m) b (joined a m ha hm) hb) ht) hc) ho
 
-last : (e : Entry) → HasNoEnd (fields e)
-last e = threes (codes " reqmod=") (verdict_text e.reqmod) (codes " respmod=") (verdict_text e.respmod) (codes " why=") (why_word e.why)
+-- the first three of them
+verdicts : (e : Entry) → HasNoEnd (codes " reqmod=" ++ verdict_text e.reqmod ++ codes " respmod=" ++ verdict_text e.respmod ++ codes " why=" ++ why_word e.why)
+verdicts e = threes (codes " reqmod=") (verdict_text e.reqmod) (codes " respmod=") (verdict_text e.respmod) (codes " why=") (why_word e.why)
     (const (codes " reqmod=") refl) (verdict e.reqmod) (const (codes " respmod=") refl) (verdict e.respmod) (const (codes " why=") refl) (why e.why)
 
+-- texts after one that ends no line
+after : (v f w i n : List ℕ) → HasNoEnd v → HasNoEnd f → HasNoEnd w → HasNoEnd i → HasNoEnd n → HasNoEnd (v ++ f ++ w ++ i ++ n)
+after v f w i n hv hf hw hi hn = joined (v ++ f ++ w ++ i) n (joined (v ++ f ++ w) i (joined (v ++ f) w (joined v f hv hf) hw) hi) hn
+
+last : (e : Entry) → All (λ b. b < 256) e.found.now → HasNoEnd (fields e)
+last e found = after (codes " reqmod=" ++ verdict_text e.reqmod ++ codes " respmod=" ++ verdict_text e.respmod ++ codes " why=" ++ why_word e.why)
+    (codes " found=") (word_of (take MAX_FOUND e.found.now)) (codes " in=") (numeral 10 e.received)
+    (verdicts e) (const (codes " found=") refl) (word MAX_FOUND e.found.now found) (const (codes " in=") refl) (number e.received)
+
 pub ends_once : (e : Entry) → All (λ b. b < 256) e.method.now → All (λ b. b < 256) e.target.now → All (λ b. b < 256) e.kind.now
-    → IsOneLine (line_text e)
-ends_once e method target kind = (
+    → All (λ b. b < 256) e.found.now → IsOneLine (line_text e)
+unfolding end_text
+ends_once e method target kind found = (
   head_text e ++ request_text e ++ fields e,
   sym (append_assoc (head_text e ++ request_text e) (fields e) (codes "\n")),
-  joined _ (fields e) (joined (head_text e) (request_text e) (head e) (request e method target kind)) (last e),
+  joined _ (fields e) (joined (head_text e) (request_text e) (head e) (request e method target kind)) (last e found),
 )

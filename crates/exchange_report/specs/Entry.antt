@@ -1,4 +1,4 @@
--- The log's line of an exchange: the fields of Squid's native format in their order, and three more.
+-- The log's line of an exchange: the fields of Squid's native format in their order, and five more.
 use Rattle.std.specs.Prelude.{ℕ, ◌/◌, ◌%◌, Bool, List, [], ◌++◌, Option, Some, None, take, nat_lt, if◌then◌else◌, codes}
 use Rattle.adapt_bytes.specs.Numeral.{numeral, three_digits}
 use Rattle.exchange_report.specs.Words.{word_of}
@@ -9,7 +9,7 @@ use Rattle.exchange_report.specs.declared.verdict.Reply.TheVariants.{Missing, Pl
 use Rattle.exchange_report.specs.declared.verdict.Verdict.{Verdict}
 use Rattle.exchange_report.specs.declared.why.Why.{Why}
 use Rattle.exchange_report.specs.declared.why.Why.TheVariants.{Served, BadRequest, NotServed, RequestBroken, UnknownHost, OriginRefused, OriginBroken, OriginDeadline, ServiceRefused, ServiceStatus, ServiceBroken, ServiceDeadline, Busy, Full, NoRow, NoSeat, NoMemory, UserDeadline, UserGone, Stopping}
-use Rattle.exchange_report.specs.declared.words.TheConstants.{MAX_TARGET, MAX_METHOD, MAX_KIND}
+use Rattle.exchange_report.specs.declared.words.TheConstants.{MAX_TARGET, MAX_METHOD, MAX_KIND, MAX_FOUND}
 
 abbrev pub address_text : Address → List ℕ
 address_text a = numeral 10 a.first ++ codes "." ++ numeral 10 a.second ++ codes "." ++ numeral 10 a.third ++ codes "." ++ numeral 10 a.fourth
@@ -75,9 +75,11 @@ why_word UserDeadline = codes "user-deadline"
 why_word UserGone = codes "user-gone"
 why_word Stopping = codes "stopping"
 
--- what a service made of the request and of the response, and why the exchange ended otherwise than by its answer
-abbrev pub end_text : Entry → List ℕ
-end_text e = codes " reqmod=" ++ verdict_text e.reqmod ++ codes " respmod=" ++ verdict_text e.respmod ++ codes " why=" ++ why_word e.why ++ codes "\n"
+-- what a service made of the request and of the response, why the exchange ended otherwise than by its answer, what a service found,
+-- and the bytes of the request's body
+unfoldable pub end_text : Entry → List ℕ
+end_text e = codes " reqmod=" ++ verdict_text e.reqmod ++ codes " respmod=" ++ verdict_text e.respmod ++ codes " why=" ++ why_word e.why
+    ++ codes " found=" ++ word_of (take MAX_FOUND e.found.now) ++ codes " in=" ++ numeral 10 e.received ++ codes "\n"
 
 -- the whole line
 abbrev pub line_text : Entry → List ℕ

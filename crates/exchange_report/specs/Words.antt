@@ -2,8 +2,12 @@
 use Rattle.std.specs.Prelude.{ℕ, ◌+◌, ◌/◌, ◌%◌, Bool, not, ◌&&◌, ◌==◌, List, [], ◌∷◌, ◌++◌, nat_lt, if◌then◌else◌, codes}
 
 -- visible in ASCII, and no quote
+abbrev pub is_visible : ℕ → Bool
+is_visible b = nat_lt 32 b && nat_lt b 127 && not (b == 34)
+
+-- written as it is: visible, and no percent sign, which begins an escape
 abbrev pub is_plain : ℕ → Bool
-is_plain b = nat_lt 32 b && nat_lt b 127 && not (b == 34)
+is_plain b = is_visible b && not (b == 37)
 
 -- the digits 0 to 9 and A to F
 abbrev pub hex_digit : ℕ → ℕ

@@ -1,11 +1,11 @@
-//! The log's line of an exchange, in the native format of Squid's `access.log`, with three fields after it.
+//! The log's line of an exchange, in the native format of Squid's `access.log`, with five fields after it.
 
 ghost use Rattle.std.specs.Prelude.{◌≡◌, ◌++◌, ◌<◌, OnOk};
 ghost use Rattle.exchange_report.specs.Entry.{address_text, user_text, origin_text, tag_text, status_text, head_text, request_text, end_text, line_text};
 
 use crate::verdict::{Verdict, write_verdict};
 use crate::why::Why;
-use crate::words::{MAX_KIND, MAX_METHOD, MAX_TARGET, write_number, write_word};
+use crate::words::{MAX_FOUND, MAX_KIND, MAX_METHOD, MAX_TARGET, write_number, write_word};
 use adapt_bytes::three_digits;
 use std::alloc::AllocError;
 
@@ -35,10 +35,12 @@ pub struct Address {
 ///     reqmod: Verdict::none(),
 ///     respmod: Verdict { retried: false, continued: true, reply: Reply::Unchanged },
 ///     why: Why::Served,
+///     found: b"",
+///     received: 0,
 /// };
 /// write_line(&mut out, &entry)?;
 /// // 1066036250.603 310 192.0.2.7 TCP_MISS/200 1015 GET http://o.test/a%20b - HIER_NONE/- text/html
-/// // reqmod=- respmod=100+204 why=-, in one line
+/// // reqmod=- respmod=100+204 why=- found=- in=0, in one line
 /// ```
 #[derive(Clone, Copy, Debug)]
 pub struct Entry<'a> {
@@ -63,6 +65,10 @@ pub struct Entry<'a> {
     pub reqmod: Verdict,
     pub respmod: Verdict,
     pub why: Why,
+    /// What a service found in a message, as the name of a virus.
+    pub found: &'a [u8],
+    /// How many bytes of the request's body came.
+    pub received: u64,
 }
 
 /// Adds an address, as `192.0.2.1`.
@@ -155,6 +161,7 @@ fn write_request(out: &mut Vec<u8>, entry: &Entry<'_>) -> Result<(), AllocError>
 }
 
 /// Adds the fields that Squid's format hasn't, and the line's end.
+#[tactic(auto, unfolding(crate::specs::Entry::end_text))]
 fn write_end(out: &mut Vec<u8>, entry: &Entry<'_>) -> Result<(), AllocError>
     ensures { OnOk result (out.new.items ≡ out.old.items ++ end_text entry.now) }
 {
@@ -164,6 +171,10 @@ fn write_end(out: &mut Vec<u8>, entry: &Entry<'_>) -> Result<(), AllocError>
     write_verdict(out, entry.respmod)?;
     out.extend_from_slice(b" why=")?;
     out.extend_from_slice(entry.why.word())?;
+    out.extend_from_slice(b" found=")?;
+    write_word(out, MAX_FOUND, entry.found)?;
+    out.extend_from_slice(b" in=")?;
+    write_number(out, entry.received)?;
     out.extend_from_slice(b"\n")
 }
 

@@ -14,4 +14,4 @@ pub use entry::{Address, Entry, write_line};
 pub use metrics::{Family, Kind, Metric, metrics_text};
 pub use verdict::{Reply, Verdict};
 pub use why::Why;
-pub use words::{MAX_KIND, MAX_METHOD, MAX_TARGET};
+pub use words::{MAX_FOUND, MAX_KIND, MAX_METHOD, MAX_TARGET};

@@ -16,11 +16,14 @@ pub const MAX_METHOD: usize = 32;
 /// The most bytes of a media type that are written.
 pub const MAX_KIND: usize = 128;
 
-/// Whether a byte is written as it is: it is visible, in ASCII, and no quote.
+/// The most bytes of what a service found that are written.
+pub const MAX_FOUND: usize = 128;
+
+/// Whether a byte is written as it is: it is visible, in ASCII, no quote, and not the percent sign that begins an escape.
 fn is_plain(byte: u8) -> bool
     ensures { result ≡ is_plain byte }
 {
-    32 < byte && byte < 127 && byte != b'"'
+    32 < byte && byte < 127 && byte != b'"' && byte != b'%'
 }
 
 /// A digit of a hexadecimal number, as a URI has it (RFC 3986, section 2.1).

@@ -1,13 +1,15 @@
 -- The index of each number that a loop counts.
-use Rattle.std.specs.Prelude.{ℕ, ◌+◌, ◌*◌, ◌/◌, ◌==◌, if◌then◌else◌}
+use Rattle.std.specs.Prelude.{ℕ, ◌+◌, ◌*◌, ◌/◌, ◌==◌, nat_le, if◌then◌else◌}
 use Rattle.exchange_report.specs.declared.verdict.Reply.{Reply}
 use Rattle.exchange_report.specs.declared.verdict.Reply.TheVariants.{Plain, Unchanged, Changed, Missing}
 use Rattle.exchange_report.specs.declared.why.Why.{Why}
 use Rattle.exchange_report.specs.declared.why.Why.TheVariants.{Served, BadRequest, NotServed, RequestBroken, UnknownHost, OriginRefused, OriginBroken, OriginDeadline, ServiceRefused, ServiceStatus, ServiceBroken, ServiceDeadline, Busy, Full, NoRow, NoSeat, NoMemory, UserDeadline, UserGone, Stopping}
+use Rattle.shard_report.specs.declared.tally.Bound.{Bound}
+use Rattle.shard_report.specs.declared.tally.Bound.TheVariants.{Milliseconds5, Milliseconds10, Milliseconds25, Milliseconds50, Milliseconds100, Milliseconds250, Milliseconds500, Seconds1, Milliseconds2500, Seconds5, Seconds10, None}
 use Rattle.shard_report.specs.declared.tally.Class.{Class}
 use Rattle.shard_report.specs.declared.tally.Class.TheVariants.{Informational, Successful, Redirection, ClientError, ServerError, Other}
 use Rattle.shard_report.specs.declared.tally.Count.{Count}
-use Rattle.shard_report.specs.declared.tally.Count.TheVariants.{Requests, Retries, Read, Sent, Users, Answers, Messages, Refusals}
+use Rattle.shard_report.specs.declared.tally.Count.TheVariants.{Requests, Retries, Read, Sent, Users, Milliseconds, Answers, Messages, Refusals, Failures, Times}
 use Rattle.trace_core.specs.declared.history.Point.{Point}
 use Rattle.trace_core.specs.declared.history.Point.TheVariants.{Reqmod, Respmod}
 
@@ -27,6 +29,35 @@ class_number Redirection = 2
 class_number ClientError = 3
 class_number ServerError = 4
 class_number Other = 5
+
+-- the least of a histogram's bounds that so many milliseconds don't pass
+abbrev pub bound_of : ℕ → Bound
+bound_of milliseconds = if nat_le milliseconds 5 then Milliseconds5
+    else if nat_le milliseconds 10 then Milliseconds10
+    else if nat_le milliseconds 25 then Milliseconds25
+    else if nat_le milliseconds 50 then Milliseconds50
+    else if nat_le milliseconds 100 then Milliseconds100
+    else if nat_le milliseconds 250 then Milliseconds250
+    else if nat_le milliseconds 500 then Milliseconds500
+    else if nat_le milliseconds 1000 then Seconds1
+    else if nat_le milliseconds 2500 then Milliseconds2500
+    else if nat_le milliseconds 5000 then Seconds5
+    else if nat_le milliseconds 10000 then Seconds10
+    else None
+
+abbrev pub bound_number : Bound → ℕ
+bound_number Milliseconds5 = 0
+bound_number Milliseconds10 = 1
+bound_number Milliseconds25 = 2
+bound_number Milliseconds50 = 3
+bound_number Milliseconds100 = 4
+bound_number Milliseconds250 = 5
+bound_number Milliseconds500 = 6
+bound_number Seconds1 = 7
+bound_number Milliseconds2500 = 8
+bound_number Seconds5 = 9
+bound_number Seconds10 = 10
+bound_number None = 11
 
 abbrev pub point_number : Point → ℕ
 point_number Reqmod = 0
@@ -60,13 +91,16 @@ why_number UserDeadline = 17
 why_number UserGone = 18
 why_number Stopping = 19
 
--- five numbers, then those of the classes, of the points with four replies each, and of the reasons
+-- six numbers, then those of the classes, of the points with four replies each and twice with the reasons, and of the bounds
 abbrev pub index_of : Count → ℕ
 index_of Requests = 0
 index_of Retries = 1
 index_of Read = 2
 index_of Sent = 3
 index_of Users = 4
-index_of (Answers class) = 5 + class_number class
-index_of (Messages point reply) = 11 + 4 * point_number point + reply_number reply
-index_of (Refusals why) = 19 + why_number why
+index_of Milliseconds = 5
+index_of (Answers class) = 6 + class_number class
+index_of (Messages point reply) = 12 + 4 * point_number point + reply_number reply
+index_of (Refusals point why) = 20 + 20 * point_number point + why_number why
+index_of (Failures point why) = 60 + 20 * point_number point + why_number why
+index_of (Times bound) = 100 + bound_number bound

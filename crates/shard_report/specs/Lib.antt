@@ -1,3 +1,4 @@
+pub mod Heads
 pub mod Indexes
 pub mod Notes
 pub mod Reasons

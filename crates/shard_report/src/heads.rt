@@ -1,6 +1,7 @@
-//! What the log says of an answer's head.
+//! What the log says of heads.
 
-ghost use Rattle.std.specs.Prelude.{◌<◌, IfSome};
+ghost use Rattle.std.specs.Prelude.{◌≡◌, ◌<◌, ◌≤◌, IfSome, length};
+ghost use Rattle.shard_report.specs.Heads.{place_of, without_query};
 
 use adapt_bytes::{front, is_blank, read_decimal, same_ascii, trim};
 
@@ -40,4 +41,26 @@ pub fn status_in(head: &[u8]) -> Option<u16>
         Some(status) if head.starts_with(b"HTTP/") && status < 1000 => Some(status as u16),
         _ => None,
     }
+}
+
+/// The place of the first such byte; the length where there is none.
+fn place_of(text: &[u8], byte: u8) -> usize
+    ensures place { result ≡ place_of byte text.now }
+    ensures within { result ≤ length text.now }
+{
+    let mut at = 0;
+    for other in text {
+        if *other == byte {
+            return at;
+        }
+        at += 1;
+    }
+    at
+}
+
+/// A target without its query, but for the question mark that begins it (RFC 3986, section 3.4).
+pub fn without_query(target: &[u8]) -> &[u8]
+    ensures { result.now ≡ without_query target.now }
+{
+    front(target, place_of(target, b'?') + 1)
 }

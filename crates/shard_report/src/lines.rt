@@ -1,6 +1,6 @@
 //! Lines of the log that wait to be written.
 
-ghost use Rattle.std.specs.Prelude.{◌≡◌, ◌+◌, ◌≤◌, ◌++◌, ◌↔◌, [], IfOk, IsTrue, false, length};
+ghost use Rattle.std.specs.Prelude.{◌≡◌, ◌+◌, ◌*◌, ◌≤◌, ◌++◌, ◌↔◌, [], IfOk, IsTrue, false, length};
 ghost use Rattle.std.specs.Vec.{vec_capacity};
 ghost use Rattle.exchange_report.specs.Entry.{line_text};
 ghost use Rattle.shard_report.specs.declared.lines.TheConstants.{ROOM};
@@ -36,6 +36,13 @@ impl Lines {
         ensures { result.now ≡ self.now.text.items }
     {
         self.text.as_slice()
+    }
+
+    /// Whether they fill half of the room.
+    fn fill_half(&self) -> bool
+        ensures { IsTrue result ↔ ROOM ≤ 2 * length self.now.text.items }
+    {
+        self.text.len() >= ROOM / 2
     }
 
     /// Leaves all of them out.
@@ -85,6 +92,13 @@ impl LogRoom {
             return false;
         }
         self.lines.add(self.line.as_slice())
+    }
+
+    /// Whether half of the room is full, or more.
+    pub fn is_half_full(&self) -> bool
+        ensures { IsTrue result ↔ ROOM ≤ 2 * length self.now.lines.text.items }
+    {
+        self.lines.fill_half()
     }
 
     /// Has the loop go on with other lines, and gives those that wait.

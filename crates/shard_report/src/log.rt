@@ -21,7 +21,7 @@ struct Kept {
 ///
 /// ```
 /// let log = Log::new(alloc, Some(rt.append("/var/log/adaptproxy/access.log")?), 2)?;
-/// log.add(rt, 0, &entry);
+/// let is_half_full = log.add(rt, 0, &entry);
 /// log.write_out(rt);
 /// ```
 #[derive(Drop)]
@@ -65,17 +65,21 @@ impl Log {
         self.lost.load(Ordering::SeqCst)
     }
 
-    /// Adds a line of a loop to those that wait. Where there is no room for it, it is lost.
-    pub fn add<R: Wait>(&self, rt: &R, number: usize, entry: &Entry<'_>) {
+    /// Adds a line of a loop to those that wait. Where there is no room for it, it is lost. True where half of the room is full with it,
+    /// and wasn't before: then the administrator's loop has to be woken.
+    pub fn add<R: Wait>(&self, rt: &R, number: usize, entry: &Entry<'_>) -> bool {
         let Some(kept) = &self.kept else {
-            return;
+            return false;
         };
-        match kept.rooms.get(number) {
-            Some(room) if room.lock(rt).add(entry) => {}
-            _ => {
-                let _ = self.lost.fetch_add(1, Ordering::SeqCst);
-            }
+        let Some(room) = kept.rooms.get(number) else {
+            return false;
+        };
+        let mut room = room.lock(rt);
+        let was_half_full = room.is_half_full();
+        if !room.add(entry) {
+            let _ = self.lost.fetch_add(1, Ordering::SeqCst);
         }
+        !was_half_full && room.is_half_full()
     }
 
     /// Writes the lines that wait, with one write for each loop. What the file doesn't take waits on.

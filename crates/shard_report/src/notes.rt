@@ -1,6 +1,6 @@
 //! What is noted of an exchange while it goes on: what its line in the log says, and what is counted.
 
-ghost use Rattle.std.specs.Prelude.{◌≡◌, ◌↔◌, ◌<◌, None, Some, IsSome, IsTrue};
+ghost use Rattle.std.specs.Prelude.{◌≡◌, ◌↔◌, ◌<◌, ◌-◌, None, Some, IsSome, IsTrue};
 ghost use Rattle.exchange_report.specs.declared.why.Why.{Why};
 ghost use Rattle.exchange_report.specs.declared.why.Why.TheVariants.{UserGone};
 ghost use Rattle.shard_report.specs.Notes.{IsOpen};
@@ -23,7 +23,14 @@ pub struct Note {
     pub taken: u64,
     /// How many bytes were read of the user, as far as they are counted.
     pub read: u64,
+    /// The origin to which a connection is, or is to be, opened.
+    pub dialled: Option<Address>,
+    /// The origin that got a byte of the request.
     pub origin: Option<Address>,
+    /// Which message is under way: the request, or the response.
+    pub point: Point,
+    /// How many bytes of the request's body came.
+    pub received: u64,
     pub refused: bool,
     pub status: u16,
     /// Whether a byte of an answer went to the user, and no refusal's.
@@ -72,7 +79,10 @@ fn blank() -> Note {
         begun: 0,
         taken: 0,
         read: 0,
+        dialled: None,
         origin: None,
+        point: Point::Reqmod,
+        received: 0,
         refused: false,
         status: 0,
         answered: false,
@@ -244,10 +254,9 @@ impl Notes {
             Some(words) => words.all(),
             None => (b"".as_slice(), b"".as_slice(), b"".as_slice()),
         };
-        let begun = if note.begun == 0 { ended } else { note.begun };
         Entry {
             ended,
-            elapsed: ended.saturating_sub(begun),
+            elapsed: elapsed_of(note, ended),
             user: note.user,
             refused: note.refused,
             status: status_of(note),
@@ -259,7 +268,22 @@ impl Notes {
             reqmod: note.reqmod,
             respmod: note.respmod,
             why: why_of(note),
+            // What services say that they found isn't read yet.
+            found: b"",
+            received: note.received,
         }
+    }
+}
+
+/// How many milliseconds an exchange took that ended at this moment. 0 where the moment of its beginning isn't known.
+pub fn elapsed_of(note: &Note, ended: u64) -> u64
+    ensures known { 0 < note.now.begun → result ≡ ended - note.now.begun }
+    ensures unknown { note.now.begun ≡ 0 → result ≡ 0 }
+{
+    if note.begun == 0 {
+        0
+    } else {
+        ended.saturating_sub(note.begun)
     }
 }
 

@@ -1,6 +1,6 @@
 //! The answer to `stats`: the sums of what the loops count, and the numbers of what they share.
 
-use crate::tally::{Class, Count, Tally};
+use crate::tally::{Bound, Class, Count, Tally};
 use exchange_report::{Family, Kind, Metric, Reply, Why, metrics_text};
 use service_pool::Numbers;
 use span_bank::Book;
@@ -70,26 +70,60 @@ const RESPMOD_REPLIES: [(Reply, &[u8]); 4] = [
     (Reply::Missing, b"{point=\"respmod\",outcome=\"failed\"}"),
 ];
 
-/// The labels of the proxy's own refusals.
-const REFUSALS: [(Why, &[u8]); 18] = [
-    (Why::BadRequest, b"{why=\"bad-request\"}"),
-    (Why::NotServed, b"{why=\"not-served\"}"),
-    (Why::RequestBroken, b"{why=\"request-broken\"}"),
-    (Why::UnknownHost, b"{why=\"unknown-host\"}"),
-    (Why::OriginRefused, b"{why=\"origin-refused\"}"),
-    (Why::OriginBroken, b"{why=\"origin-broken\"}"),
-    (Why::OriginDeadline, b"{why=\"origin-deadline\"}"),
-    (Why::ServiceRefused, b"{why=\"service-refused\"}"),
-    (Why::ServiceStatus, b"{why=\"service-status\"}"),
-    (Why::ServiceBroken, b"{why=\"service-broken\"}"),
-    (Why::ServiceDeadline, b"{why=\"service-deadline\"}"),
-    (Why::Busy, b"{why=\"busy\"}"),
-    (Why::Full, b"{why=\"full\"}"),
-    (Why::NoRow, b"{why=\"no-row\"}"),
-    (Why::NoSeat, b"{why=\"no-seat\"}"),
-    (Why::NoMemory, b"{why=\"no-memory\"}"),
-    (Why::UserDeadline, b"{why=\"user-deadline\"}"),
-    (Why::Stopping, b"{why=\"stopping\"}"),
+/// The reasons of the proxy's own refusals.
+const REFUSALS: [Why; 18] = [
+    Why::BadRequest,
+    Why::NotServed,
+    Why::RequestBroken,
+    Why::UnknownHost,
+    Why::OriginRefused,
+    Why::OriginBroken,
+    Why::OriginDeadline,
+    Why::ServiceRefused,
+    Why::ServiceStatus,
+    Why::ServiceBroken,
+    Why::ServiceDeadline,
+    Why::Busy,
+    Why::Full,
+    Why::NoRow,
+    Why::NoSeat,
+    Why::NoMemory,
+    Why::UserDeadline,
+    Why::Stopping,
+];
+
+/// The reasons why an answer is cut, or a user without one.
+const FAILURES: [Why; 11] = [
+    Why::RequestBroken,
+    Why::OriginBroken,
+    Why::OriginDeadline,
+    Why::ServiceRefused,
+    Why::ServiceStatus,
+    Why::ServiceBroken,
+    Why::ServiceDeadline,
+    Why::NoMemory,
+    Why::UserDeadline,
+    Why::UserGone,
+    Why::Stopping,
+];
+
+/// The points, with their names.
+const POINTS: [(Point, &[u8]); 2] = [(Point::Reqmod, b"reqmod"), (Point::Respmod, b"respmod")];
+
+/// The labels of a histogram's bounds, in seconds.
+const BOUNDS: [(Bound, &[u8]); 12] = [
+    (Bound::Milliseconds5, b"{le=\"0.005\"}"),
+    (Bound::Milliseconds10, b"{le=\"0.01\"}"),
+    (Bound::Milliseconds25, b"{le=\"0.025\"}"),
+    (Bound::Milliseconds50, b"{le=\"0.05\"}"),
+    (Bound::Milliseconds100, b"{le=\"0.1\"}"),
+    (Bound::Milliseconds250, b"{le=\"0.25\"}"),
+    (Bound::Milliseconds500, b"{le=\"0.5\"}"),
+    (Bound::Seconds1, b"{le=\"1.0\"}"),
+    (Bound::Milliseconds2500, b"{le=\"2.5\"}"),
+    (Bound::Seconds5, b"{le=\"5.0\"}"),
+    (Bound::Seconds10, b"{le=\"10.0\"}"),
+    (Bound::None, b"{le=\"+Inf\"}"),
 ];
 
 /// The numbers, in the order of the text.
@@ -139,16 +173,56 @@ impl<'a> Sheet<'a> {
             let value = self.sum(Count::Answers(class));
             self.put(Metric::Sample(answers, label, value))?;
         }
+        Ok(())
+    }
+
+    /// The proxy's own refusals.
+    fn put_refusals(&mut self) -> Result<(), AllocError> {
         let refusals = counter(
             b"adaptproxy_refusals",
-            b"The proxy's own refusals by their reason.",
+            b"The proxy's own refusals by the point of their message and their reason.",
         );
         self.put(Metric::Family(refusals))?;
-        for (why, label) in REFUSALS {
-            let value = self.sum(Count::Refusals(why));
-            self.put(Metric::Sample(refusals, label, value))?;
+        for (point, name) in POINTS {
+            for why in REFUSALS {
+                let value = self.sum(Count::Refusals(point, why));
+                self.put(Metric::Reason(refusals, name, why, value))?;
+            }
         }
         Ok(())
+    }
+
+    /// What ended without a whole answer, and without a refusal.
+    fn put_failures(&mut self) -> Result<(), AllocError> {
+        let failures = counter(
+            b"adaptproxy_failures",
+            b"Exchanges without a whole answer and without a refusal, by point and reason.",
+        );
+        self.put(Metric::Family(failures))?;
+        for (point, name) in POINTS {
+            for why in FAILURES {
+                let value = self.sum(Count::Failures(point, why));
+                self.put(Metric::Reason(failures, name, why, value))?;
+            }
+        }
+        Ok(())
+    }
+
+    /// How long exchanges took.
+    fn put_times(&mut self) -> Result<(), AllocError> {
+        let times = Family {
+            name: b"adaptproxy_exchange_seconds",
+            kind: Kind::Histogram,
+            help: b"Seconds from a request's head to the end of its answer.",
+        };
+        self.put(Metric::Family(times))?;
+        let mut count = 0u64;
+        for (bound, label) in BOUNDS {
+            count = count.wrapping_add(self.sum(Count::Times(bound)));
+            self.put(Metric::Bucket(times, label, count))?;
+        }
+        let milliseconds = self.sum(Count::Milliseconds);
+        self.put(Metric::Times(times, count, milliseconds))
     }
 
     /// What the loops count of messages, and of bytes.
@@ -271,6 +345,9 @@ pub fn stats_text(
         tallies,
     };
     sheet.put_counts()?;
+    sheet.put_refusals()?;
+    sheet.put_failures()?;
+    sheet.put_times()?;
     sheet.put_messages()?;
     sheet.put_users(figures.seats)?;
     sheet.put_pools(figures.reqmod, figures.respmod)?;

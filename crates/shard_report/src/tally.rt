@@ -1,7 +1,7 @@
 //! What a loop counts. It alone adds; the administrator's loop reads.
 
 ghost use Rattle.std.specs.Prelude.{◌≡◌, ◌<◌};
-ghost use Rattle.shard_report.specs.Indexes.{class_of, class_number, point_number, reply_number, why_number, index_of};
+ghost use Rattle.shard_report.specs.Indexes.{class_of, class_number, bound_of, bound_number, point_number, reply_number, why_number, index_of};
 ghost use Rattle.shard_report.specs.declared.tally.TheConstants.{COUNTS};
 
 use exchange_report::{Reply, Why};
@@ -26,6 +26,24 @@ pub enum Class {
     Other,
 }
 
+/// How long an exchange took at most: the bounds of a histogram.
+#[derive(Clone, Copy, Debug, PartialEq, Eq)]
+pub enum Bound {
+    Milliseconds5,
+    Milliseconds10,
+    Milliseconds25,
+    Milliseconds50,
+    Milliseconds100,
+    Milliseconds250,
+    Milliseconds500,
+    Seconds1,
+    Milliseconds2500,
+    Seconds5,
+    Seconds10,
+    /// It took longer than any other bound.
+    None,
+}
+
 /// What is counted.
 #[derive(Clone, Copy, Debug, PartialEq, Eq)]
 pub enum Count {
@@ -39,16 +57,64 @@ pub enum Count {
     Sent,
     /// Users that are connected.
     Users,
+    /// The milliseconds that exchanges took in all.
+    Milliseconds,
     /// Answers with a status of this class.
     Answers(Class),
     /// Messages of a point with this reply of their service.
     Messages(Point, Reply),
-    /// The proxy's own refusals for this reason.
-    Refusals(Why),
+    /// The proxy's own refusals of a point's message, for this reason.
+    Refusals(Point, Why),
+    /// Exchanges that ended in a point's message without a whole answer, and without a refusal, for this reason.
+    Failures(Point, Why),
+    /// Exchanges that took this long, and longer than the bound before.
+    Times(Bound),
 }
 
-/// How many numbers a loop has: five, one for each class, four for each point, and one for each reason.
-const COUNTS: usize = 5 + 6 + 2 * 4 + 20;
+/// How many numbers a loop has: six, one for each class, four for each point, one for each reason of each point, twice, and one for each
+/// bound.
+const COUNTS: usize = 6 + 6 + 2 * 4 + 2 * 2 * 20 + 12;
+
+impl Bound {
+    /// The least bound that so many milliseconds don't pass.
+    pub fn of(milliseconds: u64) -> Bound
+        ensures { result ≡ bound_of milliseconds }
+    {
+        match milliseconds {
+            0..=5 => Bound::Milliseconds5,
+            6..=10 => Bound::Milliseconds10,
+            11..=25 => Bound::Milliseconds25,
+            26..=50 => Bound::Milliseconds50,
+            51..=100 => Bound::Milliseconds100,
+            101..=250 => Bound::Milliseconds250,
+            251..=500 => Bound::Milliseconds500,
+            501..=1_000 => Bound::Seconds1,
+            1_001..=2_500 => Bound::Milliseconds2500,
+            2_501..=5_000 => Bound::Seconds5,
+            5_001..=10_000 => Bound::Seconds10,
+            _ => Bound::None,
+        }
+    }
+
+    fn number(self) -> usize
+        ensures { result ≡ bound_number self }
+    {
+        match self {
+            Bound::Milliseconds5 => 0,
+            Bound::Milliseconds10 => 1,
+            Bound::Milliseconds25 => 2,
+            Bound::Milliseconds50 => 3,
+            Bound::Milliseconds100 => 4,
+            Bound::Milliseconds250 => 5,
+            Bound::Milliseconds500 => 6,
+            Bound::Seconds1 => 7,
+            Bound::Milliseconds2500 => 8,
+            Bound::Seconds5 => 9,
+            Bound::Seconds10 => 10,
+            Bound::None => 11,
+        }
+    }
+}
 
 impl Class {
     /// The class of a status.
@@ -137,9 +203,12 @@ fn index(count: Count) -> usize
         Count::Read => 2,
         Count::Sent => 3,
         Count::Users => 4,
-        Count::Answers(class) => 5 + class.number(),
-        Count::Messages(point, reply) => 11 + 4 * point_number(point) + reply_number(reply),
-        Count::Refusals(why) => 19 + why_number(why),
+        Count::Milliseconds => 5,
+        Count::Answers(class) => 6 + class.number(),
+        Count::Messages(point, reply) => 12 + 4 * point_number(point) + reply_number(reply),
+        Count::Refusals(point, why) => 20 + 20 * point_number(point) + why_number(why),
+        Count::Failures(point, why) => 60 + 20 * point_number(point) + why_number(why),
+        Count::Times(bound) => 100 + bound.number(),
     }
 }
 
