@@ -2,7 +2,7 @@
 use Rattle.std.specs.Prelude.{◌≡◌, ℕ, ◌≤◌, ◌<◌, ◌⊎◌, Bool, true, false, List, Option, Some, None, slice_get}
 use Rattle.icapd_commands.specs.declared.seats.Doing.{Doing}
 use Rattle.icapd_commands.specs.declared.seats.Waiter.{Waiter}
-use Rattle.icapd_commands.specs.declared.seats.Doing.TheVariants.{Waiting, Ending}
+use Rattle.icapd_commands.specs.declared.seats.Doing.TheVariants.{Waiting, Lingering, Ending}
 
 -- the connection on this seat does this
 abbrev pub IsAt : List Doing → ℕ → Doing → Type 0
@@ -32,12 +32,26 @@ IsOneEnding seats = (key : ℕ) × IsAt seats key Ending
 abbrev pub NoneWaits : List Doing → Bool → Type 0
 NoneWaits seats first = (key since : ℕ) → WaitsAt seats first key since → ⊥
 
--- The connection is to end for another: no connection is ending, and it has waited longest for a request after others; or, if no
--- connection waits for such a one and that is asked for too, longest for its first one. So it isn't within a request.
+-- no connection has had its last answer
+abbrev pub NoneLingers : List Doing → Type 0
+NoneLingers seats = (key : ℕ) → IsAt seats key Lingering → ⊥
+
+-- it has waited longest for a request after others; or, if no connection waits for such a one and that is asked for too, longest
+-- for its first one
+abbrev pub IsWaiterToEnd : List Doing → Bool → ℕ → Type 0
+IsWaiterToEnd seats first_too key =
+    IsLongest seats false key ⊎ (NoneWaits seats false × (first_too ≡ true) × IsLongest seats true key)
+
+-- no connection that waits may be ended
+abbrev pub NoWaiterIsToEnd : List Doing → Bool → Type 0
+NoWaiterIsToEnd seats first_too = NoneWaits seats false × ((first_too ≡ false) ⊎ NoneWaits seats true)
+
+-- The connection is to end for another: no connection is ending, and it has had its last answer; or, if none has, it is the waiter
+-- to end. So it isn't within a request.
 pub record IsToEnd (seats : List Doing) (first_too : Bool) (key : ℕ) : Type 0 where
   pub alone : IsOneEnding seats → ⊥
-  pub longest : IsLongest seats false key ⊎ (NoneWaits seats false × (first_too ≡ true) × IsLongest seats true key)
+  pub first : IsAt seats key Lingering ⊎ (NoneLingers seats × IsWaiterToEnd seats first_too key)
 
 -- no connection is
 abbrev pub NoneIsToEnd : List Doing → Bool → Type 0
-NoneIsToEnd seats first_too = IsOneEnding seats ⊎ (NoneWaits seats false × ((first_too ≡ false) ⊎ NoneWaits seats true))
+NoneIsToEnd seats first_too = IsOneEnding seats ⊎ (NoneLingers seats × NoWaiterIsToEnd seats first_too)

@@ -5,6 +5,7 @@
 mod command;
 mod config;
 mod error;
+mod patience;
 mod places;
 mod seats;
 mod sockets;

@@ -46,10 +46,10 @@ impl Open {
 #[derive(Drop)]
 pub struct Shared {
     pub settings: Settings,
-    /// Seconds after which a connection is closed that says nothing.
+    /// Seconds after which a connection is closed that says nothing, or whose request's heads or last answer take longer.
     pub deadline: u64,
     open: Mutex<Open>,
-    /// A connection has ended, or waits for a request, or has begun one.
+    /// A connection has ended, or waits for a request, or has begun one, or has its last answer.
     changed: Condvar,
     /// A connection was given to a waiting thread.
     came: Condvar,
@@ -84,9 +84,9 @@ impl Shared {
         Ok(Arc::new(alloc, shared)?)
     }
 
-    /// Waits for a free seat, and gives it to a connection that waits for its first request. If all seats are taken, the
-    /// connection that has waited longest for a further request loses its own; if no connection waits so, that which has waited
-    /// longest for its first one, unless something changes within a while.
+    /// Waits for a free seat, and gives it to a connection that waits for its first request. If all seats are taken, a
+    /// connection that has its last answer loses its own; if none has, that which has waited longest for a further request;
+    /// if no connection waits so, that which has waited longest for its first one, unless something changes within a while.
     pub fn seat<R: Wait + Clock>(&self, rt: &R, stream: Arc<TcpStream, Global>) -> usize {
         let mut open = self.open.lock(rt);
         let mut first_too = false;
@@ -155,6 +155,13 @@ impl Shared {
     pub fn ask<R: Wait>(&self, rt: &R, key: usize) {
         let mut open = self.open.lock(rt);
         open.seats.ask(key);
+        self.tell(open);
+    }
+
+    /// It has its last answer.
+    pub fn linger<R: Wait>(&self, rt: &R, key: usize) {
+        let mut open = self.open.lock(rt);
+        open.seats.linger(key);
         self.tell(open);
     }
 

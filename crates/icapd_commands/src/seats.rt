@@ -1,7 +1,6 @@
-//! The connections that are served at once, each on a seat: which seat is free, and whose connection has waited longest for
-//! a request.
+//! The connections that are served at once, each on a seat: which seat is free, and whose connection may go for another.
 ghost use Rattle.std.specs.Prelude.{◌≡◌, ◌↔◌, ◌≤◌, ℕ, replicate, slice_set, IsTrue, IfOk, IfSome, IfNone};
-ghost use Rattle.icapd_commands.specs.Seats.{IsAt, IsLonger, IsLongest, IsToEnd, NoneIsToEnd, WaitsAt};
+ghost use Rattle.icapd_commands.specs.Seats.{IsAt, IsLonger, IsLongest, IsToEnd, IsWaiterToEnd, NoneIsToEnd, NoneLingers, NoWaiterIsToEnd, WaitsAt};
 
 use std::alloc::{AllocError, Global};
 
@@ -14,6 +13,8 @@ pub enum Doing {
     Waiting { since: u64, first: bool },
     /// It is within a request.
     Asking,
+    /// It has its last answer, and what its client still sends is dropped.
+    Lingering,
     /// It was asked to end, to make room for another.
     Ending,
 }
@@ -39,7 +40,7 @@ fn waits_since(doing: Doing, first: bool) -> Option<u64>
 {
     match doing {
         Doing::Waiting { since, first: of } => { if of == first { Some(since) } else { None } }
-        Doing::Nothing | Doing::Asking | Doing::Ending => None,
+        Doing::Nothing | Doing::Asking | Doing::Lingering | Doing::Ending => None,
     }
 }
 
@@ -93,6 +94,19 @@ impl Seats {
         false
     }
 
+    /// The first seat whose connection has its last answer.
+    pub fn lingering(&self) -> Option<usize>
+        ensures found { IfSome result (λ key. IsAt self.now.all.items key Doing.Lingering) }
+        ensures none { IfNone result (NoneLingers self.now.all.items) }
+    {
+        for (key, doing) in self.all.iter().enumerate() {
+            if matches!(doing, Doing::Lingering) {
+                return Some(key);
+            }
+        }
+        None
+    }
+
     /// The seat of the connection that has waited longest for a request: for its first one, or for one after others.
     pub fn longest(&self, first: bool) -> Option<usize>
         ensures found { IfSome result (IsLongest self.now.all.items first) }
@@ -120,8 +134,9 @@ impl Seats {
         }
     }
 
-    /// The seat whose connection is to end for another: that which has waited longest for a request after others, or else,
-    /// if that is asked for too, for its first one. `None` if a connection is ending already, or no connection waits.
+    /// The seat whose connection is to end for another: one that has its last answer; or else that which has waited longest
+    /// for a request after others; or else, if that is asked for too, for its first one. `None` if a connection is ending
+    /// already, or all are within requests.
     pub fn to_end(&self, first_too: bool) -> Option<usize>
         ensures found { IfSome result (IsToEnd self.now.all.items first_too) }
         ensures none { IfNone result (NoneIsToEnd self.now.all.items first_too) }
@@ -129,6 +144,18 @@ impl Seats {
         if self.is_one_ending() {
             return None;
         }
+        match self.lingering() {
+            Some(key) => Some(key),
+            None => self.waiter_to_end(first_too),
+        }
+    }
+
+    /// The connection that has waited longest for a request after others, or else, if that is asked for too, for its first
+    /// one.
+    fn waiter_to_end(&self, first_too: bool) -> Option<usize>
+        ensures found { IfSome result (IsWaiterToEnd self.now.all.items first_too) }
+        ensures none { IfNone result (NoWaiterIsToEnd self.now.all.items first_too) }
+    {
         match self.longest(false) {
             Some(key) => Some(key),
             None => { if first_too { self.longest(true) } else { None } }
@@ -155,6 +182,13 @@ impl Seats {
         ensures { self.new.all.items ≡ slice_set self.old.all.items key Doing.Asking }
     {
         self.note(key, Doing::Asking);
+    }
+
+    /// It has its last answer.
+    pub fn linger(&mut self, key: usize)
+        ensures { self.new.all.items ≡ slice_set self.old.all.items key Doing.Lingering }
+    {
+        self.note(key, Doing::Lingering);
     }
 
     /// It is asked to end.

@@ -1,14 +1,15 @@
 //! `icapd serve`: connections over sockets, each in a thread that serves one after another, and no more at once than are
 //! configured.
+use crate::patience::{Patience, wait_at_most};
 use crate::places::{Seated, Shared};
 use icap_server::ServerSide;
 use std::alloc::Global;
 use std::io::{Read, Write};
 use std::net::{Shutdown, TcpListener, TcpStream};
 use std::sync::{Arc, Wait};
-use std::thread;
 use std::thread::Threads;
-use std::time::{Clock, Duration};
+use std::time::{Clock, Duration, Instant};
+use std::{io, thread};
 
 /// How long the server waits after a connection that couldn't be accepted, in milliseconds.
 const PAUSE: u64 = 20;
@@ -24,6 +25,16 @@ const LAST_READS: u32 = 256;
 
 /// How many bytes each of these reads drops at most.
 const LAST_READ_BYTES: usize = 4096;
+
+/// What a connection does after a piece of its input.
+enum Next {
+    /// It reads on.
+    Read,
+    /// It has its last answer, which still has to reach the client.
+    Linger,
+    /// It ends.
+    End,
+}
 
 /// Accepts connections for ever.
 pub fn serve_sockets<R: Threads + Wait + Clock + Copy + Send + 'static>(
@@ -80,7 +91,7 @@ fn start<R: Threads + Wait + Clock + Copy + Send + 'static>(
 }
 
 /// A thread: serves a connection, and those that it is given after it.
-fn serve_all<R: Wait>(rt: &R, alloc: Global, shared: &Shared, first: Seated) {
+fn serve_all<R: Wait + Clock>(rt: &R, alloc: Global, shared: &Shared, first: Seated) {
     let mut seated = first;
     for _ in rt.forever() {
         let Seated { key, stream } = seated;
@@ -92,14 +103,20 @@ fn serve_all<R: Wait>(rt: &R, alloc: Global, shared: &Shared, first: Seated) {
 }
 
 /// Serves a connection, whatever its end: it ends alone.
-fn serve_stream<R: Wait>(rt: &R, alloc: Global, shared: &Shared, key: usize, stream: &TcpStream) {
+fn serve_stream<R: Wait + Clock>(
+    rt: &R,
+    alloc: Global,
+    shared: &Shared,
+    key: usize,
+    stream: &TcpStream,
+) {
     // Small answers aren't held back for more of them.
     let _ = stream.set_nodelay(true);
-    let deadline = Some(Duration::from_secs(shared.deadline));
-    if stream.set_read_timeout(deadline).is_err() || stream.set_write_timeout(deadline).is_err() {
-        return;
-    }
-    let Ok(settings) = shared.settings.try_clone(alloc) else {
+    let deadline = Duration::from_secs(shared.deadline);
+    let (Ok(mut patience), Ok(settings)) = (
+        Patience::new(stream, deadline),
+        shared.settings.try_clone(alloc),
+    ) else {
         return;
     };
     let mut side = ServerSide::new(alloc, settings);
@@ -111,49 +128,64 @@ fn serve_stream<R: Wait>(rt: &R, alloc: Global, shared: &Shared, key: usize, str
             shared.wait(rt, key);
         }
         let count = match reader.read(&mut buffer) {
-            Ok(0) | Err(_) => break,
+            Err(_) => return,
+            Ok(0) => break,
             Ok(count) => count,
         };
         if waits {
             shared.ask(rt, key);
         }
-        if !answer(alloc, &mut side, &buffer[..count], stream) {
-            break;
+        match answer(rt, alloc, &mut side, &buffer[..count], &mut patience) {
+            Next::Read => {}
+            Next::Linger => {
+                shared.linger(rt, key);
+                break;
+            }
+            Next::End => return,
         }
     }
-    linger(stream);
+    let _ = linger(rt, stream, deadline);
 }
 
-/// Takes a piece of a connection's input, and writes what is due. False if nothing more is to be read.
-fn answer(alloc: Global, side: &mut ServerSide, piece: &[u8], stream: &TcpStream) -> bool {
+/// Takes a piece of a connection's input, and writes what is due.
+fn answer<R: Clock>(
+    rt: &R,
+    alloc: Global,
+    side: &mut ServerSide,
+    piece: &[u8],
+    patience: &mut Patience<'_>,
+) -> Next {
     let Ok(text) = side.feed(alloc, piece) else {
-        return false;
+        return Next::End;
     };
-    let mut writer = stream;
+    let mut writer = patience.stream;
     if !text.is_empty() && writer.write_all(&text).is_err() {
-        return false;
+        return Next::End;
     }
-    !side.is_closed()
+    if side.is_closed() {
+        return Next::Linger;
+    }
+    let waits = if side.is_within_heads() {
+        // If an answer was due, these are the heads of a later request.
+        patience.within_heads(rt, !text.is_empty())
+    } else {
+        patience.past_heads()
+    };
+    if waits.is_ok() { Next::Read } else { Next::End }
 }
 
 /// Says that nothing more is written, and drops what the client still sends, for a while: a connection that is closed with
-/// bytes unread is reset, and its last answer may be lost.
-fn linger(stream: &TcpStream) {
-    if stream.shutdown(Shutdown::Write).is_err() {
-        return;
-    }
-    if stream
-        .set_read_timeout(Some(Duration::from_secs(LINGER)))
-        .is_err()
-    {
-        return;
-    }
+/// bytes unread is reset, and its last answer may be lost. It takes as long as `all` at most.
+fn linger<R: Clock>(rt: &R, stream: &TcpStream, all: Duration) -> io::Result<()> {
+    stream.shutdown(Shutdown::Write)?;
+    let since = Instant::now(rt)?;
     let mut reader = stream;
     let mut buffer = [0u8; LAST_READ_BYTES];
     for _ in 0..LAST_READS {
-        match reader.read(&mut buffer) {
-            Ok(0) | Err(_) => return,
-            Ok(_) => {}
+        wait_at_most(rt, stream, since, all, Duration::from_secs(LINGER))?;
+        if reader.read(&mut buffer)? == 0 {
+            return Ok(());
         }
     }
+    Ok(())
 }
