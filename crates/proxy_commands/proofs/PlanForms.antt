@@ -8,7 +8,7 @@ use Rattle.trace_core.specs.declared.history.Plan.{Plan}
 use Rattle.trace_core.specs.declared.history.Point.TheVariants.{Respmod}
 use Rattle.trace_core.specs.Legal.{IsPlanned}
 use Rattle.proxy_commands.specs.Script.{SaysKind, allow_text, SaysLength, SaysParts, SaysPlan}
-use Rattle.proxy_commands.specs.Reading.{decimal_of, behind, up_to_space, from_space, preview_of, sized_of, kind_or, kind_of, known_length, length_behind, length_of, allow_or, allow_of, with_length, with_options, with_kind, with_plan, parts_of}
+use Rattle.proxy_commands.specs.Reading.{decimal_of, behind, up_to_space, from_space, preview_of, sized_of, kind_or, kind_of, known_length, length_behind, length_of, allow_or, with_length, with_options, with_kind, with_plan, parts_of}
 use Rattle.proxy_commands.proofs.Decimals.{decimal_of-number, number-decimal_of}
 use Rattle.proxy_commands.proofs.LineForms.{behind-is}
 

@@ -12,3 +12,5 @@ pub mod Serve
 pub mod Task
 pub mod Descriptors
 pub mod Endings
+pub mod Telling
+pub mod Memory

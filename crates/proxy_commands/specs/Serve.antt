@@ -1,5 +1,5 @@
 -- What `serve` reads.
-use Rattle.std.specs.Prelude.{◌≡◌, ℕ, ◌≤◌, ◌<◌, List, [], ◌∷◌, ◌++◌, length, Some, codes, ⊤}
+use Rattle.std.specs.Prelude.{◌≡◌, ℕ, ◌≤◌, ◌<◌, List, length, Some, ⊤}
 use Rattle.toml.specs.Data.{Members}
 use Rattle.toml.specs.Parse.{parse_document}
 use Rattle.proxy_config.specs.Config.{IsConfig, Refuses}
@@ -9,7 +9,7 @@ use Rattle.proxy_config.specs.declared.fault.ConfigFault.TheVariants.{Text as No
 use Rattle.adapt_bytes.specs.declared.limits.TheConstants.{MAX_INPUT}
 use Rattle.proxy_commands.specs.declared.error.Error.TheVariants.{InputTooLong, NoMemory, ReadFailed}
 use Rattle.proxy_commands.specs.declared.serve_error.ServeError.{ServeError}
-use Rattle.proxy_commands.specs.declared.serve_error.ServeError.TheVariants.{Ended, Config, Key, CannotListen, AuditMissing}
+use Rattle.proxy_commands.specs.declared.serve_error.ServeError.TheVariants.{Ended, Config, Key, CannotListen, CannotListenOn, NoAnswer, AuditMissing}
 
 -- the error that a refused configuration ends the program with
 abbrev pub IsRefusedAs : ConfigFault → ServeError → Type 0
@@ -33,4 +33,6 @@ IsUnconfigured text (Ended other) = ⊥
 IsUnconfigured text Config = (length text ≤ MAX_INPUT) × Refuses text NoDocument
 IsUnconfigured text (Key key) = (length text ≤ MAX_INPUT) × Refuses text (AtKey key)
 IsUnconfigured text CannotListen = ⊥
+IsUnconfigured text (CannotListenOn address) = ⊥
+IsUnconfigured text NoAnswer = ⊥
 IsUnconfigured text AuditMissing = ⊥

@@ -1,7 +1,7 @@
 -- What `serve` says if it ends though nobody stopped it, or if its audit is missing, and its exit status.
 use Rattle.std.specs.Prelude.{ℕ, List, ◌++◌, codes, string_bytes}
 use Rattle.proxy_commands.specs.declared.serve_error.ServeError.{ServeError}
-use Rattle.proxy_commands.specs.declared.serve_error.ServeError.TheVariants.{Ended, Config, Key, CannotListen, AuditMissing}
+use Rattle.proxy_commands.specs.declared.serve_error.ServeError.TheVariants.{Ended, Config, Key, CannotListen, CannotListenOn, NoAnswer, AuditMissing}
 use Rattle.proxy_commands.specs.Errors.{error_text, status_of}
 
 -- the line on standard error
@@ -10,6 +10,8 @@ serve_error_text (Ended error) = error_text error
 serve_error_text Config = codes "adaptproxy: config\n"
 serve_error_text (Key key) = (codes "adaptproxy: config " ++ string_bytes key) ++ codes "\n"
 serve_error_text CannotListen = codes "adaptproxy: cannot listen\n"
+serve_error_text (CannotListenOn address) = (codes "adaptproxy: cannot listen: " ++ string_bytes address) ++ codes "\n"
+serve_error_text NoAnswer = codes "adaptproxy: no answer\n"
 serve_error_text AuditMissing = codes "adaptproxy: audit missing\n"
 
 -- 1 where the system failed, 2 where the configuration is at fault
@@ -18,4 +20,6 @@ serve_status_of (Ended error) = status_of error
 serve_status_of Config = 2
 serve_status_of (Key key) = 2
 serve_status_of CannotListen = 1
+serve_status_of (CannotListenOn address) = 1
+serve_status_of NoAnswer = 1
 serve_status_of AuditMissing = 1

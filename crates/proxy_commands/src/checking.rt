@@ -1,49 +1,189 @@
-//! `adaptproxy check`: says whether a text is a configuration, and binds nothing.
+//! `adaptproxy check`: says whether a text is a configuration, and why not, and binds nothing.
 
 use crate::descriptors::{descriptors, limit_in};
-use crate::serve::{read_configuration, say};
-use crate::serve_error::ServeError;
+use crate::keys::value_of_key;
+use crate::memory::{is_given, memory, memory_in};
+use crate::run::read_input;
+use crate::serve::{configuration_of, say};
+use crate::serve_error::{ServeError, put_error};
+use proxy_config::Config;
 use std::alloc::Global;
 use std::fs;
-use std::io::{Read, Write};
+use std::io::{self, Read, Write};
+use std::net::Ipv4Addr;
 use std::rt::Files;
 
 /// The file in which the system gives the limits of this process.
 const LIMITS: &str = "/proc/self/limits";
 
-/// Reads the configuration, and says that it is one. Warns if it may need more descriptors than the system gives, as far
-/// as `limits` say it.
+/// The file in which the system says how much memory the machine has.
+const MEMORY: &str = "/proc/meminfo";
+
+/// What the system says of this process and of the machine; empty where it doesn't.
+#[derive(Clone, Copy)]
+pub struct Machine<'a> {
+    /// The text of `/proc/self/limits`.
+    pub limits: &'a [u8],
+    /// The text of `/proc/meminfo`.
+    pub memory: &'a [u8],
+}
+
+/// Whether a byte may stand in a host's name (RFC 3986, section 3.2.2). An asterisk may, but matches nothing else here.
+fn is_of_name(byte: u8) -> bool {
+    byte.is_ascii_alphanumeric() || b"-._~%!$&'()+,;=".contains(&byte)
+}
+
+/// Whether a request may name such a host: a name, or an IPv6 address in brackets. An IPv4 address is never looked up.
+fn may_be_asked(name: &[u8]) -> bool {
+    if name.starts_with(b"[") {
+        return name.ends_with(b"]");
+    }
+    !name.is_empty()
+        && name.iter().all(|byte| is_of_name(*byte))
+        && Ipv4Addr::parse_ascii(name).is_err()
+}
+
+/// Warns of each host that no request names.
+fn warn_of_hosts<E: Write>(alloc: Global, text: &[u8], errors: &mut E) -> io::Result<()> {
+    let Ok(document) = toml::table_from_slice(alloc, text) else {
+        return Ok(());
+    };
+    let Some(hosts) = document.get("hosts") else {
+        return Ok(());
+    };
+    let Some(hosts) = hosts.as_table() else {
+        return Ok(());
+    };
+    for name in hosts.keys() {
+        if !may_be_asked(name.as_bytes()) {
+            let name = name.as_str();
+            writeln!(errors, "adaptproxy: hosts: no request is for {name:?}")?;
+        }
+    }
+    Ok(())
+}
+
+/// Warns where the configuration may need more than the machine gives, as far as that is known.
+fn warn_of_needs<E: Write>(
+    config: &Config,
+    machine: Machine<'_>,
+    errors: &mut E,
+) -> io::Result<()> {
+    let needed = descriptors(config);
+    if let Some(limit) = limit_in(machine.limits)
+        && limit < needed
+    {
+        writeln!(
+            errors,
+            "adaptproxy: {needed} descriptors may be needed, and the limit is {limit}"
+        )?;
+    }
+    let needed = memory(config);
+    if let Some(total) = memory_in(machine.memory)
+        && total < needed
+    {
+        writeln!(
+            errors,
+            "adaptproxy: {needed} bytes are needed for capacity and rows, and the machine has {total}"
+        )?;
+    }
+    Ok(())
+}
+
+/// Says what is at fault: where a text is no document, and what the value of a key may be.
+fn explain<E: Write>(
+    alloc: Global,
+    error: &ServeError,
+    text: &[u8],
+    errors: &mut E,
+) -> io::Result<()> {
+    put_error(error, errors)?;
+    match error {
+        ServeError::Config => match toml::table_from_slice(alloc, text) {
+            Ok(_) => Ok(()),
+            Err(fault) => write!(errors, "adaptproxy: {fault}"),
+        },
+        ServeError::Key(key) => {
+            let key = key.as_str();
+            let value = value_of_key(key);
+            writeln!(errors, "adaptproxy: {key}: {value}")
+        }
+        _ => Ok(()),
+    }
+}
+
+/// Judges a text, says that it is a configuration, and warns of what may be meant otherwise.
+fn judge<O: Write, E: Write>(
+    alloc: Global,
+    text: &[u8],
+    output: &mut O,
+    errors: &mut E,
+    machine: Machine<'_>,
+) -> Result<(), ServeError> {
+    let config = configuration_of(alloc, text)?;
+    // A warning that can't be written changes nothing.
+    let _ = warn_of_needs(&config, machine, errors);
+    let _ = warn_of_hosts(alloc, text, errors);
+    say(output, b"ok\n")
+}
+
+/// Reads a configuration, and says that it is one; or why not, beginning with the line with which `serve` would end. Answers the
+/// exit status, which is that of `serve`. Warns if the configuration may need more descriptors or memory than there are, as far
+/// as the system says how many, and of hosts that no request names.
 pub fn check_with<I: Read + Drop, O: Write, E: Write>(
     alloc: Global,
     reader: I,
     output: &mut O,
     errors: &mut E,
-    limits: &[u8],
-) -> Result<(), ServeError> {
-    let config = read_configuration(alloc, reader)?;
-    let needed = descriptors(&config);
-    if let Some(limit) = limit_in(limits)
-        && limit < needed
-    {
-        // A warning that can't be written changes nothing.
-        let _ = writeln!(
-            errors,
-            "adaptproxy: {needed} descriptors may be needed, and the limit is {limit}"
-        );
+    machine: Machine<'_>,
+) -> u8 {
+    let text = match read_input(alloc, reader) {
+        Ok(text) => text,
+        Err(error) => {
+            let _ = put_error(&ServeError::Ended(error), errors);
+            return error.status();
+        }
+    };
+    match judge(alloc, &text, output, errors, machine) {
+        Ok(()) => 0,
+        Err(error) => {
+            // If standard error can't be written, nothing is left to report it to.
+            let _ = explain(alloc, &error, &text, errors);
+            error.status()
+        }
     }
-    say(output, b"ok\n")
 }
 
-/// Checks a configuration against the limits of this process.
+/// What a file of the system says; nothing where it can't be read.
+fn text_of<R: Files + AllocGlobal>(rt: &R, path: &str) -> Vec<u8> {
+    match fs::read(rt, path) {
+        Ok(text) => text,
+        Err(_) => Vec::new(rt.alloc()),
+    }
+}
+
+/// Checks a configuration against this machine.
 pub fn check_from<I: Read + Drop, O: Write, E: Write, R: Files + AllocGlobal>(
     rt: &R,
     reader: I,
     output: &mut O,
     errors: &mut E,
-) -> Result<(), ServeError> {
-    let alloc = rt.alloc();
-    match fs::read(rt, LIMITS) {
-        Ok(limits) => check_with(alloc, reader, output, errors, limits.as_slice()),
-        Err(_) => check_with(alloc, reader, output, errors, b""),
+) -> u8 {
+    let (limits, memory) = (text_of(rt, LIMITS), text_of(rt, MEMORY));
+    let machine = Machine {
+        limits: &limits,
+        memory: &memory,
+    };
+    check_with(rt.alloc(), reader, output, errors, machine)
+}
+
+/// Whether the machine has the memory for a configuration's pages, as far as it says how much it has, and gives it now.
+pub fn has_room<R: Files + AllocGlobal>(rt: &R, config: &Config) -> bool {
+    let needed = memory(config);
+    if let Some(total) = memory_in(&text_of(rt, MEMORY))
+        && total < needed
+    {
+        return false;
     }
+    is_given(rt.alloc(), needed)
 }

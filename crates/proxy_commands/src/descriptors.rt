@@ -40,8 +40,13 @@ pub fn descriptors(config: &Config) -> u64
 
 /// The number of descriptors that a process may have, by `/proc/self/limits`; `None` if that gives no number.
 pub fn limit_in(text: &[u8]) -> Option<u64> {
+    number_after(text, OPEN_FILES)
+}
+
+/// The number that the first word is, of the first line that begins so, after its beginning.
+pub(crate) fn number_after(text: &[u8], front: &[u8]) -> Option<u64> {
     for line in text.split(|byte| *byte == b'\n') {
-        if let Some(rest) = line.strip_prefix(OPEN_FILES) {
+        if let Some(rest) = line.strip_prefix(front) {
             return first_number(rest);
         }
     }

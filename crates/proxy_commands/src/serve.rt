@@ -23,7 +23,7 @@ fn refused_as(fault: ConfigFault) -> ServeError
 }
 
 /// The configuration that a text says.
-fn configuration_of(alloc: Global, text: &[u8]) -> Result<Config, ServeError>
+pub(crate) fn configuration_of(alloc: Global, text: &[u8]) -> Result<Config, ServeError>
     ensures ok { IfOk result (IsConfigured text.now) }
     ensures err { IfErr result (IsUnconfigured text.now) }
 {

@@ -7,7 +7,7 @@ ghost use Rattle.proxy_commands.specs.ServeErrors.{serve_error_text, serve_statu
 use crate::error::Error;
 use std::io::{self, Write};
 
-/// Why `serve` ends though nobody stopped it, or without its audit: its line on standard error, and its exit status.
+/// Why `serve` ends though nobody stopped it, or without its audit, and why `check` and `tell` fail: its line on standard error, and its exit status.
 #[derive(Debug, Drop)]
 pub enum ServeError {
     /// What any command may end with.
@@ -16,8 +16,12 @@ pub enum ServeError {
     Config,
     /// This key of the configuration is missing, unknown, of another kind or out of its range.
     Key(String),
-    /// An address can't be listened on, or the system fails a loop that listens.
+    /// The system gives no poll, or fails a loop that listens.
     CannotListen,
+    /// This address, an IPv4 address and its port as text, can't be listened on.
+    CannotListenOn(String),
+    /// The administrator's port doesn't answer.
+    NoAnswer,
     /// A reservation or a lease was out that nobody gave back.
     AuditMissing,
 }
@@ -30,7 +34,10 @@ impl ServeError {
         match self {
             ServeError::Ended(error) => error.status(),
             ServeError::Config | ServeError::Key(_) => 2,
-            ServeError::CannotListen | ServeError::AuditMissing => 1,
+            ServeError::CannotListen
+            | ServeError::CannotListenOn(_)
+            | ServeError::NoAnswer
+            | ServeError::AuditMissing => 1,
         }
     }
 }
@@ -48,6 +55,12 @@ pub fn put_error<W: Write>(error: &ServeError, errors: &mut W) -> io::Result<()>
             errors.write_all(b"\n")
         }
         ServeError::CannotListen => errors.write_all(b"adaptproxy: cannot listen\n"),
+        ServeError::CannotListenOn(address) => {
+            errors.write_all(b"adaptproxy: cannot listen: ")?;
+            errors.write_all(address.as_bytes())?;
+            errors.write_all(b"\n")
+        }
+        ServeError::NoAnswer => errors.write_all(b"adaptproxy: no answer\n"),
         ServeError::AuditMissing => errors.write_all(b"adaptproxy: audit missing\n"),
     }
 }

@@ -2,7 +2,7 @@
 
 ghost use Rattle.std.specs.Prelude.{◌≡◌, map, string_bytes, IfSome, IfNone};
 ghost use Rattle.proxy_commands.specs.declared.task.Task.{Task as AnyTask};
-ghost use Rattle.proxy_commands.specs.Task.{word_of, IsTask};
+ghost use Rattle.proxy_commands.specs.Task.{IsTask, IsTaskAlone};
 
 /// What the program is asked to do with a configuration, or to say of itself.
 #[derive(Clone, Copy, Debug, PartialEq, Eq)]
@@ -11,6 +11,8 @@ pub enum Task {
     Serve,
     /// `check`: reads a configuration as `serve` does, and says whether it is one.
     Check,
+    /// `tell WORD..`: says a line to the administrator's port that a configuration names, and prints the answer.
+    Tell,
     /// `--help`: prints the commands.
     Help,
     /// `--version`: prints the version, and the kit.
@@ -24,14 +26,21 @@ pub fn read_task(args: &[String]) -> Option<Task>
 {
     match args {
         [word] => task_of(word.as_str()),
-        _ => None,
+        [word, _, ..] => {
+            if word.as_str() == "tell" {
+                Some(Task::Tell)
+            } else {
+                None
+            }
+        }
+        [] => None,
     }
 }
 
-/// The task of a word.
+/// The task of a word that stands alone.
 fn task_of(word: &str) -> Option<Task>
-    ensures found { IfSome result (λ task. word.now ≡ word_of task) }
-    ensures none { IfNone result ((task : AnyTask) → word.now ≡ word_of task → ⊥) }
+    ensures found { IfSome result (IsTaskAlone word.now) }
+    ensures none { IfNone result ((task : AnyTask) → IsTaskAlone word.now task → ⊥) }
 {
     if word == "serve" {
         Some(Task::Serve)

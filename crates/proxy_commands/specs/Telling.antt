@@ -1,0 +1,21 @@
+-- What is said to the administrator's port, and what its answer means.
+use Rattle.std.specs.Prelude.{ℕ, List, ◌++◌, Bool, if◌then◌else◌, String, codes, nat_eq, string_bytes, bytes_eq}
+use Rattle.std.specs.List.{starts_with, ends_with, join_by}
+use Rattle.std.specs.declared.alloc.Global.{Global}
+
+-- the line that words say: a space between each two, and LF at the end
+abbrev pub line_of_words : List (String Global) → List ℕ
+line_of_words words = join_by string_bytes (codes " ") words ++ codes "\n"
+
+-- the answer has come to its end: a text of counters, which begins with `#`, with `# EOF`, any other one with its line
+abbrev pub is_whole : List ℕ → Bool
+is_whole answer = if starts_with nat_eq answer (codes "#") then ends_with nat_eq answer (codes "\n# EOF\n") else ends_with nat_eq answer (codes "\n")
+
+-- the status that an answer gives: 2 where the line is none that the port takes, 1 where nothing was done, else 0
+abbrev pub told_status : List ℕ → ℕ
+told_status answer =
+    if bytes_eq answer (codes "bad\n") then 2
+    else if starts_with nat_eq answer (codes "refused ") then 1
+    else if bytes_eq answer (codes "out of memory\n") then 1
+    else if bytes_eq answer (codes "cannot open\n") then 1
+    else 0

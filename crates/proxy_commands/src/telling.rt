@@ -1,0 +1,99 @@
+//! `adaptproxy tell`: a line for the administrator's port, and what its answer means.
+
+ghost use Rattle.std.specs.Prelude.{◌≡◌, IfOk};
+ghost use Rattle.proxy_commands.specs.Telling.{is_whole, line_of_words, told_status};
+
+use crate::error::Error;
+use crate::run::write_out;
+use crate::serve_error::ServeError;
+use std::alloc::{AllocError as NoMemory, Global};
+use std::io::{Read, Write};
+
+/// The most bytes that are read at once of an answer.
+const PIECE: usize = 4_096;
+
+/// The most pieces that an answer is read in.
+const MAX_PIECES: u64 = 65_536;
+
+/// The line that words say: a space between each two, and LF at the end.
+pub fn line_of_words(alloc: Global, words: &[String]) -> Result<Vec<u8>, NoMemory>
+    ensures { IfOk result (λ line. line.items ≡ line_of_words words.now) }
+{
+    let mut line = words.join(alloc, " ")?;
+    line.push_str("\n")?;
+    Ok(line.into_bytes())
+}
+
+/// Whether an answer has come to its end. The text of the counters has many lines, of which the last is `# EOF`.
+fn is_whole(answer: &[u8]) -> bool
+    ensures { result ≡ is_whole answer.now }
+{
+    if answer.starts_with(b"#") {
+        answer.ends_with(b"\n# EOF\n")
+    } else {
+        answer.ends_with(b"\n")
+    }
+}
+
+/// The exit status that an answer gives: 2 where the line is none that the port takes, 1 where nothing was done, else 0.
+fn told_status(answer: &[u8]) -> u8
+    ensures { result ≡ told_status answer.now }
+{
+    if answer == b"bad\n".as_slice() {
+        2
+    } else if answer.starts_with(b"refused ")
+        || answer == b"out of memory\n".as_slice()
+        || answer == b"cannot open\n".as_slice()
+    {
+        1
+    } else {
+        0
+    }
+}
+
+/// Reads an answer to its end, or to that of the connection.
+fn read_answer<S: Read>(alloc: Global, connection: &mut S) -> Result<Vec<u8>, ServeError> {
+    let mut answer = Vec::new(alloc);
+    let mut piece = [0; PIECE];
+    for _ in 0..MAX_PIECES {
+        let Ok(count) = connection.read(&mut piece) else {
+            return Err(ServeError::NoAnswer);
+        };
+        if count == 0 {
+            return Ok(answer);
+        }
+        if answer.extend_from_slice(&piece[..count]).is_err() {
+            return Err(ServeError::Ended(Error::NoMemory));
+        }
+        if is_whole(&answer) {
+            return Ok(answer);
+        }
+    }
+    Err(ServeError::NoAnswer)
+}
+
+/// Says a line over a connection, prints the answer, and answers the exit status that it gives.
+///
+/// `stop` has no answer: it was heard once the connection ends. `NoAnswer` where another line has none, or not the whole of
+/// one.
+pub fn ask<S: Read + Write, O: Write>(
+    alloc: Global,
+    connection: &mut S,
+    line: &[u8],
+    output: &mut O,
+) -> Result<u8, ServeError> {
+    if connection.write_all(line).is_err() || connection.flush().is_err() {
+        return Err(ServeError::NoAnswer);
+    }
+    let answer = read_answer(alloc, connection)?;
+    if answer.is_empty() && line == b"stop\n".as_slice() {
+        return Ok(0);
+    }
+    if !is_whole(&answer) {
+        return Err(ServeError::NoAnswer);
+    }
+    match write_out(output, &answer) {
+        Ok(()) => Ok(told_status(&answer)),
+        Err(error) => Err(ServeError::Ended(error)),
+    }
+}
