@@ -1,6 +1,7 @@
-//! The administrator's connections.
+//! The administrator's connections, and those that read the counters.
 
-use loop_parts::{Accepted, AdminInput, Asker, Listening, MAX_ASKERS, Request};
+use crate::work::Told;
+use loop_parts::{Accepted, AdminInput, Asker, Listening, MAX_ASKERS, Request, Speech};
 use mio::net::TcpStream;
 use mio::{Registry, Token};
 use slab::Slab;
@@ -8,9 +9,7 @@ use socket_wire::{Readiness, SocketWire};
 use std::alloc::{AllocError, Global};
 use std::mem;
 use std::sync::Arc;
-
-/// Lines heard of one connection before others get their turn.
-pub(crate) const LINES: u32 = 64;
+use std::time::Duration;
 
 /// The administrator, as the peer of a connection.
 struct Administrator;
@@ -32,6 +31,9 @@ impl Seat {
         if !self.asker.flush() {
             return AdminInput::Over;
         }
+        if let Some(wire) = self.asker.said_all() {
+            let _ = wire.finish();
+        }
         match self.asker.hear() {
             Ok(heard) => {
                 if heard != AdminInput::Waiting {
@@ -44,9 +46,14 @@ impl Seat {
     }
 }
 
-/// The administrator's connections, each under its key, which is below `MAX_ASKERS`.
+/// The connections to one port, each under its key, which is below `MAX_ASKERS`.
 #[derive(Drop)]
 pub(crate) struct Askers {
+    /// Where they come from, if there is such a port, and what is spoken there.
+    listening: Option<Listening>,
+    speech: Speech,
+    /// The number that the key 0 has among the tokens.
+    first: usize,
     seats: Slab<Seat>,
     /// How often one of them was heard, or came.
     turns: u64,
@@ -60,8 +67,17 @@ fn token_of(key: usize) -> Token {
 }
 
 impl Askers {
-    pub(crate) fn new(alloc: Global) -> Askers {
+    /// None has come yet. The tokens of their keys begin with that of the number `first`.
+    pub(crate) fn new(
+        alloc: Global,
+        listening: Option<Listening>,
+        speech: Speech,
+        first: usize,
+    ) -> Askers {
         Askers {
+            listening,
+            speech,
+            first,
             seats: Slab::new(alloc),
             turns: 0,
             behind: false,
@@ -98,16 +114,43 @@ impl Askers {
         }
     }
 
+    /// How long a loop may wait at most before it asks for connections that no event reports.
+    pub(crate) fn patience(&self) -> Option<Duration> {
+        match &self.listening {
+            Some(listening) => listening.patience(),
+            None => None,
+        }
+    }
+
+    /// The next connection that waits.
+    fn next(&mut self) -> Accepted {
+        match &mut self.listening {
+            Some(listening) => listening.accept(),
+            None => Accepted::None,
+        }
+    }
+
     /// Takes in the connections that wait. Where all seats are taken, each takes that of the most silent one.
-    pub(crate) fn accept(&mut self, alloc: Global, listening: &mut Listening, registry: &Registry) {
+    pub(crate) fn accept(&mut self, alloc: Global, registry: &Registry) {
         for _ in 0..MAX_ASKERS {
-            match listening.accept() {
+            match self.next() {
                 Accepted::One(stream) => self.take_in(alloc, stream, registry),
                 Accepted::Gone => {}
                 Accepted::None | Accepted::Rest => return,
             }
         }
-        listening.fall_behind();
+        if let Some(listening) = &mut self.listening {
+            listening.fall_behind();
+        }
+    }
+
+    /// Takes in connections that no event reports.
+    pub(crate) fn accept_more(&mut self, alloc: Global, registry: &Registry) {
+        if let Some(listening) = &self.listening
+            && listening.may_have_more()
+        {
+            self.accept(alloc, registry);
+        }
     }
 
     /// Takes in a connection. One for which no memory is found is closed.
@@ -134,11 +177,13 @@ impl Askers {
         let key = self.seats.vacant_key();
         if key >= MAX_ASKERS
             || wire.hurry().is_err()
-            || wire.register(registry, token_of(key)).is_err()
+            || wire
+                .register(registry, token_of(self.first.saturating_add(key)))
+                .is_err()
         {
             return Err(AllocError);
         }
-        let asker = Asker::new(alloc, wire);
+        let asker = Asker::new(alloc, wire, self.speech);
         let _ = self.seats.insert_reserved(Seat {
             ready,
             asker,
@@ -147,20 +192,28 @@ impl Askers {
         Ok(())
     }
 
-    /// Takes note of an event of a connection.
-    pub(crate) fn note(&mut self, key: usize, readable: bool, writable: bool, closed: bool) {
+    /// Takes note of an event of a connection: it may have said more than was heard.
+    pub(crate) fn note(&mut self, key: usize, told: Told) {
         if let Some(seat) = self.seats.get_mut(key) {
-            let _ = seat.ready.note(readable, writable, closed);
+            let _ = seat.ready.note(told.readable, told.writable, told.closed);
+            self.behind = true;
         }
     }
 
-    /// What a connection asks for next. A connection that is over loses its seat; so does one whose line is too long or of
-    /// HTTP, which is answered as bad.
+    /// What a connection asks for next. One that asked for something may have said more, which no event reports. A connection that is
+    /// over loses its seat; so does one whose line is too long or of HTTP, which is answered as bad.
     pub(crate) fn hear(&mut self, key: usize) -> Option<Request> {
         let turn = self.next_turn();
         let heard = self.seats.get_mut(key)?.hear(turn);
         match heard {
-            AdminInput::Asked(request) => Some(request),
+            AdminInput::Asked(request) => {
+                self.behind = true;
+                Some(request)
+            }
+            AdminInput::Refused => {
+                self.behind = true;
+                None
+            }
             AdminInput::Waiting => None,
             AdminInput::TooLong | AdminInput::Http => {
                 self.say(key, b"bad\n");
@@ -172,11 +225,6 @@ impl Askers {
                 None
             }
         }
-    }
-
-    /// Takes note that a connection may have said more than was heard: no event reports that.
-    pub(crate) fn fall_behind(&mut self) {
-        self.behind = true;
     }
 
     /// Whether a connection may have said more than was heard.

@@ -1,4 +1,4 @@
-//! What other threads hand to an event loop: users' connections, that room is wanted, and the words to drain and to stop.
+//! What other threads hand to an event loop: users' connections, that room is wanted, and the words to refresh, to drain and to stop.
 
 use loop_parts::UserPermit;
 use mio::Waker;
@@ -14,6 +14,16 @@ pub struct Handed {
     pub stream: TcpStream,
     pub number: u64,
     pub permit: UserPermit,
+    /// How many loops take users, and how many of them have no seat for this one.
+    pub loops: usize,
+    pub tried: usize,
+}
+
+impl Handed {
+    /// Whether a loop that wasn't asked yet may have a seat for it, beside the one that has it now.
+    pub fn may_go_on(&self) -> bool {
+        self.tried.saturating_add(1) < self.loops
+    }
 }
 
 /// What was handed in and not yet taken, what the loop is to do, whether it has begun, and what ends its wait.
@@ -23,6 +33,7 @@ pub struct Inbox {
     drains: AtomicBool,
     stops: AtomicBool,
     crowded: AtomicBool,
+    refreshes: AtomicBool,
     begun: AtomicBool,
     waker: Waker,
 }
@@ -35,6 +46,7 @@ impl Inbox {
             drains: AtomicBool::new(false),
             stops: AtomicBool::new(false),
             crowded: AtomicBool::new(false),
+            refreshes: AtomicBool::new(false),
             begun: AtomicBool::new(false),
             waker,
         }
@@ -89,15 +101,24 @@ impl Inbox {
         self.stops.load(Ordering::SeqCst)
     }
 
-    /// Asks the loop to make room for one user, and wakes it.
+    /// Asks the loop to make room for one user, at its next turn.
     pub fn crowd(&self) {
         self.crowded.store(true, Ordering::SeqCst);
-        self.wake();
     }
 
     /// Whether the loop was asked to make room. It is asked no more.
     pub fn take_crowded(&self) -> bool {
         self.crowded.swap(false, Ordering::SeqCst)
+    }
+
+    /// Asks for the services to be asked for their options again, before the next message is planned.
+    pub fn refresh(&self) {
+        self.refreshes.store(true, Ordering::SeqCst);
+    }
+
+    /// Whether the services are to be asked again. That is answered once.
+    pub fn take_refresh(&self) -> bool {
+        self.refreshes.load(Ordering::SeqCst) && self.refreshes.swap(false, Ordering::SeqCst)
     }
 
     /// Whether the loop has begun.

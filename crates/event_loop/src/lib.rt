@@ -5,6 +5,7 @@
 #![tactic(auto)]
 
 mod askers;
+mod binding;
 mod ended;
 mod inbox;
 mod looping;
@@ -12,11 +13,12 @@ mod ports;
 mod threads;
 mod work;
 
+pub use binding::listen_beside;
 pub use ended::{Ended, LoopFault};
 pub use inbox::{Handed, Inbox, stop_all};
 pub use loop_parts::{
-    AdminInput, Asker, Closing, IdlePermit, Request, Room, Slots, USER, UserPermit, close_turn,
-    read_request,
+    AdminInput, Asker, Closing, IdlePermit, Request, Room, Slots, Spared, Speech, Stay, USER,
+    UserPermit, close_turn, is_young, read_request, spared_of, youth_of,
 };
-pub use threads::{Base, Entrance, add_loop, name_thread, run_loop};
-pub use work::{Driven, Told, Work};
+pub use threads::{AdminPorts, Base, Entrance, add_loop, name_thread, run_loop};
+pub use work::{Admitted, Driven, Told, Work};

@@ -6,13 +6,14 @@ mod draining;
 mod driving;
 mod farewell;
 mod hearing;
+mod turning;
 
 use crate::askers::Askers;
 use crate::ended::LoopFault;
 use crate::inbox::{Handed, Inbox, begin, have_begun, stop_all};
 use crate::ports::Ports;
 use crate::work::{Told, Work};
-use loop_parts::{Listening, ReadyList};
+use loop_parts::ReadyList;
 use mio::{Events, Poll, Token};
 use socket_wire::{Dial, peer_of};
 use std::alloc::Global;
@@ -26,6 +27,8 @@ pub(crate) const LISTENER: Token = Token(usize::MAX);
 pub(crate) const WAKER: Token = Token(usize::MAX - 4);
 
 pub(crate) const ADMIN: Token = Token(usize::MAX - 8);
+
+pub(crate) const METRICS: Token = Token(usize::MAX - 12);
 
 /// The largest number of events that a poll reports at once.
 const EVENTS: usize = 256;
@@ -50,8 +53,9 @@ pub struct EventLoop<K> {
     events: Events,
     seen: Vec<Event>,
     ports: Option<Ports>,
-    admin: Option<Listening>,
-    askers: Askers,
+    /// The administrator's connections, and those that read the counters.
+    admin: Askers,
+    metrics: Askers,
     ready: ReadyList,
     start: Instant,
     /// The time since the start, in milliseconds.
@@ -72,7 +76,8 @@ impl<K: Work> EventLoop<K> {
         alloc: Global,
         poll: Poll,
         ports: Option<Ports>,
-        admin: Option<Listening>,
+        admin: Askers,
+        metrics: Askers,
         start: Instant,
         work: K,
     ) -> Result<EventLoop<K>, K> {
@@ -91,7 +96,7 @@ impl<K: Work> EventLoop<K> {
             seen,
             ports,
             admin,
-            askers: Askers::new(alloc),
+            metrics,
             ready,
             start,
             elapsed: 0,
@@ -110,7 +115,7 @@ impl<K: Work> EventLoop<K> {
             seen: _,
             ports: _,
             admin: _,
-            askers: _,
+            metrics: _,
             ready: _,
             start: _,
             elapsed: _,
@@ -144,9 +149,9 @@ impl<K: Work> EventLoop<K> {
         {
             return Some(patience);
         }
-        match &self.admin {
-            Some(admin) => admin.patience(),
-            None => None,
+        match self.admin.patience() {
+            Some(patience) => Some(patience),
+            None => self.metrics.patience(),
         }
     }
 
@@ -167,7 +172,7 @@ impl<K: Work> EventLoop<K> {
 
     /// How long the next wait may be: the deadlines of exchanges are whole seconds of the loop's clock.
     fn patience_of_exchanges(&self) -> Option<Duration> {
-        if !self.ready.is_empty() || self.askers.are_behind() {
+        if !self.ready.is_empty() || self.admin.are_behind() || self.metrics.are_behind() {
             return Some(Duration::from_millis(0));
         }
         if let Some(patience) = self.patience_of_ports() {
@@ -248,42 +253,6 @@ impl<K: Work> EventLoop<K> {
         Err(io::Error::from(ErrorKind::TimedOut))
     }
 
-    /// Serves all events. Users are taken in last: until then no key is another user's than the one that an event
-    /// is about.
-    fn turn<R: Wait + Dial + Clock>(
-        &mut self,
-        rt: &R,
-        alloc: Global,
-        number: usize,
-        inboxes: &[Inbox],
-    ) -> io::Result<()>
-        requires { number < length inboxes.now }
-    {
-        self.drive_ready(rt)?;
-        self.hear_on(rt, inboxes);
-        self.look();
-        let woken = self.serve_seen(rt, alloc, number, inboxes)?;
-        if woken && inboxes[number].take_crowded() && self.make_room(rt) {
-            inboxes[0].wake();
-        }
-        if woken {
-            self.drive_first(rt)?;
-        }
-        self.ask_ports(rt, alloc, number, inboxes);
-        if woken || self.laid {
-            self.laid = false;
-            self.take_in(rt, inboxes[number].take_all(rt, alloc))?;
-        }
-        self.work.turn_over(rt);
-        Ok(())
-    }
-
-    /// Has its work make room for another user. False where there is none to be made.
-    fn make_room<R: Wait + Dial + Clock>(&mut self, rt: &R) -> bool {
-        let millis = self.elapsed;
-        self.work.make_room(rt, self.poll.registry(), millis)
-    }
-
     /// Notes the events down, as plain words.
     fn look(&mut self) {
         self.seen.clear();
@@ -300,98 +269,5 @@ impl<K: Work> EventLoop<K> {
                 });
             }
         }
-    }
-
-    /// Serves the events that were noted down, and says whether one of them was that the loop was woken.
-    fn serve_seen<R: Wait + Dial + Clock>(
-        &mut self,
-        rt: &R,
-        alloc: Global,
-        number: usize,
-        inboxes: &[Inbox],
-    ) -> io::Result<bool> {
-        let mut woken = false;
-        for at in 0..self.seen.len() {
-            let Some(event) = self.seen.get(at) else {
-                break;
-            };
-            let event = *event;
-            if event.token == WAKER.0 {
-                woken = true;
-            } else {
-                self.serve(rt, alloc, number, inboxes, event)?;
-            }
-        }
-        Ok(woken)
-    }
-
-    /// Serves one event.
-    fn serve<R: Wait + Dial + Clock>(
-        &mut self,
-        rt: &R,
-        alloc: Global,
-        number: usize,
-        inboxes: &[Inbox],
-        event: Event,
-    ) -> io::Result<()> {
-        if event.token == LISTENER.0 {
-            self.accept(rt, number, inboxes);
-            return Ok(());
-        }
-        if event.token == ADMIN.0 {
-            self.accept_askers(alloc);
-            return Ok(());
-        }
-        match peer_of(event.token) {
-            Some((key, peer)) => {
-                if self.work.note(key, peer, event.told) {
-                    self.drive(rt, key)
-                } else {
-                    Ok(())
-                }
-            }
-            None => {
-                let key = event.token / 4;
-                let told = event.told;
-                self.askers
-                    .note(key, told.readable, told.writable, told.closed);
-                self.hear(rt, inboxes, key);
-                Ok(())
-            }
-        }
-    }
-
-    /// Accepts users.
-    fn accept<R: Wait>(&mut self, rt: &R, number: usize, inboxes: &[Inbox]) {
-        if let Some(ports) = &mut self.ports
-            && ports.accept(rt, number, inboxes)
-        {
-            self.laid = true;
-        }
-    }
-
-    /// Asks the ports for connections that no event reports.
-    fn ask_ports<R: Wait>(&mut self, rt: &R, alloc: Global, number: usize, inboxes: &[Inbox]) {
-        if let Some(admin) = &self.admin
-            && admin.may_have_more()
-        {
-            self.accept_askers(alloc);
-        }
-        if let Some(ports) = &self.ports
-            && ports.has_users()
-        {
-            self.accept(rt, number, inboxes);
-        }
-    }
-
-    /// Takes in the users that were handed to this loop.
-    fn take_in<R: Wait + Dial + Clock>(&mut self, rt: &R, users: Vec<Handed>) -> io::Result<()> {
-        for user in users {
-            let millis = self.elapsed;
-            if let Some(key) = self.work.admit(rt, self.poll.registry(), user, millis) {
-                self.drive(rt, key)?;
-            }
-        }
-        Ok(())
     }
 }

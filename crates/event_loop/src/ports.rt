@@ -1,4 +1,5 @@
-//! The users' port, of the one loop that serves it: users that connect are handed out in rotation.
+//! The users' port, of the one loop that serves it: users that connect are handed out in rotation. A loop that has no seat for one passes
+//! it on to the next.
 
 ghost use Rattle.std.specs.Prelude.{◌≡◌, ◌<◌, ◌%◌, ◌↔◌, true};
 
@@ -55,6 +56,16 @@ fn is_turn_of(own: usize, number: u64, loops: usize) -> bool
     ensures { result ≡ true ↔ (0 < loops) × (own ≡ number % loops) }
 {
     loops > 0 && loop_of(number, loops) == own
+}
+
+/// Passes a user on to the loop after this one, which has no seat for it. One for whom no memory is found is closed.
+pub(crate) fn pass_on<R: Wait>(rt: &R, own: usize, inboxes: &[Inbox], user: Handed) {
+    let mut user = user;
+    user.tried = user.tried.saturating_add(1);
+    let next = (own as u64).saturating_add(1);
+    if let Some(inbox) = inbox_of(next, user.loops, inboxes) {
+        let _ = inbox.hand(rt, user);
+    }
 }
 
 /// What came of a user that has connected.
@@ -141,14 +152,23 @@ impl Ports {
         came
     }
 
+    /// Asks the loop whose turn it is to make room, and wakes it. The one that serves the port isn't woken: it is asked at its next turn,
+    /// after a pause, so that it doesn't ask itself again and again.
+    fn ask_for_room(&mut self, own: usize, inboxes: &[Inbox]) {
+        self.asked = self.asked.wrapping_add(1);
+        if let Some(inbox) = inbox_of(self.asked, self.loops, inboxes) {
+            inbox.crowd();
+            if !is_turn_of(own, self.asked, self.loops) {
+                inbox.wake();
+            }
+        }
+    }
+
     /// Hands a user to the loop whose turn it is. If there is no room for it, it waits, and a loop is asked to make some.
     fn hand<R: Wait>(&mut self, rt: &R, own: usize, inboxes: &[Inbox], stream: TcpStream) -> Turn {
         let Some(permit) = Room::enter(&self.room) else {
             self.waiting = Some(stream);
-            self.asked = self.asked.wrapping_add(1);
-            if let Some(inbox) = inbox_of(self.asked, self.loops, inboxes) {
-                inbox.crowd();
-            }
+            self.ask_for_room(own, inboxes);
             return Turn::Waits;
         };
         self.accepted = self.accepted.saturating_add(1);
@@ -157,6 +177,8 @@ impl Ports {
             stream,
             number,
             permit,
+            loops: self.loops,
+            tried: 0,
         };
         let Some(inbox) = inbox_of(number, self.loops, inboxes) else {
             return Turn::Other;

@@ -1,13 +1,14 @@
 //! What a loop is made on, and its run in a thread.
 
+use crate::askers::Askers;
 use crate::ended::{Ended, LoopFault};
 use crate::inbox::{Inbox, stop_all};
-use crate::looping::{ADMIN, EventLoop, LISTENER, WAKER};
+use crate::looping::{ADMIN, EventLoop, LISTENER, METRICS, WAKER};
 use crate::ports::Ports;
 use crate::work::Work;
-use loop_parts::{Listening, Room};
+use loop_parts::{Listening, MAX_ASKERS, Room, Speech};
 use mio::net::TcpListener;
-use mio::{Poll, Waker};
+use mio::{Poll, Token, Waker};
 use os::set_thread_name;
 use socket_wire::Dial;
 use std::alloc::Global;
@@ -22,7 +23,8 @@ use std::time::{Clock, Instant};
 /// let mut inboxes = Vec::new(alloc);
 /// let room = Arc::new(alloc, Room::new(100, 16))?;
 /// let users = Entrance { listener, room, loops: 1 };
-/// let base = add_loop(rt, alloc, Some(users), Some(admin), &mut inboxes)?;
+/// let ports = AdminPorts { admin, metrics: None };
+/// let base = add_loop(rt, alloc, Some(users), Some(ports), &mut inboxes)?;
 /// // It runs until the administrator says `stop`, or another thread does by `inboxes[0].stop()`.
 /// let Ended { work, fault } = run_loop(rt, alloc, 0, base, work, &inboxes);
 /// assert_eq!(rt; fault, None);
@@ -32,6 +34,7 @@ pub struct Base {
     poll: Poll,
     ports: Option<Ports>,
     admin: Option<Listening>,
+    metrics: Option<Listening>,
 }
 
 /// Where users connect, for how many there is room, and how many loops take them: the first ones.
@@ -42,12 +45,31 @@ pub struct Entrance {
     pub loops: usize,
 }
 
+/// Where the administrator connects, and, if that is wanted, those who read the counters over HTTP.
+#[derive(Drop)]
+pub struct AdminPorts {
+    pub admin: TcpListener,
+    pub metrics: Option<TcpListener>,
+}
+
+/// What a poll reports of a listener under this token, if there is one.
+fn listening_on(
+    listener: Option<TcpListener>,
+    poll: &Poll,
+    token: Token,
+) -> io::Result<Option<Listening>> {
+    match listener {
+        Some(listener) => Ok(Some(Listening::new(listener, poll.registry(), token)?)),
+        None => Ok(None),
+    }
+}
+
 /// Makes a poll, and its inbox as the last one. Its loop serves the users' port, the administrator's, both or neither.
 pub fn add_loop<R: Net>(
     rt: &R,
     alloc: Global,
     users: Option<Entrance>,
-    admin: Option<TcpListener>,
+    admin: Option<AdminPorts>,
     inboxes: &mut Vec<Inbox>,
 ) -> io::Result<Base> {
     let poll = Poll::new(rt)?;
@@ -65,12 +87,19 @@ pub fn add_loop<R: Net>(
         )),
         None => None,
     };
-    let admin = match admin {
-        Some(listener) => Some(Listening::new(listener, poll.registry(), ADMIN)?),
-        None => None,
+    let (admin, metrics) = match admin {
+        Some(AdminPorts { admin, metrics }) => (Some(admin), metrics),
+        None => (None, None),
     };
+    let admin = listening_on(admin, &poll, ADMIN)?;
+    let metrics = listening_on(metrics, &poll, METRICS)?;
     inboxes.push(Inbox::new(alloc, Waker::new(poll.registry(), WAKER)?))?;
-    Ok(Base { poll, ports, admin })
+    Ok(Base {
+        poll,
+        ports,
+        admin,
+        metrics,
+    })
 }
 
 /// Names the thread of a loop that takes users, as `top -H` and `perf` show it.
@@ -104,8 +133,15 @@ pub fn run_loop<K: Work, R: Wait + Dial + Clock>(
             fault: Some(LoopFault::System),
         };
     };
-    let Base { poll, ports, admin } = base;
-    match EventLoop::new(alloc, poll, ports, admin, start, work) {
+    let Base {
+        poll,
+        ports,
+        admin,
+        metrics,
+    } = base;
+    let admin = Askers::new(alloc, admin, Speech::Lines, 0);
+    let metrics = Askers::new(alloc, metrics, Speech::Http, MAX_ASKERS);
+    match EventLoop::new(alloc, poll, ports, admin, metrics, start, work) {
         Ok(one) if number < inboxes.len() => {
             let mut one = one;
             let fault = one.run_out(rt, alloc, number, inboxes);

@@ -32,18 +32,28 @@ pub enum Driven {
     Over,
 }
 
+/// What became of a user that was handed in.
+pub enum Admitted {
+    /// It has a seat: its exchange is driven under this key.
+    Seated(usize),
+    /// There is no seat for it, and no other user that can be spared: the next loop may have one.
+    Full(Handed),
+    /// It was closed.
+    Closed,
+}
+
 /// What one thread drives: exchanges, each found by its key. Moments are seconds of the machine's clock, or milliseconds of it where
 /// their name says so.
 pub trait Work {
     /// Takes a user's connection in, with its number in the order of acceptance and its permit, which it has until it is
-    /// over, and answers the key to be driven. `None` if there is no seat for it, and it was closed.
+    /// over, and answers the key to be driven. It comes back where another loop may have a seat for it, and this one has none.
     fn admit<R: Wait + Dial + Clock>(
         &mut self,
         rt: &R,
         registry: &Registry,
         user: Handed,
         millis: u64,
-    ) -> Option<usize>;
+    ) -> Admitted;
 
     /// Closes idle connections, or that of the user that can best be spared, so that another one has room. False if there is no
     /// such connection.
@@ -79,7 +89,7 @@ pub trait Work {
     /// Whether there is no exchange.
     fn is_idle(&self) -> bool;
 
-    /// The answer to a line of the admin port. `Err` if no memory was found for it. `now` is the
+    /// The answer to a line of the admin port, or to a request for the counters. `Err` if no memory was found for it. `now` is the
     /// number of seconds since the loop's start.
     fn answer<R: Wait>(
         &mut self,

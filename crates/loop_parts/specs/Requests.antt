@@ -1,11 +1,13 @@
--- What the lines of the admin port ask for.
-use Rattle.std.specs.Prelude.{◌≡◌, ◌≢◌, ℕ, ◌≤◌, ◌<◌, ◌⊎◌, ◌||◌, ◌==◌, Bool, List, ◌++◌, length, slice_index, take, codes, IsTrue}
+-- What the lines of the admin port ask for, and requests for the counters over HTTP.
+use Rattle.std.specs.Prelude.{◌≡◌, ◌≢◌, ℕ, ◌≤◌, ◌<◌, ◌⊎◌, ◌||◌, ◌==◌, Bool, List, Some, ◌++◌, length, slice_get, slice_index, take, codes, IsTrue}
 use Rattle.std.specs.Char.{is_ascii_uppercase}
 use Rattle.std.specs.Str.{str_eq_ignore_ascii_case}
 use Rattle.span_bank.specs.declared.limits.TheConstants.{MAX_CAPACITY}
 use Rattle.adapt_bytes.specs.Numeral.{Writes}
 use Rattle.loop_parts.specs.declared.admin_lines.Request.{Request}
-use Rattle.loop_parts.specs.declared.admin_lines.Request.TheVariants.{Book, Capacity, Drain, Stats, Reopen, Stop, Bad}
+use Rattle.loop_parts.specs.declared.admin_lines.Request.TheVariants.{Book, Capacity, Drain, Stats, Reopen, Refresh, Stop, Bad}
+use Rattle.loop_parts.specs.declared.scrape.Scrape.{Scrape}
+use Rattle.loop_parts.specs.declared.scrape.Scrape.TheVariants as scrapes
 
 -- the digits spell a size of the buffer budget
 abbrev pub SpellsSize : List ℕ → ℕ → Type 0
@@ -21,9 +23,10 @@ Asks line Book = line ≡ codes "book"
 Asks line Drain = line ≡ codes "drain"
 Asks line Stats = line ≡ codes "stats"
 Asks line Reopen = line ≡ codes "reopen"
+Asks line Refresh = line ≡ codes "refresh"
 Asks line Stop = line ≡ codes "stop"
 Asks line (Capacity n) = AsksForSize line n
-Asks line Bad = (line ≢ codes "book") × (line ≢ codes "drain") × (line ≢ codes "stats") × (line ≢ codes "reopen") × (line ≢ codes "stop") × ((n : ℕ) → AsksForSize line n → ⊥)
+Asks line Bad = (line ≢ codes "book") × (line ≢ codes "drain") × (line ≢ codes "stats") × (line ≢ codes "reopen") × (line ≢ codes "refresh") × (line ≢ codes "stop") × ((n : ℕ) → AsksForSize line n → ⊥)
 
 -- a byte of a method as all registered ones are written: a capital letter or a hyphen (RFC 9110, section 9.1)
 abbrev pub is_method_byte : ℕ → Bool
@@ -40,3 +43,18 @@ pub record BeginsWithMethod (line : List ℕ) : Type 0 where
 -- the line is one of HTTP: a request line, or the field Host
 abbrev pub IsHttp : List ℕ → Type 0
 IsHttp line = BeginsWithMethod line ⊎ IsTrue (str_eq_ignore_ascii_case (take 5 line) (codes "host:"))
+
+-- a query, or nothing: the first byte, if there is one, is a question mark
+abbrev pub IsQuery : List ℕ → Type 0
+IsQuery text = (b : ℕ) → slice_get text 0 ≡ Some b → b ≡ 63
+
+-- the target is that of the counters: /metrics, and then nothing or a query (RFC 9112, section 3.2.1)
+abbrev pub IsOfCounters : List ℕ → Type 0
+IsOfCounters target = (query : List ℕ) × (target ≡ codes "/metrics" ++ query) × IsQuery query
+
+-- a request of this method for this target gets this: the counters for GET alone
+abbrev pub Deserves : (method target : List ℕ) → Scrape → Type 0
+Deserves method target scrapes.Counters = IsOfCounters target × (method ≡ codes "GET")
+Deserves method target scrapes.NotAllowed = IsOfCounters target × (method ≢ codes "GET")
+Deserves method target scrapes.NotFound = IsOfCounters target → ⊥
+Deserves method target _ = ⊥

@@ -23,6 +23,8 @@ pub enum Request {
     Stats,
     /// `reopen`: the log's file is opened anew.
     Reopen,
+    /// `refresh`: the services are asked for their options again.
+    Refresh,
     /// `stop`: every transaction fails, and the program ends.
     Stop,
     /// Any other line.
@@ -55,6 +57,9 @@ pub fn read_request(line: &[u8]) -> Request
     }
     if line == b"reopen".as_slice() {
         return Request::Reopen;
+    }
+    if line == b"refresh".as_slice() {
+        return Request::Refresh;
     }
     if line == b"stop".as_slice() {
         return Request::Stop;

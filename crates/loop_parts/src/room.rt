@@ -9,9 +9,12 @@ use libc::{RLIMIT_NOFILE, getrlimit};
 use std::sync::Arc;
 use std::sync::atomic::{AtomicU64, Ordering};
 
-/// Descriptors that belong neither to a user nor to a service: the standard ones, the two ports, the log's file and the one
-/// that takes its place, a user that waits for room, and the administrators.
-const OWN: u64 = 8 + MAX_ASKERS as u64;
+/// Descriptors that belong neither to a user nor to a service: the standard ones, the users' port, the log's file and the one that takes
+/// its place, a user that waits for room, and one to spare.
+const OWN: u64 = 7;
+
+/// Descriptors of the administrator's port, and of that of the counters: its own, and its connections'.
+const ASKERS: u64 = 1 + MAX_ASKERS as u64;
 
 /// Descriptors of a loop: its poll and its waker.
 const LOOP: u64 = 2;
@@ -84,15 +87,17 @@ impl Room {
         }
     }
 
-    /// The room that the limit on open descriptors leaves beside these loops, of which so many are kept for idle connections. One
-    /// user has room at least.
-    pub fn of_system(loops: u64, idle: u64) -> Room {
+    /// The room that the limit on open descriptors leaves beside these loops, and ports like the administrator's, of which so many are
+    /// kept for idle connections. One user has room at least.
+    pub fn of_system(loops: u64, askers: u64, idle: u64) -> Room {
         let mut limit = rlimit {
             rlim_cur: u64::MAX,
             rlim_max: u64::MAX,
         };
         let _ = getrlimit(RLIMIT_NOFILE, &mut limit);
-        let others = OWN.saturating_add(LOOP.saturating_mul(loops));
+        let others = OWN
+            .saturating_add(LOOP.saturating_mul(loops))
+            .saturating_add(ASKERS.saturating_mul(askers));
         let all = limit.rlim_cur.saturating_sub(others);
         let most = most_users(all, idle);
         Room::new(most, all.saturating_sub(USER.saturating_mul(most)))

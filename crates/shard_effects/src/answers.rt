@@ -11,6 +11,8 @@ pub enum HeadTurn {
     Whole,
     /// Bytes of it came.
     More,
+    /// An interim response before it was dropped. It puts off no deadline, and bytes after it may have come with it.
+    Interim,
     /// Nothing came.
     Nothing,
     /// There is no head.
@@ -83,8 +85,8 @@ pub enum Started {
 /// What a turn of a message's transaction, or a round of turns, did.
 #[derive(Clone, Copy, Debug, PartialEq, Eq)]
 pub enum Round {
-    /// Something moved.
-    Moved,
+    /// Something moved. So many of the bytes that the wires gave and took are no body's: heads, and what frames bodies.
+    Moved { framing: u64 },
     /// Each wire waits.
     Waiting,
     /// The service's connection broke, and the request may begin anew.

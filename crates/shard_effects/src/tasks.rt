@@ -18,6 +18,10 @@ pub enum Task {
 pub enum Step {
     /// There may be more to do.
     On,
+    /// There may be more to do after a round of turns. So many of the bytes that moved are no body's.
+    Turned { framing: u64 },
+    /// There may be more to do, but nothing moved that puts off the deadline.
+    Unmoved,
     /// Each connection waits for an event.
     Waits,
     /// The user's connection is over, and nothing is held.

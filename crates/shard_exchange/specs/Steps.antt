@@ -6,12 +6,14 @@ use Rattle.exchange_core.specs.declared.due.Due.TheVariants.{Plan, Lend, Ask, Re
 use Rattle.exchange_core.specs.Dues.{due_of, is_wait}
 use Rattle.exchange_core.specs.Log.{Goes}
 use Rattle.shard_effects.specs.declared.tasks.Step.{Step}
-use Rattle.shard_effects.specs.declared.tasks.Step.TheVariants.{On, Waits, Over}
+use Rattle.shard_effects.specs.declared.tasks.Step.TheVariants.{On, Turned, Unmoved, Waits, Over}
 
--- who waits has a deadline, and it hasn't passed; and only the course says what is over
+-- who waits, or hasn't moved, has a deadline, and it hasn't passed; and only the course says what is over
 abbrev pub Heeds : (late : Bool) → Course → Step → Type 0
 Heeds late c Waits = (late ≡ false) × (is_wait (due_of c) ≡ true)
 Heeds late c On = ⊤
+Heeds late c (Turned framing) = ⊤
+Heeds late c Unmoved = late ≡ false
 Heeds late c Over = ⊥
 
 -- a message's transaction has what it is due for

@@ -75,7 +75,7 @@ impl<H: InHand> Exchange<H> {
         holdings
     }
 
-    /// The proxy drains: an answer that is begun from now on is the last one.
+    /// The proxy drains: an answer whose transaction starts from now on is the last one of its connection.
     pub fn drain(&mut self)
         ensures goes { Goes self.old.course self.new.course }
         ensures drains { (self.new.course.draining || is_stopped self.new.course) ≡ true }

@@ -25,7 +25,7 @@ impl<H: Holder> Exchange<H> {
     {
         match self.holdings.read_request() {
             Some(HeadTurn::Whole) => self.has_request(at, out),
-            Some(HeadTurn::More) => {
+            Some(HeadTurn::More | HeadTurn::Interim) => {
                 if self.holdings.has_begun() {
                     begin_head(&mut self.course);
                 }
@@ -77,7 +77,7 @@ impl<H: Holder> Exchange<H> {
         self.wait(at, out)
     }
 
-    /// Reads the head of the origin's response.
+    /// Reads the head of the origin's response. An interim response before it puts off no deadline.
     pub(crate) fn read_response<P>(&mut self, at: &P, out: &mut H::Outside) -> Step
     where
         H: Effects<P>,
@@ -92,6 +92,10 @@ impl<H: Holder> Exchange<H> {
                 Step::On
             }
             Some(HeadTurn::More) => Step::On,
+            Some(HeadTurn::Interim) if H::is_late(at, out) => {
+                self.refuse(at, out, Reason::Deadline)
+            }
+            Some(HeadTurn::Interim) => Step::Unmoved,
             Some(HeadTurn::Nothing) => self.wait_or_refuse(at, out),
             Some(HeadTurn::Fault(fault)) => {
                 let reason = origin_head_reason(fault, self.holdings.head_fault());

@@ -64,6 +64,10 @@ impl<H: Holder> Exchange<H> {
         match self.round(rt, at, out) {
             Round::Over => self.settle(rt, at, out, EndedBy::Itself),
             Round::Waiting if H::is_late(at, out) => self.settle(rt, at, out, EndedBy::Deadline),
+            Round::Moved { framing } => {
+                self.note_round();
+                return Step::Turned { framing };
+            }
             round => {
                 if !self.note_round() && round == Round::Waiting {
                     return Step::Waits;

@@ -10,7 +10,17 @@ use shard_effects::Round;
 use shard_outside::Outside;
 use span_bank::{Bank, Ledgers};
 use std::sync::Wait;
-use trace_core::Cause;
+use trace_core::{Cause, Seen};
+
+/// The bytes of bodies that the sides gave and took so far.
+fn body_bytes(seen: &Seen) -> u64 {
+    let came = seen.received.saturating_add(seen.adapted_received);
+    let offered = came.saturating_add(seen.sent);
+    let delivered = seen
+        .original_delivered
+        .saturating_add(seen.adapted_delivered);
+    offered.saturating_add(delivered)
+}
 
 /// A turn of one side.
 fn turn_side<B: Ledgers, W: Wires, R: Wait>(
@@ -20,15 +30,31 @@ fn turn_side<B: Ledgers, W: Wires, R: Wait>(
     side: Side,
     now: u64,
 ) -> Round {
+    let before = body_bytes(&tx.seen());
     let turned = tx.turn(rt, bank, side, now);
     if tx.outcome().is_some() {
         return Round::Over;
     }
     match turned {
-        TurnAnswer::Moved(_) => Round::Moved,
+        TurnAnswer::Moved(count) => {
+            let of_bodies = body_bytes(&tx.seen()).saturating_sub(before);
+            Round::Moved {
+                framing: count.saturating_sub(of_bodies),
+            }
+        }
         TurnAnswer::Waiting => Round::Waiting,
         TurnAnswer::Broken => Round::Broken,
         TurnAnswer::Finished(_) => Round::Over,
+    }
+}
+
+/// The round with a further turn in which so many bytes moved that are no body's.
+fn moved_too(round: Round, more: u64) -> Round {
+    match round {
+        Round::Moved { framing } => Round::Moved {
+            framing: framing.saturating_add(more),
+        },
+        _ => Round::Moved { framing: more },
     }
 }
 
@@ -43,7 +69,7 @@ fn turn_each<B: Ledgers, W: Wires, R: Wait>(
     for side in [Side::Source, Side::Service, Side::NextHop] {
         match turn_side(rt, bank, tx, side, now) {
             Round::Waiting => {}
-            Round::Moved => round = Round::Moved,
+            Round::Moved { framing } => round = moved_too(round, framing),
             ended => return ended,
         }
     }

@@ -2,6 +2,7 @@
 
 ghost use Rattle.std.specs.Prelude.{◌≡◌, is_some};
 
+use http_relay::HeadProgress;
 use http_side::HttpFault;
 use proxy_rules::Incoming;
 use shard_effects::HeadTurn;
@@ -12,9 +13,10 @@ use wire_kit::Wire;
 fn head_turn<W: Wire>(message: &mut Incoming, wire: &mut W) -> HeadTurn {
     let (before, _) = wire.counts();
     match message.head_turn(wire) {
-        Ok(true) => HeadTurn::Whole,
-        Ok(false) if wire.counts().0 != before => HeadTurn::More,
-        Ok(false) => HeadTurn::Nothing,
+        Ok(HeadProgress::Taken) => HeadTurn::Whole,
+        Ok(HeadProgress::Interim) => HeadTurn::Interim,
+        Ok(HeadProgress::More) if wire.counts().0 != before => HeadTurn::More,
+        Ok(HeadProgress::More) => HeadTurn::Nothing,
         Err(fault) => HeadTurn::Fault(fault),
     }
 }

@@ -53,7 +53,7 @@ pub fn hear_turn<W: Wire>(side: &mut OptionsSide, wire: &mut W) -> OptionsTurn {
     }
 }
 
-/// Keeps what the service of a point said of its options.
+/// Keeps what the service of a point said of its options, for as long as it says, or as is configured.
 pub fn keep<P, O: Outside<P>>(
     at: &P,
     out: &mut O,
@@ -61,10 +61,14 @@ pub fn keep<P, O: Outside<P>>(
     answer: &IcapResponse,
 ) -> Result<(), Reason> {
     match read_record(out.alloc(), answer, point, out.now(at)) {
-        Ok(record) => match out.keep(at, point, record) {
-            Ok(()) => Ok(()),
-            Err(_) => Err(Reason::NoMemory),
-        },
+        Ok(record) => {
+            let mut record = record;
+            record.set_default_ttl(out.config().options_ttl);
+            match out.keep(at, point, record) {
+                Ok(()) => Ok(()),
+                Err(_) => Err(Reason::NoMemory),
+            }
+        }
         Err(fault) => Err(record_reason(fault)),
     }
 }

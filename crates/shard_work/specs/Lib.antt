@@ -1,3 +1,4 @@
+pub mod Driving
 pub mod Seats
 pub mod Slots
-pub mod Sparing
+pub mod Terms

@@ -1,22 +1,27 @@
 //! How an exchange is driven: step by step, until others get their turn.
 
-ghost use Rattle.std.specs.Prelude.{◌≡◌, true};
+ghost use Rattle.std.specs.Prelude.{◌≡◌, ◌+◌, ◌<◌, ◌↔◌, true, false};
+ghost use Rattle.shard_work.specs.Driving.{weight};
 
 use crate::exchanges::{Exchanges, Slotted};
 use crate::seating::Seating;
 use crate::seats::Seats;
-use crate::sparing::Stay;
 use crate::spot::Spot;
-use event_loop::Driven;
+use event_loop::{Driven, Stay};
 use exchange_core::Phase;
 use shard_exchange::{Step, Task};
 use socket_wire::Dial;
 use std::sync::Wait;
 use std::time::Clock;
+use trace_core::Point;
 use wire_kit::Gate;
 
-/// The most steps of an exchange at its connections before others get their turn. Each is one round of a transaction's turns at most.
-const ROUNDS: u32 = 8;
+/// The most that an exchange does at its connections before others get their turn, in steps that move bodies. Each is one round of a
+/// transaction's turns at most.
+const ROUNDS: u64 = 8;
+
+/// This many bytes that moved and are no body's, as heads and what frames a body, take as long as a step that moves a body.
+const FRAMING: u64 = 256;
 
 /// The most steps of an exchange before others get their turn, with those that are made without its connections.
 const STEPS: u32 = 64;
@@ -36,6 +41,11 @@ fn is_ending(phase: Phase) -> bool {
     matches!(phase, Phase::Refusing { .. } | Phase::Closing | Phase::Gone)
 }
 
+/// Whether a step went on, and something moved that puts off the deadline.
+fn has_moved(step: Step) -> bool {
+    matches!(step, Step::On | Step::Turned { .. })
+}
+
 /// Whether a step here is one at a connection: a message is read, moves, or waits.
 fn is_round(phase: Phase) -> bool {
     !matches!(
@@ -44,13 +54,39 @@ fn is_round(phase: Phase) -> bool {
     )
 }
 
-/// What was noted of an exchange's seat while it is driven.
+/// What was noted of an exchange while it is driven.
 #[derive(Clone, Copy)]
 struct Noted {
     /// What its user's connection is in the midst of.
     stay: Option<Stay>,
     /// Whether the exchange went on: its seat was touched at this moment.
     went_on: bool,
+    /// What was done at its connections, in steps that move bodies.
+    rounds: u64,
+}
+
+impl Noted {
+    ghost use Rattle.shard_work.specs.Driving.{weight};
+
+    /// Whether others should get their turn before the next step at a connection.
+    fn is_spent(&self) -> bool
+        ensures { result ≡ false ↔ self.now.rounds < ROUNDS }
+    {
+        self.rounds >= ROUNDS
+    }
+
+    /// Counts a step at a connection.
+    fn count(&mut self, step: Step)
+        requires { self.old.rounds < ROUNDS }
+        ensures counted { self.new.rounds ≡ self.old.rounds + weight step }
+        ensures kept { (self.new.stay ≡ self.old.stay) × (self.new.went_on ≡ self.old.went_on) }
+    {
+        let framed = match step {
+            Step::Turned { framing } => framing / FRAMING,
+            _ => 0,
+        };
+        self.rounds += 1 + framed;
+    }
 }
 
 /// Takes note of where a step led. Where no message is under way any more, it is reported: no request was read, or its answer is over.
@@ -59,7 +95,9 @@ fn note_stay<S: Seating, R: Wait + Clock, G>(
     at: &Spot<'_, R, G>,
     phase: Phase,
     noted: &mut Noted,
-) {
+)
+    ensures { noted.new.rounds ≡ noted.old.rounds }
+{
     let stay = stay_of(phase);
     if noted.stay != Some(stay) {
         noted.stay = Some(stay);
@@ -70,7 +108,14 @@ fn note_stay<S: Seating, R: Wait + Clock, G>(
     }
 }
 
-/// A step of an exchange in this phase. Its seat is touched where it went on; but what the proxy itself says at the end is written, and
+/// Takes note of the connections that an exchange in this phase awaits.
+fn watch<R, G>(seats: &mut Seats, at: &Spot<'_, R, G>, phase: Phase) {
+    let moves = matches!(phase, Phase::Moving { .. });
+    let asks = matches!(phase, Phase::Asking { .. });
+    seats.await_connections(at.key, at.now, moves, moves || asks);
+}
+
+/// A step of an exchange in this phase. Its seat is touched where it went on, and something moved; but what the proxy itself says at the end is written, and
 /// the connection closed after it, within one deadline.
 fn take_step<E: Exchanges, R: Wait + Dial + Clock, G: Gate>(
     exchanges: &mut E,
@@ -79,25 +124,88 @@ fn take_step<E: Exchanges, R: Wait + Dial + Clock, G: Gate>(
     phase: Phase,
     noted: &mut Noted,
 ) -> Step
-    ensures { result ≡ Step.Over → E.Exchange.is_over exchange.new ≡ true }
+    ensures rounds { noted.new.rounds ≡ noted.old.rounds }
+    ensures over { result ≡ Step.Over → E.Exchange.is_over exchange.new ≡ true }
 {
+    watch(exchanges.users_mut().seats_mut(), at, phase);
     let step = exchanges.act(at, exchange, Task::Step);
-    if step == Step::On && !noted.went_on && !is_ending(phase) {
+    if has_moved(step) && !noted.went_on && !is_ending(phase) {
         noted.went_on = true;
         exchanges.users_mut().seats_mut().touch(at.key, at.now);
     }
-    note_stay(exchanges.users_mut(), at, exchange.phase(), noted);
+    let next = exchange.phase();
+    note_stay(exchanges.users_mut(), at, next, noted);
+    if next == Phase::Head && (step == Step::On || phase == Phase::Idle) {
+        exchanges.users_mut().seats_mut().begin_head(at.key, at.now);
+    }
     step
 }
 
-/// Whether the user of an exchange in this phase is lost: it is gone, or has ended its bytes in the queue for a service's connection,
-/// where it would keep those that still wait from their turn.
-fn is_lost(seats: &Seats, key: usize, phase: Phase) -> bool {
-    seats.is_gone(key) || matches!(phase, Phase::InQueue { .. }) && seats.has_ended(key)
+/// Whether somebody waits in the queue for a connection to a service, and the exchange under this key has one.
+fn is_awaited<S: Seating, R: Wait>(users: &S, rt: &R, key: usize) -> bool {
+    match users.seats().leases(key) {
+        Some(point) => users.awaits(rt, point),
+        None => false,
+    }
+}
+
+/// Whether the user of an exchange in this phase is lost: it is gone, or has ended its bytes in the way of others, who would wait for
+/// their turn in the queue for a service's connection.
+fn is_lost<S: Seating, R: Wait>(users: &S, rt: &R, key: usize, phase: Phase) -> bool {
+    let seats = users.seats();
+    seats.is_gone(key)
+        || seats.has_ended(key)
+            && (matches!(phase, Phase::InQueue { .. }) || is_awaited(users, rt, key))
+}
+
+/// The point to whose service an exchange in this phase may want a connection.
+fn wanted_point(phase: Phase) -> Option<Point> {
+    match phase {
+        Phase::Asking { point }
+        | Phase::InQueue { point }
+        | Phase::Preparing {
+            point,
+            offered: true,
+            ..
+        } => Some(point),
+        _ => None,
+    }
+}
+
+/// Whether an exchange in this phase wants a connection to a service while none is free, and a user of its thread that has ended its
+/// bytes has one. That user gives way to it.
+fn is_in_want<S: Seating, R: Wait, G>(users: &mut S, at: &Spot<'_, R, G>, phase: Phase) -> bool {
+    let Some(point) = wanted_point(phase) else {
+        return false;
+    };
+    match users.seats().ended_with(point) {
+        Some(key) if users.seats().leases(at.key).is_none() && users.lacks(at.rt, point) => {
+            users.seats_mut().give_way(key);
+            true
+        }
+        _ => false,
+    }
+}
+
+/// A step of an exchange at a connection, which is counted.
+fn take_round<E: Exchanges, R: Wait + Dial + Clock, G: Gate>(
+    exchanges: &mut E,
+    at: &Spot<'_, R, G>,
+    exchange: &mut E::Exchange,
+    phase: Phase,
+    noted: &mut Noted,
+) -> Step
+    requires { noted.old.rounds < ROUNDS }
+    ensures counted { noted.new.rounds ≡ noted.old.rounds + weight result }
+    ensures over { result ≡ Step.Over → E.Exchange.is_over exchange.new ≡ true }
+{
+    let step = take_step(exchanges, at, exchange, phase, noted);
+    noted.count(step);
+    step
 }
 
 /// Drives an exchange until each of its connections waits, or others should get their turn. One whose user is lost ends, before the next
-/// step at a connection.
+/// step at a connection. One that wants a connection which a user has that has ended its bytes goes on once that one is ended.
 pub(crate) fn drive_on<E: Exchanges, R: Wait + Dial + Clock, G: Gate>(
     exchanges: &mut E,
     at: &Spot<'_, R, G>,
@@ -105,25 +213,30 @@ pub(crate) fn drive_on<E: Exchanges, R: Wait + Dial + Clock, G: Gate>(
 ) -> Driven
     ensures { result ≡ Driven.Over → E.Exchange.is_over exchange.new ≡ true }
 {
-    let mut rounds = 0u32;
     let mut noted = Noted {
         stay: None,
         went_on: false,
+        rounds: 0,
     };
     for _ in 0..STEPS {
         let phase = exchange.phase();
-        if is_round(phase) {
-            if is_lost(exchanges.users().seats(), at.key, phase) {
+        if is_in_want(exchanges.users_mut(), at, phase) {
+            return Driven::CutShort;
+        }
+        let step = if is_round(phase) {
+            if is_lost(exchanges.users(), at.rt, at.key, phase) {
                 exchanges.act(at, exchange, Task::Lose);
                 return Driven::Over;
             }
-            if rounds >= ROUNDS {
+            if noted.is_spent() {
                 return Driven::CutShort;
             }
-            rounds = rounds.saturating_add(1);
-        }
-        match take_step(exchanges, at, exchange, phase, &mut noted) {
-            Step::On => {}
+            take_round(exchanges, at, exchange, phase, &mut noted)
+        } else {
+            take_step(exchanges, at, exchange, phase, &mut noted)
+        };
+        match step {
+            Step::On | Step::Turned { .. } | Step::Unmoved => {}
             Step::Waits => return Driven::Waiting,
             Step::Over => return Driven::Over,
         }
@@ -147,6 +260,6 @@ pub(crate) fn leave_on<E: Exchanges, R: Wait + Dial + Clock, G: Gate>(
     match exchanges.act(at, exchange, Task::TakeLeave) {
         Step::Over => Driven::Over,
         Step::Waits => Driven::Waiting,
-        Step::On => Driven::CutShort,
+        Step::On | Step::Turned { .. } | Step::Unmoved => Driven::CutShort,
     }
 }

@@ -9,12 +9,12 @@ mod exchanges;
 mod seating;
 mod seats;
 mod shard;
-mod sparing;
 mod spot;
+mod terms;
 
 pub use exchanges::{Exchanges, Slotted};
 pub use seating::Seating;
 pub use seats::{Purpose, SECOND, Seats};
 pub use shard::{Shard, turn_away};
-pub use sparing::{Spared, Stay};
 pub use spot::Spot;
+pub use terms::Terms;

@@ -4,6 +4,7 @@ use crate::seats::{Purpose, Seats};
 use mio::net::TcpStream;
 use std::sync::Wait;
 use std::time::Clock;
+use trace_core::Point;
 
 /// Where the users of a thread sit: what is noted of them, and who of them waits for a connection to a service.
 pub trait Seating {
@@ -23,6 +24,12 @@ pub trait Seating {
     /// Closes idle connections to services, where they keep the next user out, and says whether it has room then. `None` where they
     /// don't.
     fn close_idle<R: Wait>(&mut self, rt: &R) -> Option<bool>;
+
+    /// Whether no connection to the service of a point is free.
+    fn lacks<R: Wait>(&self, rt: &R, point: Point) -> bool;
+
+    /// Whether somebody waits for a connection to the service of a point, and none is free.
+    fn awaits<R: Wait>(&self, rt: &R, point: Point) -> bool;
 
     /// How many queues there are for connections to services.
     fn queues(&self) -> usize;

@@ -2,8 +2,8 @@
 
 ghost use Rattle.std.specs.Prelude.{◌≡◌, ◌/◌, IfSome};
 
-use crate::sparing::{Spared, Stay, spared_of};
-use event_loop::{Told, UserPermit};
+use crate::terms::{Awaited, Terms};
+use event_loop::{Spared, Stay, Told, UserPermit, is_young, spared_of, youth_of};
 use mio::net::TcpStream;
 use mio::{Registry, Token};
 use slab::Slab;
@@ -11,6 +11,7 @@ use socket_wire::{MAX_KEY, Peer, Readiness, Role, SocketWire, token_of};
 use std::alloc::{AllocError, Global};
 use std::mem;
 use std::sync::Arc;
+use trace_core::Point;
 
 /// The milliseconds of a second.
 pub const SECOND: u64 = 1000;
@@ -41,6 +42,9 @@ struct Seat {
     since: u64,
     /// When the message began to wait for a connection to its service.
     waits: Option<u64>,
+    awaited: Awaited,
+    /// The point to whose service it has a connection.
+    leases: Option<Point>,
     user: Option<Arc<Readiness>>,
     origin: Option<Arc<Readiness>>,
     service: Option<Arc<Readiness>>,
@@ -54,6 +58,22 @@ fn taken_by(ready: &Option<Arc<Readiness>>) -> u64 {
     }
 }
 
+/// Since when a connection is awaited that nobody has taken yet.
+fn awaited_since(ready: &Option<Arc<Readiness>>, since: Option<u64>, now: u64) -> Option<u64> {
+    match ready {
+        Some(ready) if ready.is_on_its_way() => Some(since.unwrap_or(now)),
+        _ => None,
+    }
+}
+
+/// Whether the user of a seat has ended its bytes, or its connection is gone both ways.
+fn has_ended(seat: &Seat) -> bool {
+    match &seat.user {
+        Some(user) => user.is_closed(),
+        None => false,
+    }
+}
+
 /// The seats of a thread, each under its key.
 #[derive(Drop)]
 pub struct Seats {
@@ -63,10 +83,14 @@ pub struct Seats {
     refused: usize,
     /// How many stays have begun.
     stays: u64,
+    /// How many users have ended their bytes.
+    ended: usize,
+    /// The user that has to give way to one that was driven.
+    in_way: Option<usize>,
 }
 
 impl Seats {
-    ghost use Rattle.shard_work.specs.Seats.{is_late, moved_at, IsTaken};
+    ghost use Rattle.shard_work.specs.Seats.{is_late, is_overdue, moved_at, IsTaken};
     ghost use Rattle.slab.specs.Slab.{get, Updates};
 
     /// No seat is taken, and at most `most` users may be served at once. `Err` if no memory was found for their seats.
@@ -77,6 +101,8 @@ impl Seats {
             most,
             refused: 0,
             stays: 0,
+            ended: 0,
+            in_way: None,
         };
         let bound = seats.bound();
         seats.all.reserve(bound)?;
@@ -91,6 +117,8 @@ impl Seats {
             most: 0,
             refused: 0,
             stays: 0,
+            ended: 0,
+            in_way: None,
         };
         mem::replace(self, none)
     }
@@ -151,6 +179,8 @@ impl Seats {
             },
             since,
             waits: None,
+            awaited: Awaited::nothing(),
+            leases: None,
             user: None,
             origin: None,
             service: None,
@@ -163,11 +193,14 @@ impl Seats {
 
     /// Leaves a seat.
     pub fn leave(&mut self, key: usize) {
-        match self.all.try_remove(key) {
-            Some(seat) if seat.purpose == Purpose::Refusal => {
-                self.refused = self.refused.saturating_sub(1);
-            }
-            _ => {}
+        let Some(seat) = self.all.try_remove(key) else {
+            return;
+        };
+        if seat.purpose == Purpose::Refusal {
+            self.refused = self.refused.saturating_sub(1);
+        }
+        if has_ended(&seat) {
+            self.ended = self.ended.saturating_sub(1);
         }
     }
 
@@ -196,7 +229,34 @@ impl Seats {
         {
             seat.stay = stay;
             seat.since = since;
+            seat.awaited.head = None;
         }
+    }
+
+    /// A byte of a request's head has come. Its time counts from the first one.
+    pub fn begin_head(&mut self, key: usize, now: u64) {
+        if let Some(seat) = self.all.get_mut(key)
+            && seat.awaited.head.is_none()
+        {
+            seat.awaited.head = Some(now);
+        }
+    }
+
+    /// Takes note of the connections that are awaited, of those which the exchange needs: their times count from now on.
+    pub fn await_connections(&mut self, key: usize, now: u64, origin: bool, service: bool) {
+        let Some(seat) = self.all.get_mut(key) else {
+            return;
+        };
+        seat.awaited.origin = if origin {
+            awaited_since(&seat.origin, seat.awaited.origin, now)
+        } else {
+            None
+        };
+        seat.awaited.service = if service {
+            awaited_since(&seat.service, seat.awaited.service, now)
+        } else {
+            None
+        };
     }
 
     /// A request comes on a user's connection, of which nothing was read yet: it isn't spared before it is driven.
@@ -204,10 +264,36 @@ impl Seats {
         self.begin_stay(key, Stay::Exchange);
     }
 
-    /// The connection under a key at this moment, in milliseconds, where it is spared rather than the best one so far.
-    pub fn better(&self, key: usize, millis: u64, best: Option<Spared>) -> Option<Spared> {
+    /// For how many milliseconds a head isn't spared at this moment, in milliseconds.
+    pub fn youth(&self, millis: u64) -> u64 {
+        let mut heads = 0usize;
+        for key in 0..self.bound() {
+            if let Some(seat) = self.all.get(key)
+                && is_young(seat.stay, millis.saturating_sub(seat.came))
+            {
+                heads = heads.saturating_add(1);
+            }
+        }
+        youth_of(heads, self.most)
+    }
+
+    /// The connection under a key at this moment, in milliseconds, where it is spared rather than the best one so far. For so many
+    /// milliseconds a head isn't. A user for whom there is no room takes none from another: it isn't spared.
+    pub fn better(
+        &self,
+        key: usize,
+        millis: u64,
+        youth: u64,
+        best: Option<Spared>,
+    ) -> Option<Spared> {
         let seat = self.all.get(key)?;
-        let this = spared_of(key, seat.stay, millis.saturating_sub(seat.came), seat.since)?;
+        let stay = if has_ended(seat) && seat.purpose == Purpose::Requests {
+            Stay::Ended
+        } else {
+            seat.stay
+        };
+        let age = millis.saturating_sub(seat.came);
+        let this = spared_of(key, stay, age, youth, seat.since)?;
         match best {
             Some(best) if !this.comes_before(&best) => None,
             _ => Some(this),
@@ -230,14 +316,54 @@ impl Seats {
     /// Whether the user has ended its bytes, or its connection is gone both ways.
     pub fn has_ended(&self, key: usize) -> bool {
         match self.all.get(key) {
-            Some(
-                Seat {
-                    user: Some(user),
-                    ..
-                },
-            ) => user.is_closed(),
-            _ => false,
+            Some(seat) => has_ended(seat),
+            None => false,
         }
+    }
+
+    /// The exchange under this key has a connection to the service of this point, or none.
+    pub fn lease(&mut self, key: usize, point: Option<Point>) {
+        if let Some(seat) = self.all.get_mut(key) {
+            seat.leases = point;
+        }
+    }
+
+    /// The point to whose service the exchange under this key has a connection.
+    pub fn leases(&self, key: usize) -> Option<Point> {
+        match self.all.get(key) {
+            Some(seat) => seat.leases,
+            None => None,
+        }
+    }
+
+    /// The exchange with a connection to the service of this point, whose user has ended its bytes: the one whose stay began first.
+    pub fn ended_with(&self, point: Point) -> Option<usize> {
+        if self.ended == 0 {
+            return None;
+        }
+        let mut first = None;
+        let mut since = u64::MAX;
+        for key in 0..self.bound() {
+            if let Some(seat) = self.all.get(key)
+                && seat.leases == Some(point)
+                && has_ended(seat)
+                && seat.since < since
+            {
+                first = Some(key);
+                since = seat.since;
+            }
+        }
+        first
+    }
+
+    /// The user under this key has to give way to the one that is driven.
+    pub fn give_way(&mut self, key: usize) {
+        self.in_way = Some(key);
+    }
+
+    /// Who has to give way to the one that was driven.
+    pub fn take_in_way(&mut self) -> Option<usize> {
+        self.in_way.take()
     }
 
     /// A message waits for a connection to its service. One that waited before has waited since then.
@@ -289,11 +415,22 @@ impl Seats {
         }
     }
 
+    /// Whether what it awaits takes longer than it may.
+    pub fn is_overdue(&self, key: usize, now: u64, terms: Terms) -> bool
+        ensures { result ≡ is_overdue self.now key now terms }
+    {
+        match self.all.get(key) {
+            Some(seat) => seat.awaited.is_overdue(now, terms),
+            None => false,
+        }
+    }
+
     /// Takes note of an event. False if it says nothing new.
-    pub fn note(&self, key: usize, peer: Peer, told: Told) -> bool {
+    pub fn note(&mut self, key: usize, peer: Peer, told: Told) -> bool {
         let Some(seat) = self.all.get(key) else {
             return false;
         };
+        let had_ended = has_ended(seat);
         let ready = match peer {
             Peer::User => &seat.user,
             Peer::Origin => &seat.origin,
@@ -302,7 +439,11 @@ impl Seats {
         match ready {
             Some(ready) => {
                 let gone = told.failed && ready.fail();
-                ready.note(told.readable, told.writable, told.closed) || gone
+                let is_news = ready.note(told.readable, told.writable, told.closed) || gone;
+                if !had_ended && has_ended(seat) {
+                    self.ended = self.ended.saturating_add(1);
+                }
+                is_news
             }
             None => false,
         }

@@ -8,7 +8,7 @@ use crate::exchanges::{Exchanges, Slotted};
 use crate::seating::Seating;
 use crate::seats::SECOND;
 use crate::spot::Spot;
-use event_loop::{Driven, Handed, Request, Slots, Told, Work};
+use event_loop::{Admitted, Driven, Handed, Request, Slots, Told, Work};
 use http_side::own_refusal;
 use mio::Registry;
 use mio::net::TcpStream;
@@ -115,6 +115,19 @@ impl<'a, E: Exchanges + Drop, G: Gate> Shard<'a, E, G> {
         }
     }
 
+    /// Ends the exchange of a user that has ended its bytes, where the one that was driven wants the connection that it has.
+    fn clear_way<R: Wait + Dial + Clock>(&mut self, at: &Spot<'_, R, G>) {
+        if let Some(key) = self.exchanges.users_mut().seats_mut().take_in_way() {
+            self.end_slot(&Spot {
+                rt: at.rt,
+                registry: at.registry,
+                gate: at.gate,
+                key,
+                now: at.now,
+            });
+        }
+    }
+
     /// Ends the exchange under this key, and all of its connections.
     fn end_slot<R: Wait + Dial + Clock>(&mut self, at: &Spot<'_, R, G>) {
         if let Some(exchange) = self.slots.take(at.key) {
@@ -161,9 +174,15 @@ impl<'a, E: Exchanges + Drop, G: Gate> Shard<'a, E, G> {
 
     /// The key of the user that can best be spared. One whose request has just come isn't.
     fn best_spared(&mut self, millis: u64) -> Option<usize> {
+        let youth = self.exchanges.users().seats().youth(millis);
         let mut best = None;
         for key in 0..self.slots.count() {
-            if let Some(better) = self.exchanges.users().seats().better(key, millis, best) {
+            if let Some(better) = self
+                .exchanges
+                .users()
+                .seats()
+                .better(key, millis, youth, best)
+            {
                 if self.is_wanted(key) {
                     self.exchanges.users_mut().seats_mut().await_head(key);
                 } else {
@@ -199,6 +218,16 @@ impl<'a, E: Exchanges + Drop, G: Gate> Shard<'a, E, G> {
         true
     }
 
+    /// Whether there is a seat for a further user. Where none is free, the user that can best be spared leaves its own.
+    fn has_seat<R: Wait + Dial + Clock>(
+        &mut self,
+        rt: &R,
+        registry: &Registry,
+        millis: u64,
+    ) -> bool {
+        self.exchanges.users().seats().has_room() || self.spare_user(rt, registry, millis)
+    }
+
     /// Whether no byte of a request was read on the connection under this key, but some have come that no event has reported yet.
     fn is_wanted(&self, key: usize) -> bool {
         match self.slots.get(key) {
@@ -215,15 +244,17 @@ impl<'a, E: Exchanges + Drop, G: Gate> Work for Shard<'a, E, G> {
         registry: &Registry,
         user: Handed,
         millis: u64,
-    ) -> Option<usize> {
+    ) -> Admitted {
+        if !self.has_seat(rt, registry, millis) && user.may_go_on() {
+            return Admitted::Full(user);
+        }
         let Handed {
             stream,
             number,
             permit,
+            loops: _,
+            tried: _,
         } = user;
-        if !self.exchanges.users().seats().has_room() {
-            let _ = self.spare_user(rt, registry, millis);
-        }
         let Some((key, purpose)) = self
             .exchanges
             .users_mut()
@@ -231,7 +262,7 @@ impl<'a, E: Exchanges + Drop, G: Gate> Work for Shard<'a, E, G> {
             .take(number, permit, millis)
         else {
             turn_away(stream);
-            return None;
+            return Admitted::Closed;
         };
         self.exchanges.users_mut().enter(key, purpose, &stream);
         let ready = Readiness::new();
@@ -249,7 +280,7 @@ impl<'a, E: Exchanges + Drop, G: Gate> Work for Shard<'a, E, G> {
         };
         let Some(exchange) = begun else {
             self.exchanges.users_mut().leave(rt, key);
-            return None;
+            return Admitted::Closed;
         };
         let gate = self.gate;
         let now = millis / SECOND;
@@ -263,7 +294,7 @@ impl<'a, E: Exchanges + Drop, G: Gate> Work for Shard<'a, E, G> {
             },
             exchange,
         );
-        Some(key)
+        Admitted::Seated(key)
     }
 
     /// Idle connections to services go first, where they keep the user out.
@@ -280,7 +311,7 @@ impl<'a, E: Exchanges + Drop, G: Gate> Work for Shard<'a, E, G> {
     }
 
     fn note(&mut self, key: usize, peer: Peer, told: Told) -> bool {
-        self.exchanges.users().seats().note(key, peer, told)
+        self.exchanges.users_mut().seats_mut().note(key, peer, told)
     }
 
     fn drive<R: Wait + Dial + Clock>(
@@ -299,7 +330,11 @@ impl<'a, E: Exchanges + Drop, G: Gate> Work for Shard<'a, E, G> {
             now,
         };
         match self.serving {
-            Serving::Full | Serving::Draining => self.drive_slot(&at),
+            Serving::Full | Serving::Draining => {
+                let driven = self.drive_slot(&at);
+                self.clear_way(&at);
+                driven
+            }
             Serving::Stopped => self.take_leave(&at),
         }
     }

@@ -1,48 +1,61 @@
-//! The administrator's part in a loop.
+//! The administrator's part in a loop, and that of those who read the counters.
 
-use crate::askers::LINES;
+use crate::askers::Askers;
 use crate::inbox::{Inbox, drain_all, stop_all};
 use crate::looping::EventLoop;
 use crate::work::Work;
 use loop_parts::{MAX_ASKERS, Request};
-use std::alloc::Global;
 use std::sync::Wait;
 
+/// What each connection asks for next, where it asks for something. `stop` and `drain` are done here, before any other is answered.
+fn hear_each(askers: &mut Askers, inboxes: &[Inbox]) -> [Option<Request>; MAX_ASKERS] {
+    let mut asked = [None; MAX_ASKERS];
+    for (key, request) in asked.iter_mut().enumerate() {
+        match askers.hear(key) {
+            Some(Request::Stop) => stop_all(inboxes),
+            Some(Request::Drain) => {
+                drain_all(inboxes);
+                askers.say(key, b"ok\n");
+            }
+            heard => *request = heard,
+        }
+    }
+    asked
+}
+
+/// Hears the connections of one port, where one may have said more, and answers them.
+fn serve<K: Work, R: Wait>(rt: &R, work: &mut K, askers: &mut Askers, inboxes: &[Inbox], now: u64) {
+    if askers.catch_up() {
+        let asked = hear_each(askers, inboxes);
+        answer_each(rt, work, askers, &asked, now);
+    }
+}
+
+/// Answers what each connection asks for. One for whose answer no memory is found is closed.
+fn answer_each<K: Work, R: Wait>(
+    rt: &R,
+    work: &mut K,
+    askers: &mut Askers,
+    asked: &[Option<Request>; MAX_ASKERS],
+    now: u64,
+) {
+    for (key, request) in asked.iter().enumerate() {
+        match request {
+            Some(Request::Bad) => askers.say(key, b"bad\n"),
+            Some(request) => match work.answer(rt, *request, now) {
+                Ok(answer) => askers.say(key, answer.as_slice()),
+                Err(_) => askers.leave(key),
+            },
+            None => {}
+        }
+    }
+}
+
 impl<K: Work> EventLoop<K> {
-    /// Takes in connections of the administrator.
-    pub(super) fn accept_askers(&mut self, alloc: Global) {
-        if let Some(admin) = &mut self.admin {
-            self.askers.accept(alloc, admin, self.poll.registry());
-        }
-    }
-
-    /// Answers the lines of a connection of the administrator. One for whose answer no memory is found is closed.
-    pub(super) fn hear<R: Wait>(&mut self, rt: &R, inboxes: &[Inbox], key: usize) {
+    /// Hears one line of each connection of the administrator that may have said more, and one request of those that read the counters.
+    pub(super) fn hear<R: Wait>(&mut self, rt: &R, inboxes: &[Inbox]) {
         let now = self.now();
-        for _ in 0..LINES {
-            match self.askers.hear(key) {
-                Some(Request::Stop) => stop_all(inboxes),
-                Some(Request::Drain) => {
-                    drain_all(inboxes);
-                    self.askers.say(key, b"ok\n");
-                }
-                Some(Request::Bad) => self.askers.say(key, b"bad\n"),
-                Some(request) => match self.work.answer(rt, request, now) {
-                    Ok(answer) => self.askers.say(key, answer.as_slice()),
-                    Err(_) => self.askers.leave(key),
-                },
-                None => return,
-            }
-        }
-        self.askers.fall_behind();
-    }
-
-    /// Hears the administrator's connections on, where one had more lines than are answered in a turn.
-    pub(super) fn hear_on<R: Wait>(&mut self, rt: &R, inboxes: &[Inbox]) {
-        if self.askers.catch_up() {
-            for key in 0..MAX_ASKERS {
-                self.hear(rt, inboxes, key);
-            }
-        }
+        serve(rt, &mut self.work, &mut self.admin, inboxes, now);
+        serve(rt, &mut self.work, &mut self.metrics, inboxes, now);
     }
 }

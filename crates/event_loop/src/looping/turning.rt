@@ -1,0 +1,155 @@
+//! A turn of a loop: what is served between two waits.
+
+ghost use Rattle.std.specs.Prelude.{◌<◌, length};
+
+use crate::inbox::{Handed, Inbox};
+use crate::looping::{ADMIN, Event, EventLoop, LISTENER, METRICS, WAKER};
+use crate::ports::pass_on;
+use crate::work::{Admitted, Work};
+use loop_parts::MAX_ASKERS;
+use socket_wire::{Dial, peer_of};
+use std::alloc::Global;
+use std::io;
+use std::sync::Wait;
+use std::time::Clock;
+
+impl<K: Work> EventLoop<K> {
+    /// Serves all events. Users are taken in last: until then no key is another user's than the one that an event
+    /// is about.
+    pub(super) fn turn<R: Wait + Dial + Clock>(
+        &mut self,
+        rt: &R,
+        alloc: Global,
+        number: usize,
+        inboxes: &[Inbox],
+    ) -> io::Result<()>
+        requires { number < length inboxes.now }
+    {
+        self.drive_ready(rt)?;
+        self.look();
+        let woken = self.serve_seen(rt, alloc, number, inboxes)?;
+        self.hear(rt, inboxes);
+        if inboxes[number].take_crowded() && self.make_room(rt) {
+            inboxes[0].wake();
+        }
+        if woken {
+            self.drive_first(rt)?;
+        }
+        self.ask_ports(rt, alloc, number, inboxes);
+        if woken || self.laid {
+            self.laid = false;
+            self.take_in(rt, number, inboxes, inboxes[number].take_all(rt, alloc))?;
+        }
+        self.work.turn_over(rt);
+        Ok(())
+    }
+
+    /// Has its work make room for another user. False where there is none to be made.
+    fn make_room<R: Wait + Dial + Clock>(&mut self, rt: &R) -> bool {
+        let millis = self.elapsed;
+        self.work.make_room(rt, self.poll.registry(), millis)
+    }
+
+    /// Serves the events that were noted down, and says whether one of them was that the loop was woken.
+    fn serve_seen<R: Wait + Dial + Clock>(
+        &mut self,
+        rt: &R,
+        alloc: Global,
+        number: usize,
+        inboxes: &[Inbox],
+    ) -> io::Result<bool> {
+        let mut woken = false;
+        for at in 0..self.seen.len() {
+            let Some(event) = self.seen.get(at) else {
+                break;
+            };
+            let event = *event;
+            if event.token == WAKER.0 {
+                woken = true;
+            } else {
+                self.serve(rt, alloc, number, inboxes, event)?;
+            }
+        }
+        Ok(woken)
+    }
+
+    /// Serves one event.
+    fn serve<R: Wait + Dial + Clock>(
+        &mut self,
+        rt: &R,
+        alloc: Global,
+        number: usize,
+        inboxes: &[Inbox],
+        event: Event,
+    ) -> io::Result<()> {
+        if event.token == LISTENER.0 {
+            self.accept(rt, number, inboxes);
+            return Ok(());
+        }
+        if event.token == ADMIN.0 {
+            self.admin.accept(alloc, self.poll.registry());
+            return Ok(());
+        }
+        if event.token == METRICS.0 {
+            self.metrics.accept(alloc, self.poll.registry());
+            return Ok(());
+        }
+        match peer_of(event.token) {
+            Some((key, peer)) => {
+                if self.work.note(key, peer, event.told) {
+                    self.drive(rt, key)
+                } else {
+                    Ok(())
+                }
+            }
+            None => {
+                let key = event.token / 4;
+                if key < MAX_ASKERS {
+                    self.admin.note(key, event.told);
+                } else {
+                    self.metrics.note(key - MAX_ASKERS, event.told);
+                }
+                Ok(())
+            }
+        }
+    }
+
+    /// Accepts users.
+    fn accept<R: Wait>(&mut self, rt: &R, number: usize, inboxes: &[Inbox]) {
+        if let Some(ports) = &mut self.ports
+            && ports.accept(rt, number, inboxes)
+        {
+            self.laid = true;
+        }
+    }
+
+    /// Asks the ports for connections that no event reports.
+    fn ask_ports<R: Wait>(&mut self, rt: &R, alloc: Global, number: usize, inboxes: &[Inbox]) {
+        self.admin.accept_more(alloc, self.poll.registry());
+        self.metrics.accept_more(alloc, self.poll.registry());
+        if let Some(ports) = &self.ports
+            && ports.has_users()
+        {
+            self.accept(rt, number, inboxes);
+        }
+    }
+
+    /// Takes in the users that were handed to this loop. One for whom there is no seat is passed on, as long as another loop may have one.
+    fn take_in<R: Wait + Dial + Clock>(
+        &mut self,
+        rt: &R,
+        number: usize,
+        inboxes: &[Inbox],
+        users: Vec<Handed>,
+    ) -> io::Result<()> {
+        for user in users {
+            let millis = self.elapsed;
+            match self.work.admit(rt, self.poll.registry(), user, millis) {
+                Admitted::Seated(key) => self.drive(rt, key)?,
+                Admitted::Full(user) => pass_on(rt, number, inboxes, user),
+                Admitted::Closed => {}
+            }
+        }
+        Ok(())
+    }
+}
