@@ -2,8 +2,8 @@
 
 use crate::streams::{gets, say};
 use event_loop::{
-    Base, Driven, Ended, Entrance, Handed, Inbox, Request, Room, Told, UserPermit, Work, add_loop,
-    run_loop,
+    AdminPorts, Admitted, Base, Driven, Ended, Entrance, Handed, Inbox, Request, Room, Told,
+    UserPermit, Work, add_loop, run_loop,
 };
 use mio::net::TcpListener;
 use mio::{Registry, Token};
@@ -37,6 +37,8 @@ fn take_in(echo: &mut Echo, registry: &Registry, user: Handed) -> Result<usize, 
         stream,
         number: _,
         permit,
+        loops: _,
+        tried: _,
     } = user;
     let ready = Arc::new(echo.alloc, Readiness::new())?;
     let mut wire = SocketWire::new(stream, ready.clone()?);
@@ -73,8 +75,11 @@ impl Work for Echo {
         registry: &Registry,
         user: Handed,
         _millis: u64,
-    ) -> Option<usize> {
-        take_in(self, registry, user).ok()
+    ) -> Admitted {
+        match take_in(self, registry, user) {
+            Ok(key) => Admitted::Seated(key),
+            Err(_) => Admitted::Closed,
+        }
     }
 
     fn make_room<R: Wait + Dial + Clock>(
@@ -218,7 +223,9 @@ fn make(
         loops: 2,
     };
     let first = add_loop(rt, rt.alloc(), Some(users), None, inboxes)?;
-    let second = add_loop(rt, rt.alloc(), None, Some(admin), inboxes)?;
+    let metrics = None;
+    let ports = AdminPorts { admin, metrics };
+    let second = add_loop(rt, rt.alloc(), None, Some(ports), inboxes)?;
     Ok([Some(first), Some(second)])
 }
 

@@ -1,27 +1,78 @@
 //! `adaptproxy serve` over sockets.
 
 use mio::net::TcpListener;
-use proxy_commands::{Error, ServeError, audit_line, error_of, read_configuration, say};
+use proxy_commands::{Error, ServeError, audit_line, error_of, has_room, read_configuration, say};
 use proxy_config::Config;
-use shard_loop::{Append, Stopped, serve};
+use shard_loop::{AdminPorts, Append, Stopped, listen_beside, serve};
 use socket_wire::Dial;
 use std::alloc::Global;
 use std::fs::File;
-use std::io::{Read, Write};
-use std::net::{Net, SocketAddr};
+use std::io::{self, ErrorKind, Read, Write};
+use std::net::{self, Net, SocketAddr, SocketAddrV4};
+use std::rt::Files;
 use std::sync::Wait;
 use std::thread::Threads;
 use std::time::Clock;
 use wire_kit::OpenGate;
 
-/// Listens where users connect, and where the administrator does.
-fn listen<R: Net>(rt: &R, config: &Config) -> Result<(TcpListener, TcpListener), ServeError> {
-    let users = TcpListener::bind(rt, SocketAddr::V4(config.listen));
-    let admin = TcpListener::bind(rt, SocketAddr::V4(config.admin));
-    match (users, admin) {
-        (Ok(users), Ok(admin)) => Ok((users, admin)),
-        _ => Err(ServeError::CannotListen),
+/// The error of an address that can't be listened on.
+fn listen_fault(alloc: Global, address: SocketAddrV4) -> ServeError {
+    match format!(in alloc; "{address}") {
+        Ok(text) => ServeError::CannotListenOn(text),
+        Err(_) => ServeError::Ended(Error::NoMemory),
     }
+}
+
+/// Listens on an address.
+fn listen_on<R: Net>(
+    rt: &R,
+    alloc: Global,
+    address: SocketAddrV4,
+) -> Result<TcpListener, ServeError> {
+    match TcpListener::bind(rt, SocketAddr::V4(address)) {
+        Ok(listener) => Ok(listener),
+        Err(_) => Err(listen_fault(alloc, address)),
+    }
+}
+
+/// A port that was handed over, which has to be that of `listen`.
+fn take_over(handed: net::TcpListener, listen: SocketAddr) -> io::Result<TcpListener> {
+    if handed.local_addr()? != listen {
+        return Err(io::Error::from(ErrorKind::AddrNotAvailable));
+    }
+    handed.set_nonblocking(true)?;
+    Ok(TcpListener::from_std(handed))
+}
+
+/// Listens where users connect: at the port that was handed over if one was, else beside a proxy that this one takes the place of.
+fn listen_for_users<R: Net>(
+    rt: &R,
+    alloc: Global,
+    handed: Option<net::TcpListener>,
+    address: SocketAddrV4,
+) -> Result<TcpListener, ServeError> {
+    let users = match handed {
+        Some(handed) => take_over(handed, SocketAddr::V4(address)),
+        None => listen_beside(rt, address),
+    };
+    match users {
+        Ok(users) => Ok(users),
+        Err(_) => Err(listen_fault(alloc, address)),
+    }
+}
+
+/// Listens where the administrator connects, and where the counters are read, if that is wanted.
+fn listen_for_administrator<R: Net>(
+    rt: &R,
+    alloc: Global,
+    config: &Config,
+) -> Result<AdminPorts, ServeError> {
+    let admin = listen_on(rt, alloc, config.admin)?;
+    let metrics = match config.metrics {
+        Some(address) => Some(listen_on(rt, alloc, address)?),
+        None => None,
+    };
+    Ok(AdminPorts { admin, metrics })
 }
 
 /// Opens the file of the log, where one is kept. The key is at fault where that can't be.
@@ -49,7 +100,7 @@ fn serve_ports<R: Threads + Wait + Net + Dial + Append + Clock + Sync>(
     alloc: Global,
     config: &Config,
     users: TcpListener,
-    admin: TcpListener,
+    admin: AdminPorts,
     log: Option<File>,
 ) -> Result<Stopped, ServeError> {
     match serve(rt, alloc, config, users, admin, log, &OpenGate) {
@@ -70,16 +121,26 @@ fn say_end<O: Write>(alloc: Global, output: &mut O, stopped: Stopped) -> Result<
     }
 }
 
-/// Reads the configuration, opens the log, listens, says so, serves until the administrator says `stop`, and says what was still out.
-pub fn serve_from<I: Read + Drop, O: Write, R: Threads + Wait + Net + Dial + Append + Clock + Sync>(
+/// Reads the configuration, looks whether the machine has the memory for its pages, opens the log, listens, at the users' port that was
+/// handed over if one was, says so, serves until the administrator says `stop`, and says what was still out.
+pub fn serve_from<
+    I: Read + Drop,
+    O: Write,
+    R: Threads + Wait + Net + Dial + Append + Clock + Files + AllocGlobal + Sync,
+>(
     rt: &R,
     alloc: Global,
+    handed: Option<net::TcpListener>,
     reader: I,
     output: &mut O,
 ) -> Result<(), ServeError> {
     let config = read_configuration(alloc, reader)?;
+    if !has_room(rt, &config) {
+        return Err(ServeError::Ended(Error::NoMemory));
+    }
     let log = open_log(rt, alloc, &config)?;
-    let (users, admin) = listen(rt, &config)?;
+    let users = listen_for_users(rt, alloc, handed, config.listen)?;
+    let admin = listen_for_administrator(rt, alloc, &config)?;
     say(output, b"listening\n")?;
     let stopped = serve_ports(rt, alloc, &config, users, admin, log)?;
     say_end(alloc, output, stopped)

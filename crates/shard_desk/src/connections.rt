@@ -4,11 +4,11 @@ ghost use Rattle.std.specs.Prelude.{◌≡◌, IfOk};
 ghost use Rattle.trace_core.specs.declared.history.Point.{Point as AnyPoint};
 ghost use Rattle.service_lines.specs.Lending.{point_of, IsOf};
 
-use crate::pools::{Berth, Port, dial, pools_of};
+use crate::pools::{Berth, Port, dial, dial_late, pools_of};
 use crate::shared::Shares;
 use event_loop::Room;
 use options_book::Record;
-use proxy_config::Config;
+use proxy_config::{Config, Dial as DialTime};
 use proxy_rules::pool_maximum;
 use service_lines::{Leased, LeasedConnection, LendFault, PointBook};
 use shard_effects::Reason;
@@ -45,14 +45,19 @@ fn address_of(config: &Config, point: Point) -> Option<SocketAddrV4> {
     }
 }
 
-/// A connection to an origin that is opened now. Want of memory, of a descriptor or of a port is another answer than a host that can't
-/// be reached.
+/// A connection to an origin that is opened now, or at its first write. Want of memory, of a descriptor or of a port is another answer than
+/// a host that can't be reached.
 pub(crate) fn open_origin<R: Dial, G>(
     seats: &mut Seats,
     at: &Spot<'_, R, G>,
     address: SocketAddrV4,
+    when: DialTime,
 ) -> Result<OriginWire, Reason> {
-    match dial(at.rt, seats, at.registry, at.key, address) {
+    let opened = match when {
+        DialTime::First => dial(at.rt, seats, at.registry, at.key, address),
+        DialTime::Late => dial_late(at.rt, seats, at.registry, at.key, address),
+    };
+    match opened {
         Ok(wire) => Ok(wire),
         Err(LendFault::NoMemory) => Err(Reason::NoMemory),
         Err(_) => Err(Reason::NoOrigin),
@@ -105,7 +110,7 @@ pub(crate) fn lend_now<S: Shares, R: Wait + Dial, G>(
 {
     let address = address_of(shared.config(), point);
     let mut port = port_of(seats, at, shared.room(), address);
-    let lent = pools_of(shared).lend(at.rt, &mut port, point);
+    let lent = pools_of(shared).lend(at.rt, &mut port, point, at.now);
     *seats = port.berth.seats;
     lent_of(lent)
 }
@@ -122,7 +127,7 @@ pub(crate) fn lend_waiting<S: Shares, R: Wait + Dial, G>(
     let waiter = waiter_of(shared, at.key);
     let address = address_of(shared.config(), point);
     let mut port = port_of(seats, at, shared.room(), address);
-    let lent = pools_of(shared).lend_in_turn(at.rt, &mut port, point, waiter);
+    let lent = pools_of(shared).lend_in_turn(at.rt, &mut port, point, waiter, at.now);
     *seats = port.berth.seats;
     lent_of(lent)
 }
@@ -153,7 +158,7 @@ pub(crate) fn put_back<S: Shares, R: Wait, G>(
 ) {
     let mut berth = berth_of(seats, at, shared.room());
     let connection = LeasedConnection { wire, lease };
-    pools_of(shared).put(at.rt, &mut berth, connection);
+    pools_of(shared).put(at.rt, &mut berth, connection, at.now);
     *seats = berth.seats;
 }
 

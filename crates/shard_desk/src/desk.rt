@@ -7,10 +7,11 @@ use adapt_sides::MAX_READ;
 use event_loop::USER;
 use mio::net::TcpStream;
 use plan_rules::Limits;
+use proxy_config::Config;
 use proxy_rules::limits_of;
 use service_lines::{Edge, POINTS, PointBook};
 use shard_report::Count;
-use shard_work::{Purpose, Seating, Seats};
+use shard_work::{Purpose, Seating, Seats, Terms};
 use std::alloc::{AllocError, Global};
 use std::sync::Wait;
 use std::time::Clock;
@@ -24,11 +25,21 @@ pub struct Desk<S> {
     pub limits: Limits,
     /// The seconds without a moved byte after which an exchange is ended.
     pub deadline: u64,
+    /// The seconds that a request's head and a connection that is opened have in all.
+    pub terms: Terms,
     pub seats: Seats,
     pub(crate) reporter: Reporter,
     pub(crate) request_book: PointBook,
     pub(crate) response_book: PointBook,
     pub(crate) scratch: Vec<u8>,
+}
+
+/// The times that are configured.
+fn terms_of(config: &Config) -> Terms {
+    Terms {
+        head: config.head_deadline,
+        connection: config.connect_deadline,
+    }
 }
 
 impl<S: Shares> Desk<S> {
@@ -40,6 +51,7 @@ impl<S: Shares> Desk<S> {
         let scratch = Vec::from_elem(alloc, 0u8, MAX_READ)?;
         let limits = limits_of(shared.config());
         let deadline = shared.config().deadline;
+        let terms = terms_of(shared.config());
         let seats = Seats::new(alloc, rows)?;
         let reporter = Reporter::new(alloc, seats.bound(), shared.log())?;
         Ok(Desk {
@@ -47,6 +59,7 @@ impl<S: Shares> Desk<S> {
             shared,
             limits,
             deadline,
+            terms,
             seats,
             reporter,
             request_book: PointBook::new(),
@@ -55,11 +68,29 @@ impl<S: Shares> Desk<S> {
         })
     }
 
+    /// Takes note that the exchange under this key has a connection to the service of a point, where one was lent to it.
+    pub(crate) fn note_lease(&mut self, key: usize, point: Point, is_lent: bool) {
+        if is_lent {
+            self.seats.lease(key, Some(point));
+        }
+    }
+
     /// What the service of a point said last, to be changed.
     pub(crate) fn book_mut(&mut self, point: Point) -> &mut PointBook {
         match point {
             Point::Reqmod => &mut self.request_book,
             Point::Respmod => &mut self.response_book,
+        }
+    }
+
+    /// Has the services asked again before the next message is planned, where the administrator wants that.
+    pub(crate) fn heed_refresh(&mut self) {
+        let number = self.shared.number();
+        if let Some(inbox) = self.shared.inboxes().get(number)
+            && inbox.take_refresh()
+        {
+            self.request_book.expire();
+            self.response_book.expire();
         }
     }
 }
@@ -107,6 +138,18 @@ impl<S: Shares> Seating for Desk<S> {
         } else {
             None
         }
+    }
+
+    fn lacks<R: Wait>(&self, rt: &R, point: Point) -> bool {
+        let numbers = match point {
+            Point::Reqmod => self.shared.requests().numbers(rt),
+            Point::Respmod => self.shared.responses().numbers(rt),
+        };
+        numbers.idle == 0 && numbers.leased >= numbers.maximum
+    }
+
+    fn awaits<R: Wait>(&self, rt: &R, point: Point) -> bool {
+        pools_of(&self.shared).waiting.is_awaited(rt, point) && self.lacks(rt, point)
     }
 
     fn queues(&self) -> usize {

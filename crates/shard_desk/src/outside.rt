@@ -1,7 +1,7 @@
 //! The surroundings of an exchange over sockets.
 
-ghost use Rattle.std.specs.Prelude.{◌≡◌};
-ghost use Rattle.shard_work.specs.Seats.{is_late};
+ghost use Rattle.std.specs.Prelude.{◌≡◌, ◌||◌};
+ghost use Rattle.shard_work.specs.Seats.{is_late, is_overdue};
 ghost use Rattle.service_lines.specs.Lending.{point_of};
 ghost use Rattle.shard_desk.specs.Books.{book_at};
 
@@ -47,7 +47,7 @@ impl<S: Shares> Kinds for Desk<S> {
 }
 
 impl<'r, S: Shares, R: Wait + Dial + Clock, G: Gate> Outside<Spot<'r, R, G>> for Desk<S> {
-    ghost is_late = { λ desk at. is_late desk.seats at.key at.now desk.deadline };
+    ghost is_late = { λ desk at. is_late desk.seats at.key at.now desk.deadline || is_overdue desk.seats at.key at.now desk.terms };
 
     ghost point_of = { λ lease. point_of lease };
 
@@ -81,6 +81,7 @@ impl<'r, S: Shares, R: Wait + Dial + Clock, G: Gate> Outside<Spot<'r, R, G>> for
 
     fn is_late(&self, at: &Spot<'r, R, G>) -> bool {
         self.seats.is_late(at.key, at.now, self.deadline)
+            || self.seats.is_overdue(at.key, at.now, self.terms)
     }
 
     fn has_rested(&self, at: &Spot<'r, R, G>) -> bool {
@@ -136,7 +137,9 @@ impl<'r, S: Shares, R: Wait + Dial + Clock, G: Gate> Outside<Spot<'r, R, G>> for
         at: &Spot<'r, R, G>,
         point: Point,
     ) -> Result<(ServiceWire, Leased<S::Requests, S::Responses>), LendFault> {
-        lend_now(&self.shared, &mut self.seats, at, point)
+        let lent = lend_now(&self.shared, &mut self.seats, at, point);
+        self.note_lease(at.key, point, lent.is_ok());
+        lent
     }
 
     fn lend_in_turn(
@@ -144,7 +147,10 @@ impl<'r, S: Shares, R: Wait + Dial + Clock, G: Gate> Outside<Spot<'r, R, G>> for
         at: &Spot<'r, R, G>,
         point: Point,
     ) -> Result<(ServiceWire, Leased<S::Requests, S::Responses>), LendFault> {
-        lend_waiting(&self.shared, &mut self.seats, at, point)
+        self.heed_refresh();
+        let lent = lend_waiting(&self.shared, &mut self.seats, at, point);
+        self.note_lease(at.key, point, lent.is_ok());
+        lent
     }
 
     fn join_queue(&mut self, at: &Spot<'r, R, G>, point: Point) -> bool {
@@ -179,15 +185,18 @@ impl<'r, S: Shares, R: Wait + Dial + Clock, G: Gate> Outside<Spot<'r, R, G>> for
         connection: ServiceWire,
         lease: Leased<S::Requests, S::Responses>,
     ) {
+        self.seats.lease(at.key, None);
         put_back(&self.shared, &mut self.seats, at, connection, lease);
     }
 
     fn give_up(&mut self, at: &Spot<'r, R, G>, lease: Leased<S::Requests, S::Responses>) {
+        self.seats.lease(at.key, None);
         pools_of(&self.shared).give_up(at.rt, lease);
     }
 
     fn dial(&mut self, at: &Spot<'r, R, G>, address: SocketAddrV4) -> Result<OriginWire, Reason> {
-        open_origin(&mut self.seats, at, address)
+        let when = self.shared.config().dial;
+        open_origin(&mut self.seats, at, address, when)
     }
 
     fn may_pass(&mut self, at: &Spot<'r, R, G>) -> bool {
@@ -212,13 +221,16 @@ impl<'r, S: Shares, R: Wait + Dial + Clock, G: Gate> Outside<Spot<'r, R, G>> for
     }
 
     fn note_request(&mut self, at: &Spot<'r, R, G>, request: &Incoming) {
+        self.heed_refresh();
         self.seats.end_wait(at.key);
         let taken = self.seats.taken(at.key);
+        let has_query = self.shared.config().log_query;
         self.reporter
-            .request(at.rt, self.shared.log(), at.key, taken, request);
+            .request(at.rt, at.key, taken, request, has_query);
     }
 
     fn note_response(&mut self, at: &Spot<'r, R, G>, response: &Incoming) {
+        self.heed_refresh();
         self.seats.end_wait(at.key);
         self.reporter.response(at.key, response);
     }
@@ -241,7 +253,8 @@ impl<'r, S: Shares, R: Wait + Dial + Clock, G: Gate> Outside<Spot<'r, R, G>> for
         let (read, _) = user.counts();
         self.reporter.read(self.shared.tally(), at.key, read);
         let taken = self.seats.taken(at.key);
-        self.reporter.refusal(at.key, taken, reason, is_asking);
+        self.reporter
+            .refusal(self.shared.tally(), at.key, taken, reason, is_asking);
     }
 
     fn note_end(&mut self, at: &Spot<'r, R, G>, user: &UserWire, end: MessageEnd<'_>) {

@@ -1,10 +1,11 @@
 //! Connections to services over sockets: how they lie idle, and what their lending asks of a thread's loop.
 
-ghost use Rattle.std.specs.Prelude.{◌≡◌, ⊤, Err};
+ghost use Rattle.std.specs.Prelude.{◌≡◌, ⊤, Err, IfSome};
 
 use crate::shared::Shares;
 use event_loop::{IdlePermit, Inbox, Room};
 use mio::Registry;
+use mio::net::TcpStream;
 use service_lines::{Connector, Edge, Keeper, LendFault, Waiting};
 use shard_work::Seats;
 use socket_wire::{Dial, Readiness, Role, ServiceWire, SocketWire, Unread};
@@ -13,12 +14,14 @@ use std::net::{SocketAddr, SocketAddrV4};
 use std::sync::Arc;
 use trace_core::Point;
 
-/// A connection to a service that no transaction uses, with its readiness and its permit among the descriptors.
+/// A connection to a service that no transaction uses, with its readiness, its permit among the descriptors, and the moment since which it
+/// lies idle, in seconds.
 #[derive(Drop)]
 pub struct Spare {
     pub wire: ServiceWire,
     pub ready: Arc<Readiness>,
     pub permit: IdlePermit,
+    pub since: u64,
 }
 
 /// What all threads share: their inboxes, and the descriptors.
@@ -31,6 +34,18 @@ pub struct Loops<'a> {
 
 impl<'a> Edge for Loops<'a> {
     type Idle = Spare;
+
+    ghost since = { λ idle. idle.since };
+
+    fn since(idle: &Spare) -> u64
+        ensures { result ≡ idle.now.since }
+    {
+        idle.since
+    }
+
+    fn is_quiet(&self, idle: &Spare) -> bool {
+        idle.wire.unread() == Unread::Nothing
+    }
 
     fn wake(&self, thread: usize) {
         if let Some(inbox) = self.inboxes.get(thread) {
@@ -62,6 +77,7 @@ pub fn pools_of<S: Shares>(shared: &S) -> Pools<'_, S::Requests, S::Responses> {
     Pools {
         request,
         response,
+        idle_seconds: shared.config().service_idle,
         waiting,
     }
 }
@@ -88,8 +104,28 @@ fn is_want_of_room(error: &io::Error) -> bool {
     )
 }
 
-/// A connection that is opened now, to a peer of the role `P`, for the exchange under this key. Want of memory, of a descriptor or of a
-/// port is another answer than a host that can't be reached. It is never `Busy`.
+/// A wire over a new socket, for the exchange under this key. Want of memory, of a descriptor or of a port is another answer than a host
+/// that can't be reached. It is never `Busy`.
+fn wire_of<P: Role>(
+    seats: &mut Seats,
+    registry: &Registry,
+    key: usize,
+    ready: Readiness,
+    opened: io::Result<TcpStream>,
+) -> Result<SocketWire<P>, LendFault>
+    ensures { result ≡ Err LendFault.Busy → ⊥ }
+{
+    match opened {
+        Ok(stream) => match seats.wire(registry, key, ready, stream) {
+            Ok(wire) => Ok(wire),
+            Err(_) => Err(LendFault::NoMemory),
+        },
+        Err(error) if is_want_of_room(&error) => Err(LendFault::NoMemory),
+        Err(_) => Err(LendFault::Unreached),
+    }
+}
+
+/// A connection that is opened now, to a peer of the role `P`, for the exchange under this key. The faults are as above.
 pub(crate) fn dial<P: Role, R: Dial>(
     rt: &R,
     seats: &mut Seats,
@@ -99,13 +135,26 @@ pub(crate) fn dial<P: Role, R: Dial>(
 ) -> Result<SocketWire<P>, LendFault>
     ensures { result ≡ Err LendFault.Busy → ⊥ }
 {
-    match rt.dial(SocketAddr::V4(address)) {
-        Ok(stream) => match seats.wire(registry, key, Readiness::dialled(), stream) {
-            Ok(wire) => Ok(wire),
-            Err(_) => Err(LendFault::NoMemory),
-        },
-        Err(error) if is_want_of_room(&error) => Err(LendFault::NoMemory),
-        Err(_) => Err(LendFault::Unreached),
+    let opened = rt.dial(SocketAddr::V4(address));
+    wire_of(seats, registry, key, Readiness::dialled(), opened)
+}
+
+/// A connection that is opened at its first write. The faults are as above.
+pub(crate) fn dial_late<P: Role, R: Dial>(
+    rt: &R,
+    seats: &mut Seats,
+    registry: &Registry,
+    key: usize,
+    address: SocketAddrV4,
+) -> Result<SocketWire<P>, LendFault> {
+    let made = wire_of(seats, registry, key, Readiness::undialled(), rt.socket());
+    match made {
+        Ok(wire) => {
+            let mut wire = wire;
+            wire.dial_late(address);
+            Ok(wire)
+        }
+        Err(fault) => Err(fault),
     }
 }
 
@@ -118,14 +167,17 @@ pub(crate) struct Berth<'r, 'a> {
     pub room: &'a Arc<Room>,
 }
 
-/// Takes a connection out of the poll, and gives it a permit among the descriptors of idle ones.
+/// Takes a connection out of the poll, to lie idle since this moment, and gives it a permit among the descriptors of idle ones.
 fn lay_idle(
     registry: &Registry,
     key: usize,
     seats: &mut Seats,
     room: &Arc<Room>,
     used: ServiceWire,
-) -> Option<Spare> {
+    now: u64,
+) -> Option<Spare>
+    ensures { IfSome result (λ idle. idle.since ≡ now) }
+{
     let mut wire = used;
     let is_out = wire.deregister(registry).is_ok();
     let ready = seats.dismiss(key)?;
@@ -137,6 +189,7 @@ fn lay_idle(
         wire,
         ready,
         permit,
+        since: now,
     })
 }
 
@@ -154,10 +207,10 @@ impl<'r, 'a> Keeper<Loops<'a>> for Berth<'r, 'a> {
         is_quiet(used)
     }
 
-    fn rest(&mut self, used: ServiceWire) -> Option<Spare> {
+    fn rest(&mut self, used: ServiceWire, now: u64) -> Option<Spare> {
         let registry = self.registry;
         let room = self.room;
-        lay_idle(registry, self.key, &mut self.seats, room, used)
+        lay_idle(registry, self.key, &mut self.seats, room, used, now)
     }
 
     fn close(&mut self, used: ServiceWire) {
@@ -183,8 +236,8 @@ impl<'r, 'a, R: Dial> Keeper<Loops<'a>> for Port<'r, 'a, R> {
         is_quiet(used)
     }
 
-    fn rest(&mut self, used: ServiceWire) -> Option<Spare> {
-        self.berth.rest(used)
+    fn rest(&mut self, used: ServiceWire, now: u64) -> Option<Spare> {
+        self.berth.rest(used, now)
     }
 
     fn close(&mut self, used: ServiceWire) {
@@ -212,6 +265,7 @@ impl<'r, 'a, R: Dial> Connector<Loops<'a>> for Port<'r, 'a, R> {
             wire,
             ready,
             permit: _,
+            since: _,
         } = idle;
         let registry = self.berth.registry;
         let key = self.berth.key;

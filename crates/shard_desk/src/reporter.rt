@@ -1,16 +1,16 @@
 //! When something is noted of an exchange, and what becomes of it at its end.
 
-use crate::words::{is_answer, reason_word, service_word};
+use crate::words::{is_answer, is_of_service, reason_word, service_word};
 use adapt_turn::Outcome;
-use exchange_report::Why;
+use exchange_report::{Reply, Why};
 use http_side::Values;
 use mio::net::TcpStream;
 use proxy_rules::Incoming;
 use shard_effects::Reason;
 use shard_outside::MessageEnd;
 use shard_report::{
-    Class, Count, Evidence, Log, Notes, Tally, address_of, failed_status, failed_word, kind_in,
-    kind_of, moment, status_in, status_of, verdict_of, why_of,
+    Bound, Class, Count, Evidence, Log, Note, Notes, Tally, address_of, elapsed_of, failed_status,
+    failed_word, kind_in, kind_of, moment, status_in, status_of, verdict_of, why_of, without_query,
 };
 use std::alloc::{AllocError, Global};
 use std::net::{SocketAddr, SocketAddrV4};
@@ -51,21 +51,26 @@ impl Reporter {
         self.notes.refuse(key, Why::NoSeat, 503);
     }
 
-    /// A request's head was read, when its user had taken so many bytes.
+    /// A request's head was read, when its user had taken so many bytes. `has_query`: targets are noted
+    /// with their query.
     pub fn request<R: Clock>(
         &mut self,
         rt: &R,
-        log: &Log,
         key: usize,
         taken: u64,
         request: &Incoming,
+        has_query: bool,
     ) {
-        let now = if log.is_kept() { moment(rt) } else { 0 };
         let (method, target) = match request.user_head() {
             Some(head) => (head.method(), head.target()),
             None => (b"".as_slice(), b"".as_slice()),
         };
-        self.notes.begin(key, now, taken, method, target);
+        let target = if has_query {
+            target
+        } else {
+            without_query(target)
+        };
+        self.notes.begin(key, moment(rt), taken, method, target);
     }
 
     /// The head of the origin's response was read.
@@ -79,10 +84,10 @@ impl Reporter {
         }
     }
 
-    /// A request goes to this address.
+    /// A request is to go to this address.
     pub fn origin(&mut self, key: usize, address: SocketAddrV4) {
         if let Some(note) = self.notes.get_mut(key) {
-            note.origin = Some(address_of(address));
+            note.dialled = Some(address_of(address));
         }
     }
 
@@ -103,12 +108,23 @@ impl Reporter {
     }
 
     /// The proxy's own refusal is the answer, to a user that had taken so many bytes before.
-    pub fn refusal(&mut self, key: usize, taken: u64, reason: Reason, is_asking: bool) {
+    pub fn refusal(
+        &mut self,
+        tally: &Tally,
+        key: usize,
+        taken: u64,
+        reason: Reason,
+        is_asking: bool,
+    ) {
         if !self.notes.is_open(key) {
             self.notes.begin(key, 0, taken, b"", b"");
         }
         if let Some(note) = self.notes.get_mut(key) {
-            let why = reason_word(reason, is_asking, note.blamed, note.origin.is_some());
+            let why = reason_word(reason, is_asking, note.blamed, note.dialled.is_some());
+            if is_of_service(why) {
+                // Its service gave no final reply: it wasn't even asked for one.
+                tally.add(Count::Messages(note.point, Reply::Missing), 1);
+            }
             self.notes.refuse(key, why, reason.status());
         }
     }
@@ -130,6 +146,9 @@ impl Reporter {
             to_user: seen.plan.point == Point::Respmod || seen.modified && is_answer(adapted_head),
         };
         self.message(tally, key, &seen, has_answered);
+        if seen.plan.point == Point::Reqmod {
+            self.sent(key, seen.received, next_is_fresh);
+        }
         let Some(outcome) = outcome else {
             return;
         };
@@ -160,12 +179,29 @@ impl Reporter {
         }
     }
 
+    /// A request's transaction is over, of whose body so many bytes came. It reached its origin, unless its connection is fresh.
+    fn sent(&mut self, key: usize, received: u64, next_is_fresh: bool) {
+        if let Some(note) = self.notes.get_mut(key) {
+            note.received = received;
+            if !next_is_fresh {
+                note.origin = note.dialled;
+            }
+        }
+    }
+
+    /// The request is out: its response is under way.
+    fn goes_on(&mut self, key: usize) {
+        if let Some(note) = self.notes.get_mut(key) {
+            note.point = Point::Respmod;
+        }
+    }
+
     /// What became of the answer.
     fn outcome(&mut self, key: usize, seen: &Seen, outcome: Outcome, evidence: Evidence) {
         let point = seen.plan.point;
         match outcome {
             Outcome::Done if point == Point::Respmod => self.ends(key, Why::Served),
-            Outcome::Done => {}
+            Outcome::Done => self.goes_on(key),
             Outcome::Fail(cause) => {
                 let why = failed_word(cause, seen, evidence);
                 // A user that is gone gets no refusal.
@@ -218,15 +254,26 @@ impl Reporter {
             note.status = 0;
         }
         let sent = taken.saturating_sub(note.taken);
-        tally.add(Count::Requests, 1);
-        tally.add(Count::Sent, sent);
-        tally.add(Count::Answers(Class::of(status_of(&note))), 1);
-        if note.refused {
-            tally.add(Count::Refusals(why_of(&note)), 1);
-        }
+        let now = moment(rt);
+        count(tally, &note, sent, elapsed_of(&note, now));
         if log.is_kept() {
-            let entry = self.notes.entry(key, &note, moment(rt), sent);
+            let entry = self.notes.entry(key, &note, now, sent);
             log.add(rt, number, &entry);
         }
+    }
+}
+
+/// Counts an exchange that is over: the bytes that went to its user, and the milliseconds that it took.
+fn count(tally: &Tally, note: &Note, sent: u64, elapsed: u64) {
+    let why = why_of(note);
+    tally.add(Count::Requests, 1);
+    tally.add(Count::Sent, sent);
+    tally.add(Count::Milliseconds, elapsed);
+    tally.add(Count::Times(Bound::of(elapsed)), 1);
+    tally.add(Count::Answers(Class::of(status_of(note))), 1);
+    if note.refused {
+        tally.add(Count::Refusals(note.point, why), 1);
+    } else if why != Why::Served {
+        tally.add(Count::Failures(note.point, why), 1);
     }
 }

@@ -50,6 +50,14 @@ pub(crate) fn asked_word(fault: Option<ClientFault>, is_fresh: bool) -> Why {
     }
 }
 
+/// Whether it is the service's doing that a message got no final reply.
+pub(crate) fn is_of_service(why: Why) -> bool {
+    matches!(
+        why,
+        Why::ServiceRefused | Why::ServiceStatus | Why::ServiceBroken | Why::ServiceDeadline
+    )
+}
+
 /// Whether this head of an adapted message is a response's, which the service answers in place of the origin.
 pub(crate) fn is_answer(head: Option<&[u8]>) -> bool {
     match head {

@@ -22,7 +22,8 @@ fn idle_connections(service: &Option<ServicePoint>) -> u64 {
 /// The descriptors that are left beside the loops': users leave as many of them to idle connections as are configured.
 fn room_of(config: &Config) -> Room {
     let idle = idle_connections(&config.reqmod).saturating_add(idle_connections(&config.respmod));
-    Room::of_system(config.shards.saturating_add(1), idle)
+    let askers = if config.metrics.is_some() { 2 } else { 1 };
+    Room::of_system(config.shards.saturating_add(1), askers, idle)
 }
 
 /// The connections to both services, which all threads share.

@@ -7,7 +7,8 @@ use crate::exchanges::DeskExchanges;
 use crate::left::Left;
 use crate::office::Office;
 use event_loop::{
-    Base, Ended, Entrance, Inbox, LoopFault, Work, add_loop, name_thread, run_loop, stop_all,
+    AdminPorts, Base, Ended, Entrance, Inbox, LoopFault, Work, add_loop, name_thread, run_loop,
+    stop_all,
 };
 use mio::net::TcpListener;
 use proxy_config::{Config, MAX_SHARDS};
@@ -33,7 +34,7 @@ fn add_base<R: Net>(
     rt: &R,
     alloc: Global,
     users: Option<Entrance>,
-    admin: Option<TcpListener>,
+    admin: Option<AdminPorts>,
     inboxes: &mut Vec<Inbox>,
     bases: &mut Vec<Option<Base>>,
 ) -> Result<(), ServeFault> {
@@ -54,7 +55,7 @@ fn make_bases<R: Net>(
     alloc: Global,
     count: u64,
     users: Entrance,
-    admin: TcpListener,
+    admin: AdminPorts,
     inboxes: &mut Vec<Inbox>,
 ) -> Result<Vec<Option<Base>>, ServeFault> {
     let mut bases = Vec::new(alloc);
@@ -169,7 +170,7 @@ pub fn run_crew<
     request: &Pool<Spare, Q>,
     response: &Pool<Spare, A>,
     gate: &G,
-    ports: (TcpListener, TcpListener),
+    ports: (TcpListener, AdminPorts),
     file: Option<File>,
     left: &Mutex<Left<B, Q, A>>,
 ) -> Result<(), ServeFault>
@@ -200,7 +201,7 @@ fn run_board<
     bank: &Bank<B>,
     pools: &P,
     gate: &G,
-    ports: (TcpListener, TcpListener),
+    ports: (TcpListener, AdminPorts),
     board: Result<N, AllocError>,
     left: &Mutex<Left<B, Q, A>>,
 ) -> Result<(), ServeFault>
@@ -255,6 +256,7 @@ fn pools_for<'a, Q: Ledger, A: Ledger, N: Common>(
     Pools {
         request,
         response,
+        idle_seconds: config.service_idle,
         waiting: Waiting {
             queues: common.queues(),
             edge,

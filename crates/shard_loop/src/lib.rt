@@ -11,5 +11,6 @@ mod left;
 mod office;
 mod running;
 
+pub use event_loop::{AdminPorts, listen_beside};
 pub use running::serve;
 pub use shard_report::{Append, ServeFault, StopAudit, Stopped};

@@ -1,6 +1,7 @@
-//! The loop of the administrator: it takes no users, so what an answer costs keeps nobody waiting.
+//! The loop of the administrator: it takes no users, so what an answer costs keeps nobody waiting. It also looks after the idle
+//! connections to services.
 
-use event_loop::{Driven, Handed, Request, Told, Work};
+use event_loop::{Admitted, Driven, Handed, Request, Told, Work};
 use mio::Registry;
 use shard_desk::{Shares, pools_of};
 use shard_report::{Append, Figures, Tally, change_capacity, stats_text};
@@ -13,6 +14,9 @@ use trace_core::Point;
 
 /// How many milliseconds lines of the log may wait to be written.
 const LINES_WAIT: u64 = 50;
+
+/// How many milliseconds may pass before idle connections to services are looked at again.
+const IDLE_WAIT: u64 = 1000;
 
 /// What became of a new capacity, as a line.
 fn changed_text(alloc: Global, changed: Result<(), CapacityFault>) -> Result<Vec<u8>, AllocError> {
@@ -82,6 +86,14 @@ impl<'a, S: Shares, F: Append> Office<'a, S, F> {
         }
     }
 
+    /// Has each loop ask the services for their options again, before its next message is planned.
+    fn refresh(&self) -> Result<Vec<u8>, AllocError> {
+        for inbox in self.shared.inboxes() {
+            inbox.refresh();
+        }
+        b"ok\n".to_vec(self.alloc)
+    }
+
     /// Opens the log's file anew, where a log is kept.
     fn reopen<R: Wait>(&mut self, rt: &R) -> Result<Vec<u8>, AllocError> {
         let log = self.shared.log();
@@ -105,8 +117,8 @@ impl<'a, S: Shares + Drop, F: Append> Work for Office<'a, S, F> {
         _registry: &Registry,
         _user: Handed,
         _millis: u64,
-    ) -> Option<usize> {
-        None
+    ) -> Admitted {
+        Admitted::Closed
     }
 
     fn make_room<R: Wait + Dial + Clock>(
@@ -122,14 +134,16 @@ impl<'a, S: Shares + Drop, F: Append> Work for Office<'a, S, F> {
         false
     }
 
+    /// Is called each second: idle connections to services that are of no use any more are closed.
     fn drive<R: Wait + Dial + Clock>(
         &mut self,
-        _rt: &R,
+        rt: &R,
         _registry: &Registry,
         _key: usize,
-        _now: u64,
+        now: u64,
     ) -> Driven {
-        Driven::Over
+        pools_of(&self.shared).tidy(rt, now);
+        Driven::Waiting
     }
 
     fn queues(&self) -> usize {
@@ -140,8 +154,9 @@ impl<'a, S: Shares + Drop, F: Append> Work for Office<'a, S, F> {
         None
     }
 
+    /// The idle connections are the one thing here that is driven.
     fn bound(&self) -> usize {
-        0
+        1
     }
 
     fn is_idle(&self) -> bool {
@@ -159,6 +174,7 @@ impl<'a, S: Shares + Drop, F: Append> Work for Office<'a, S, F> {
             Request::Capacity(n) => self.set_capacity(rt, n),
             Request::Stats => stats_text(self.alloc, self.tallies, &self.figures(rt, now)),
             Request::Reopen => self.reopen(rt),
+            Request::Refresh => self.refresh(),
             Request::Drain | Request::Stop | Request::Bad => b"bad\n".to_vec(self.alloc),
         }
     }
@@ -167,7 +183,7 @@ impl<'a, S: Shares + Drop, F: Append> Work for Office<'a, S, F> {
         if self.shared.log().is_kept() {
             Some(LINES_WAIT)
         } else {
-            None
+            Some(IDLE_WAIT)
         }
     }
 

@@ -6,6 +6,7 @@ ghost use Rattle.service_pool.specs.declared.step.TheConstants.{LEDGER_PARTS};
 
 use crate::crew::run_crew;
 use crate::left::Left;
+use event_loop::AdminPorts;
 use mio::net::TcpListener;
 use proxy_config::{Config, ServicePoint};
 use service_pool::{LEDGER_PARTS, Pool};
@@ -55,6 +56,7 @@ fn make_pool<L: Ledger>(
 /// ```
 /// let users = TcpListener::bind(rt, SocketAddr::V4(config.listen))?;
 /// let admin = TcpListener::bind(rt, SocketAddr::V4(config.admin))?;
+/// let admin = AdminPorts { admin, metrics: None };
 /// // No log is kept. It returns once the administrator has said `stop`.
 /// let stopped = serve(rt, alloc, &config, users, admin, None, &OpenGate)?;
 /// assert_eq!(rt; stopped.fault, None);
@@ -64,7 +66,7 @@ pub fn serve<G: Gate + Sync, R: Threads + Wait + Net + Dial + Append + Clock + S
     alloc: Global,
     config: &Config,
     users: TcpListener,
-    admin: TcpListener,
+    admin: AdminPorts,
     log: Option<File>,
     gate: &G,
 ) -> Result<Stopped, ServeFault> {
@@ -99,7 +101,7 @@ fn serve_with<
     alloc: Global,
     config: &'x Config,
     users: TcpListener,
-    admin: TcpListener,
+    admin: AdminPorts,
     log: Option<File>,
     gate: &'x G,
     blanks: Blanks,
@@ -152,7 +154,7 @@ fn serve_on<
     rt: &R,
     alloc: Global,
     config: &Config,
-    ports: (TcpListener, TcpListener),
+    ports: (TcpListener, AdminPorts),
     log: Option<File>,
     gate: &G,
     bank: Bank<B>,

@@ -7,7 +7,7 @@ use crate::streams::gets;
 use mio::net::TcpListener as Listener;
 use proxy_commands::read_configuration;
 use proxy_config::Config;
-use shard_loop::{Append, StopAudit, Stopped, serve};
+use shard_loop::{AdminPorts, Append, StopAudit, Stopped, serve};
 use socket_wire::Dial;
 use std::alloc::Global;
 use std::io::{self, ErrorKind, Write};
@@ -174,6 +174,8 @@ fn run_proxy<
     gate: &HoldGate,
 ) -> Option<Stopped> {
     let (users, admin) = listeners.take()?;
+    let metrics = None;
+    let admin = AdminPorts { admin, metrics };
     serve(rt, alloc, config, users, admin, None, gate).ok()
 }
 

@@ -89,6 +89,9 @@ const DEADLINES: &[Step] = &[
     On(3, GETS_TIMEOUT),
 ];
 
+/// A request's head isn't whole within its time.
+const SLOW_HEAD: &[Step] = &[New(User, &[Says(b"GET http://o.test/a."), HearsEnd])];
+
 /// Nothing comes of a service's reply.
 const SILENT_SERVICE: &[Step] = &[
     New(User, ASKS),
@@ -299,6 +302,11 @@ pub const LATE_ONES: &[Named] = &[
         "nobody waits for ever",
         Scene::Adapted(DEADLINES),
         "deadline = 1\nallow_limit = 0\n",
+    ),
+    (
+        "a head has a time in all",
+        Scene::Forwarded(SLOW_HEAD),
+        "deadline = 3600\nhead_deadline = 1\n",
     ),
     (
         "a silent service",

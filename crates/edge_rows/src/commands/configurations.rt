@@ -1,10 +1,13 @@
 //! What `adaptproxy` says of configurations, and of its errors.
+use crate::commands::arguments::arguments_of;
 use crate::commands::devices::{Feed, Sink, feed_of, put_ended};
 use proxy_commands::{
-    Error, ServeError, audit_line, check_with, limit_in, put_error, read_configuration,
+    Error, Machine, ServeError, ask, audit_line, check_with, limit_in, line_of_words, put_error,
+    read_configuration,
 };
 use shard_report::StopAudit;
 use std::alloc::Global;
+use std::io::{self, Read, Write};
 use test_rows::{NoMemory, Row, put_line, put_number, says};
 
 /// Adds what the program says of an error, and its status.
@@ -26,11 +29,12 @@ fn put_judged(alloc: Global, reader: Feed<'_>, out: &mut Vec<u8>) -> Result<(), 
 fn put_checked(alloc: Global, row: &Row<'_>, out: &mut Vec<u8>) -> Result<(), NoMemory> {
     let mut output = Sink::new(alloc, usize::MAX, false)?;
     let mut errors = Sink::new(alloc, usize::MAX, false)?;
-    let limits = row.get(b"limits");
-    match check_with(alloc, feed_of(row), &mut output, &mut errors, limits) {
-        Ok(()) => put_ended(out, 0, output.taken(), errors.taken()),
-        Err(error) => put_refusal(alloc, &error, out),
-    }
+    let machine = Machine {
+        limits: row.get(b"limits"),
+        memory: row.get(b"memory"),
+    };
+    let status = check_with(alloc, feed_of(row), &mut output, &mut errors, machine);
+    put_ended(out, status, output.taken(), errors.taken())
 }
 
 /// The error that a row names.
@@ -42,6 +46,8 @@ fn error_of(row: &Row<'_>) -> Option<ServeError> {
         Some(ServeError::Ended(Error::NoMemory))
     } else if says(word, b"listen") {
         Some(ServeError::CannotListen)
+    } else if says(word, b"answer") {
+        Some(ServeError::NoAnswer)
     } else if says(word, b"audit") {
         Some(ServeError::AuditMissing)
     } else {
@@ -73,6 +79,45 @@ fn put_audit(alloc: Global, row: &Row<'_>, out: &mut Vec<u8>) -> Result<(), NoMe
     out.extend_from_slice(audit_line(alloc, audit)?.as_slice())
 }
 
+/// The administrator's port: it hears a line, and answers.
+#[derive(Drop)]
+struct Port<'a> {
+    answer: Feed<'a>,
+    heard: Sink,
+}
+
+impl<'a> Read for Port<'a> {
+    fn read(&mut self, buf: &mut [u8]) -> io::Result<usize> {
+        self.answer.read(buf)
+    }
+}
+
+impl<'a> Write for Port<'a> {
+    fn write(&mut self, buf: &[u8]) -> io::Result<usize> {
+        self.heard.write(buf)
+    }
+
+    fn flush(&mut self) -> io::Result<()> {
+        self.heard.flush()
+    }
+}
+
+/// Adds what `tell` makes of the row's arguments and its answer, and what the port heard.
+fn put_told(alloc: Global, row: &Row<'_>, out: &mut Vec<u8>) -> Result<(), NoMemory> {
+    let mut output = Sink::new(alloc, usize::MAX, false)?;
+    let mut port = Port {
+        answer: feed_of(row),
+        heard: Sink::new(alloc, usize::MAX, false)?,
+    };
+    let line = line_of_words(alloc, &arguments_of(alloc, row)?)?;
+    match ask(alloc, &mut port, &line, &mut output) {
+        Ok(status) => put_ended(out, status, output.taken(), b"")?,
+        Err(error) => put_refusal(alloc, &error, out)?,
+    }
+    out.extend_from_slice(b"heard ")?;
+    out.extend_from_slice(port.heard.taken())
+}
+
 /// Adds the answer to a row of these calls; nothing for another one.
 pub fn put_answer(
     alloc: Global,
@@ -84,6 +129,8 @@ pub fn put_answer(
         put_judged(alloc, feed_of(row), out)
     } else if says(call, b"check") {
         put_checked(alloc, row, out)
+    } else if says(call, b"tell") {
+        put_told(alloc, row, out)
     } else if says(call, b"limit") {
         put_limit(row, out)
     } else if says(call, b"error") {

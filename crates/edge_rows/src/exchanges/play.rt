@@ -178,7 +178,7 @@ impl<'a, X: Live> Play<'a, X> {
         for _ in 0..STEPS {
             match self.live.act(rt, self.at, Task::TakeLeave) {
                 Step::Over => return,
-                Step::On => waits = 0,
+                Step::On | Step::Turned { .. } | Step::Unmoved => waits = 0,
                 Step::Waits => {
                     self.stage.wait();
                     waits = waits.saturating_add(1);
@@ -193,11 +193,12 @@ impl<'a, X: Live> Play<'a, X> {
     /// A step. Whether there may be a further one: all wait for something that comes.
     fn goes_on<R: Wait>(&mut self, rt: &R) -> bool {
         match self.live.act(rt, self.at, Task::Step) {
-            Step::On => {
+            Step::On | Step::Turned { .. } => {
                 self.at = IN_TIME;
                 self.waits = 0;
                 true
             }
+            Step::Unmoved => true,
             Step::Waits => {
                 self.stage.wait();
                 self.waits = self.waits.saturating_add(1);

@@ -1,5 +1,5 @@
-//! What an administrator's lines ask, and how a connection carries them.
-use event_loop::{AdminInput, Asker, read_request};
+//! What an administrator's lines ask, and how a connection carries them; and requests for the counters over HTTP.
+use event_loop::{AdminInput, Asker, Speech, read_request};
 use std::alloc::Global;
 use test_rows::{NoMemory, put_shown};
 use wire_kit::{Answer, MemoryWire};
@@ -46,12 +46,32 @@ fn put_said(
 /// Adds what the row's connection carries.
 fn put_connection(alloc: Global, scene: Scene<'_>, out: &mut Vec<u8>) -> Result<(), NoMemory> {
     let wire = wire(alloc, scene, b"input", b"reads", b"writes", VALUES)?;
-    let mut asker = Asker::new(alloc, wire);
+    let mut asker = Asker::new(alloc, wire, Speech::Lines);
     put_heard(&mut asker, scene.number_or(b"calls", VALUES, 1), out)?;
     if scene.has(b"answer") {
         put_said(&mut asker, scene.get(b"answer"), out)?;
     }
     Ok(())
+}
+
+/// Adds what a connection asks that speaks HTTP, and all that is written on it.
+fn put_scrape(alloc: Global, scene: Scene<'_>, out: &mut Vec<u8>) -> Result<(), NoMemory> {
+    let wire = wire(alloc, scene, b"input", b"reads", b"writes", VALUES)?;
+    let mut asker = Asker::new(alloc, wire, Speech::Http);
+    let heard = asker.hear()?;
+    put_shown(out, b"heard", &heard)?;
+    if let AdminInput::Asked(_) = heard {
+        put_flag(out, b"said", asker.say(scene.get(b"answer"))?)?;
+    }
+    put_flag(out, b"written", asker.flush())?;
+    put_shown(out, b"then", &asker.hear()?)?;
+    match asker.said_all() {
+        Some(wire) => {
+            out.extend_from_slice(wire.taken())?;
+            Ok(())
+        }
+        None => put_flag(out, b"said all", false),
+    }
 }
 
 /// Adds the answer to a row of these calls; nothing for another one.
@@ -60,6 +80,8 @@ pub fn put_answer(alloc: Global, scene: Scene<'_>, out: &mut Vec<u8>) -> Result<
         put_shown(out, b"asks", &read_request(scene.get(b"line")))
     } else if scene.is(b"call", b"connection") {
         put_connection(alloc, scene, out)
+    } else if scene.is(b"call", b"scrape") {
+        put_scrape(alloc, scene, out)
     } else {
         Ok(())
     }
