@@ -1,7 +1,12 @@
 # Completion of `adaptproxy` and `icapd` for bash.
 _adaptproxy() {
+  local words="book capacity drain refresh reopen stats stop"
+  if [ "$COMP_CWORD" -eq 2 ] && [ "${COMP_WORDS[1]}" = tell ]; then
+    # shellcheck disable=SC2207
+    COMPREPLY=($(compgen -W "$words" -- "$2"))
+  fi
   [ "$COMP_CWORD" -eq 1 ] || return 0
-  local words="serve check trace chunks --help --version"
+  words="serve check tell trace chunks --help --version"
   [ "${1##*/}" != icapd ] || words="serve check once --help --version"
   # shellcheck disable=SC2207
   COMPREPLY=($(compgen -W "$words" -- "$2"))
