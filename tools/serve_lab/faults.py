@@ -88,7 +88,7 @@ def a_retry_closes_the_broken_connection_first(bench):
         same("without room", user.reader.to_end(), refusal(503))
         user.close()
         same("the call failed", any("INJECTED" in line for line in trace.close()), True)
-        comes("counted", lambda: stats(proxy)['adaptproxy_refusals_total{why="no-memory"}'] == 1)
+        comes("counted", lambda: stats(proxy)['adaptproxy_refusals_total{point="%s",why="no-memory"}' % point] == 1)
         same("after it", ask(proxy.port, get("/bytes/3")).body, b"the")
         same("requests", len(service.requests), 6)
         same("audit", proxy.stop(), IDLE)

@@ -7,7 +7,7 @@ import time
 
 from serve_lab.cases import IDLE, case, comes, get, needs, needs_tools, post, same
 from serve_lab.lines import LINE
-from serve_lab.loopback import Icap, Reader, Server, User, ask, body_of, fields_of
+from serve_lab.loopback import Icap, Reader, Server, User, ask, body_of, fields_of, free_port
 from serve_lab.operators import Log, stats, told
 
 # A target that fills a line: 2,048 bytes of it are written.
@@ -203,4 +203,147 @@ def a_status_has_three_digits_and_a_class(bench):
     found = stats(proxy)
     same("classes", {name: found['adaptproxy_answers_total{class="%s"}' % name] for name in wanted}, wanted)
     same("all of them", (sum(wanted.values()), wanted["other"] > 0), (found["adaptproxy_requests_total"], True))
+    same("audit", proxy.stop(), IDLE)
+
+
+def page(conn, extra, count, status=b"403 Forbidden"):
+    """A page in place of the message, with these fields in its ICAP head."""
+    text, body = b"HTTP/1.1 %s\r\nContent-Type: text/html\r\nContent-Length: %d\r\n\r\n" % (status, count), body_of(count)
+    conn.sendall(b"ICAP/1.0 200 OK\r\nISTag: \"t-1\"\r\n%sEncapsulated: res-hdr=0, res-body=%d\r\n\r\n" % (extra, len(text)) + text
+                 + b"%x\r\n%s\r\n0\r\n\r\n" % (count, body))
+
+
+@case
+def a_request_that_a_service_blocks_went_to_no_origin(bench):
+    """And the bytes of the request's body that came, also of one of which only a part did."""
+    def blocks(conn, reader, head, _count):
+        Icap.rest(reader, head)
+        page(conn, b"", 100)
+    origin, log = bench.origin(), bench.keep(Log())
+    service = bench.icap(blocks, options=(b"Preview: 4", b"Transfer-Preview: *"))
+    proxy = bench.proxy(origin, log.key, [("reqmod", service.port, "/reqmod")])
+    for size in (0, 4, 5000):
+        user = User(proxy.port)
+        user.send(post("/echo", body_of(size)))
+        same("blocked", user.answer().status, 403)
+        user.close()
+        row = log.next()[0]
+        same("its line", (told(row), row[9]), (("MISS", 403, "POST", "http://o.test/echo", "NONE", "200", "-", "-"), "text/html"))
+        same("in", (int(row[14]) <= size, int(row[14]) >= min(size, 4)), (True, True))
+    same("no request", origin.heads, [])
+    same("audit", proxy.stop(), IDLE)
+
+
+@case
+def an_origin_that_got_a_byte_is_in_the_line(bench):
+    """And one that got none isn't: its connection was refused."""
+    log, closed = bench.keep(Log()), free_port()
+    proxy = bench.proxy(bench.origin(), log.key)
+    ask(proxy.port, get("/bytes/3"))
+    same("served", log.next()[0][8], "HIER_DIRECT/127.0.0.1")
+    ask(proxy.port, get("/garbage"))
+    same("no HTTP", log.next()[0][8], "HIER_DIRECT/127.0.0.1")
+    ask(proxy.port, b"GET http://127.0.0.1:%d/ HTTP/1.1\r\nHost: x\r\n\r\n" % closed)
+    row = log.next()[0]
+    same("refused", (row[8], row[12]), ("HIER_NONE/-", "origin-refused"))
+    same("audit", proxy.stop(), IDLE)
+
+
+@case
+def the_bytes_of_a_body_are_in_the_line(bench):
+    log = bench.keep(Log())
+    proxy = bench.proxy(bench.origin(), log.key)
+    user = User(proxy.port)
+    for size in (0, 1, 70000):
+        same("echo", user.ask(post("/echo", body_of(size))).body, body_of(size))
+        same("in", log.next()[0][14], str(size))
+    user.ask(get("/bytes/3"))
+    same("none", log.next()[0][14], "0")
+    user.close()
+    same("audit", proxy.stop(), IDLE)
+
+
+@case
+def a_log_without_queries_says_no_secret(bench):
+    """`log_query = false` cuts a target after its question mark."""
+    for key, wanted in (("", "?secret=1"), ("log_query = true\n", "?secret=1"), ("log_query = false\n", "?")):
+        log = bench.keep(Log())
+        proxy = bench.proxy(bench.origin(), log.key + key)
+        ask(proxy.port, get("/bytes/3?secret=1"))
+        same("served", log.next()[0][7], "http://o.test/bytes/3" + wanted)
+        ask(proxy.port, get("/bytes/3"))
+        same("without", log.next()[0][7], "http://o.test/bytes/3")
+        same("audit", proxy.stop(), IDLE)
+
+
+@case
+def a_quote_and_its_escape_differ_in_the_line(bench):
+    log = bench.keep(Log())
+    proxy = bench.proxy(bench.origin(), log.key)
+    for text, wanted in ((b'/"', "/%22"), (b"/%22", "/%2522"), (b"/%2522", "/%252522")):
+        ask(proxy.port, b"GET http://o.test" + text + b" HTTP/1.1\r\nHost: o.test\r\n\r\n")
+        same("target", log.next()[0][7], "http://o.test" + wanted)
+    same("audit", proxy.stop(), IDLE)
+
+
+@case
+def a_service_that_hangs_before_its_options_has_failed(bench):
+    """Each message that it kept from its final reply counts, at its point."""
+    closed = free_port()
+    silent = bench.icap(answer_options=False)
+    for point in ("reqmod", "respmod"):
+        for port, why in ((silent.port, "service-deadline"), (closed, "service-refused")):
+            proxy = bench.proxy(bench.origin(), "deadline = 1\n", [(point, port, "/" + point)])
+            ask(proxy.port, get("/bytes/3"))
+            comes("its end", lambda: stats(proxy)["adaptproxy_requests_total"] == 1)
+            found = stats(proxy)
+            same("%s at %s" % (why, point), [
+                found['adaptproxy_messages_total{point="%s",outcome="failed"}' % point],
+                found['adaptproxy_refusals_total{point="%s",why="%s"}' % (point, why)],
+                sum(number for name, number in found.items() if name.startswith("adaptproxy_refusals_total"))], [1, 1, 1])
+            same("audit", proxy.stop(), IDLE)
+
+
+@case
+def failures_have_a_point_and_a_reason(bench):
+    """An answer that breaks off, and users that leave before theirs: no refusal counts."""
+    origin = bench.origin()
+    proxy = bench.proxy(origin, "")
+    user = User(proxy.port)
+    user.send(get("/cut/100000"))
+    user.reader.to_end()
+    user.close()
+    gone = User(proxy.port)
+    gone.send(get("/mute"))
+    comes("the exchange", lambda: len(origin.heads) == 2)
+    gone.reset()
+    comes("both ends", lambda: stats(proxy)["adaptproxy_requests_total"] == 2)
+    found = stats(proxy)
+    same("counted", {name: number for name, number in found.items() if number and name.startswith(("adaptproxy_failures", "adaptproxy_refusals"))},
+         {'adaptproxy_failures_total{point="respmod",why="origin-broken"}': 1, 'adaptproxy_failures_total{point="respmod",why="user-gone"}': 1})
+    same("audit", proxy.stop(), IDLE)
+
+
+@case
+def the_histogram_counts_how_long_exchanges_took(bench):
+    def slow(conn, _number):
+        reader = Reader(conn)
+        while True:
+            time.sleep(float(reader.head().split(b" ")[1].rsplit(b"/", 1)[1]))
+            conn.sendall(b"HTTP/1.1 200 OK\r\nContent-Length: 2\r\n\r\nok")
+    proxy = bench.proxy(bench.keep(Server(slow)))
+    user = User(proxy.port)
+    for seconds in ("0", "0.3", "1.2"):
+        same("served", user.ask(get("/" + seconds)).body, b"ok")
+    same("refused", ask(proxy.port, b"what\r\n\r\n").status, 400)
+    comes("all", lambda: stats(proxy)["adaptproxy_requests_total"] == 4)
+    found = stats(proxy)
+    bounds = [(float(name.split('"')[1]), number) for name, number in found.items() if name.startswith("adaptproxy_exchange_seconds_bucket")]
+    same("bounds", [bound for bound, _ in bounds], [.005, .01, .025, .05, .1, .25, .5, 1, 2.5, 5, 10, float("inf")])
+    same("they rise", [number for _, number in bounds], sorted(number for _, number in bounds))
+    count = dict(bounds)
+    same("counted", (count[.25], count[.5] in (2, 3), count[1], count[2.5], count[float("inf")]), (2, True, 3, 4, 4))
+    same("all of them", found["adaptproxy_exchange_seconds_count"], 4)
+    same("seconds", 1.5 <= found["adaptproxy_exchange_seconds_sum"] < 3, True)
+    user.close()
     same("audit", proxy.stop(), IDLE)

@@ -372,12 +372,15 @@ class Icap(Server):
 
 
 class Program:
-    """A program that serves until it is ended, its configuration on standard input; `before` is the command that runs it."""
+    """A program that serves until it is ended, its configuration on standard input; `before` is the command that runs it, and
+    `handed` a listening socket that is handed over as systemd does."""
 
-    def __init__(self, path, text, descriptors=None, before=()):
+    def __init__(self, path, text, descriptors=None, before=(), handed=None):
         limit = list(before) + ([] if descriptors is None else ["prlimit", "--nofile=%d" % descriptors])
+        if handed:
+            limit += ["bash", "-c", 'exec env LISTEN_FDS=1 LISTEN_PID=$$ "$0" "$@" 3<&%d' % handed.fileno()]
         self.process = subprocess.Popen(limit + [path, "serve"], stdin=subprocess.PIPE, stdout=subprocess.PIPE,
-                                        stderr=subprocess.PIPE)
+                                        stderr=subprocess.PIPE, pass_fds=[handed.fileno()] if handed else [])
         self.process.stdin.write(text.encode())
         self.process.stdin.close()
         self.first = self.process.stdout.readline()

@@ -1,5 +1,6 @@
 """Cases of tools/try_serve: what the administrator asks for while the proxy runs."""
 import os
+import random
 import re
 import signal
 import socket
@@ -10,7 +11,7 @@ import time
 
 from serve_lab.cases import ADAPTPROXY, IDLE, case, comes, get, lent, needs_tools, post, same
 from serve_lab.lines import LINE
-from serve_lab.loopback import PATIENCE, TOP, Icap, Program, Reader, Server, User, ask, body_of, free_port
+from serve_lab.loopback import PATIENCE, TOP, Closed, Icap, Program, Reader, Server, User, ask, body_of, free_port
 
 
 def is_closed(port):
@@ -110,6 +111,86 @@ def a_drain_says_close_and_loses_no_user(bench):
     refused = [one for one in wrong if one[1] not in ("ConnectionRefusedError", "ConnectionResetError", "Closed")]
     same("wrong", refused, [])
     print("      %d users were told to close; %d had a connection that ended between two requests" % (len(closes), len(wrong)))
+
+
+class Restless:
+    """A user that asks again and again on one connection, after pauses of up to a tenth of a second, until an answer says `close`."""
+
+    def __init__(self, port, number):
+        self.user, self.number = User(port), number
+        self.answers, self.lost = 0, None
+        self.thread = threading.Thread(target=self.run, daemon=True)
+        self.thread.start()
+
+    def run(self):
+        chance, answered = random.Random(self.number), time.time()
+        while True:
+            time.sleep(chance.uniform(0, 0.1))
+            silent = time.time() - answered
+            try:
+                answer = self.user.ask(get("/bytes/300"))
+            except (Closed, OSError) as error:
+                # The proxy lets a user go that says nothing for a second, as one may on a busy machine.
+                if silent < 0.9:
+                    self.lost = "request %d, after %.3f s: %r" % (self.answers + 1, silent, error)
+                break
+            answered = time.time()
+            self.answers += 1
+            if (answer.status, answer.body) != (200, body_of(300)):
+                self.lost = "answer %d: %d" % (self.answers, answer.status)
+            if answer.fields.get("connection") == "close":
+                break
+        self.user.close()
+
+
+@case
+def a_drain_loses_no_request(bench):
+    """Two hundred users with random pauses, both points, ten drains: a connection ends after an answer that says so, and no other way
+    for a user that asks."""
+    origin, port = bench.origin(), bench.icapd("max = 64")
+    services = [("reqmod", port, "/reqmod/pass"), ("respmod", port, "/respmod/pass")]
+    chance, answers, lost = random.Random(101), 0, []
+    for drain in range(10):
+        proxy = bench.proxy(origin, "wait = 60\nrows = 512\nshards = 2", services)
+        users = [Restless(proxy.port, 1000 * drain + number) for number in range(200)]
+        comes("an answer for each", lambda: all(user.answers for user in users), PATIENCE)
+        time.sleep(chance.uniform(0, 0.3))
+        same("drain", proxy.say("drain"), "ok")
+        same("ended", proxy.ended(), ((IDLE + "\n").encode(), b"", 0))
+        for user in users:
+            user.thread.join(PATIENCE)
+            answers += user.answers
+            lost += ["drain %d, user %d, %s" % (drain + 1, user.number, user.lost)] if user.lost else []
+    print("      %d answers, %d requests lost" % (answers, len(lost)))
+    same("lost", lost, [])
+
+
+@case
+def a_port_that_systemd_holds_refuses_nobody(bench):
+    """A port that is handed over stays open while one process ends and the next begins: who connects meanwhile waits. It has to be that
+    of `listen`."""
+    origin, port, admin = bench.origin(), free_port(), free_port()
+    text = 'listen = "127.0.0.1:%%d"\nadmin = "127.0.0.1:%d"\n[hosts]\n"o.test" = "127.0.0.1:%d"\n' % (admin, origin.port)
+    with socket.create_server(("127.0.0.1", port), backlog=1024) as handed:
+        other = bench.keep(Program(ADAPTPROXY, text % free_port(), handed=handed))
+        out, _errors, status = other.ended()
+        same("another address", (other.first + out, status), (b"", 1))
+        kept = None
+        for _ in range(3):
+            program = bench.keep(Program(ADAPTPROXY, text % port, handed=handed))
+            same("listening", program.first, b"listening\n")
+            if kept:
+                same("one who came between", kept.answer().body, b"the")
+            users = [User(port) for _ in range(20)]
+            for user in users:
+                same("a user", user.ask(get("/bytes/4")).body, b"the ")
+            with socket.create_connection(("127.0.0.1", admin), PATIENCE) as sock:
+                sock.sendall(b"drain\n")
+                same("drain", Reader(sock).to_end(), b"ok\n")
+            same("the end", program.ended(), ((IDLE + "\n").encode(), b"", 0))
+            kept = User(port)
+            kept.send(get("/bytes/3"))
+    same("one whom nobody serves", kept.reader.to_end(), b"")
 
 
 @case
@@ -239,7 +320,7 @@ class Log:
 
 
 def told(row):
-    """Of a line: whose answer, its status, method, target, where it went, and the three fields of ours."""
+    """Of a line: whose answer, its status, method, target, where it went, and the first three fields of ours."""
     return (row[3][4:], int(row[4]), row[6], row[7], row[8].split("/")[0][5:], row[10], row[11], row[12])
 
 
@@ -507,8 +588,12 @@ def a_log_that_cant_be_opened_ends_the_program(bench):
     same("ended", (program.first, program.ended()), (b"", (b"", b"adaptproxy: config log\n", 2)))
 
 
-def stats(proxy):
-    """The numbers of `stats` by their names and labels, and that the text is OpenMetrics."""
+# What may stand after the name of a family of this kind.
+ENDINGS = {"counter": ("_total",), "gauge": ("",), "histogram": ("_bucket", "_count", "_sum")}
+
+
+def stats_text(proxy):
+    """The answer to `stats`."""
     with socket.create_connection(("127.0.0.1", proxy.admin), PATIENCE) as sock:
         sock.sendall(b"stats\n")
         text = b""
@@ -517,8 +602,13 @@ def stats(proxy):
             if not piece:
                 raise AssertionError("no end: %r" % text[-100:])
             text += piece
+    return text.decode()
+
+
+def stats(proxy):
+    """The numbers of `stats` by their names and labels, and that the text is OpenMetrics."""
     numbers, family, kind = {}, None, None
-    for line in text.decode().splitlines()[:-1]:
+    for line in stats_text(proxy).splitlines()[:-1]:
         words = line.split(" ", 3)
         if words[:2] == ["#", "TYPE"]:
             same("one family once", words[2] in [name.split("{")[0] for name in numbers], False)
@@ -527,8 +617,8 @@ def stats(proxy):
             same("help", words[2], family)
         else:
             name, value = line.rsplit(" ", 1)
-            same("of its family", name.split("{")[0], family + ("_total" if kind == "counter" else ""))
-            numbers[name] = int(value)
+            same("of its family", name.split("{")[0] in [family + ending for ending in ENDINGS[kind]], True)
+            numbers[name] = float(value) if name.endswith("_seconds_sum") else int(value)
     return numbers
 
 
@@ -549,8 +639,9 @@ def the_counters_count(bench):
     found = stats(proxy)
     wanted = {
         "adaptproxy_requests_total": 6, 'adaptproxy_answers_total{class="2xx"}': 5,
-        'adaptproxy_answers_total{class="5xx"}': 1, 'adaptproxy_refusals_total{why="unknown-host"}': 1,
-        'adaptproxy_refusals_total{why="busy"}': 0, 'adaptproxy_messages_total{point="reqmod",outcome="plain"}': 5,
+        'adaptproxy_answers_total{class="5xx"}': 1, 'adaptproxy_refusals_total{point="reqmod",why="unknown-host"}': 1,
+        'adaptproxy_refusals_total{point="reqmod",why="busy"}': 0, "adaptproxy_exchange_seconds_count": 6,
+        'adaptproxy_exchange_seconds_bucket{le="+Inf"}': 6, 'adaptproxy_messages_total{point="reqmod",outcome="plain"}': 5,
         'adaptproxy_messages_total{point="respmod",outcome="204"}': 5, "adaptproxy_retries_total": 0,
         'adaptproxy_user_bytes_total{direction="out"}': heads + len(b"HTTP/1.1 502 Bad Gateway\r\nContent-Length: 0\r\n"
                                                                     b"Connection: close\r\n\r\n"),
@@ -591,3 +682,133 @@ def goaccess_reads_the_log(bench):
         general = text.read()
     figures = {name: int(re.search(r'"%s": ?(\d+)' % name, general).group(1)) for name in ("valid_requests", "failed_requests")}
     same("goaccess", figures, {"valid_requests": 12, "failed_requests": 0})
+
+
+@case
+def many_administrators_dont_hold_each_other_up(bench):
+    """Fifteen connections that ask for the counters without a pause: others have their answers, and `stop` ends the proxy at once."""
+    proxy = bench.proxy(bench.origin())
+    with socket.create_connection(("127.0.0.1", proxy.admin), PATIENCE) as sock:
+        start = time.time()
+        sock.sendall(b"stats\n")
+        Reader(sock).until(b"# EOF\n")
+        one = time.time() - start
+    over, answers = threading.Event(), [0]
+
+    def asks():
+        with socket.create_connection(("127.0.0.1", proxy.admin), PATIENCE) as sock:
+            reader = Reader(sock)
+            try:
+                while not over.is_set():
+                    sock.sendall(b"stats\n" * 64)
+                    for _ in range(64):
+                        reader.until(b"# EOF\n")
+                        answers[0] += 1
+            except (OSError, ValueError, Closed):
+                return
+    askers = [threading.Thread(target=asks, daemon=True) for _ in range(15)]
+    for asker in askers:
+        asker.start()
+    comes("answers", lambda: answers[0] > 30, PATIENCE)
+    slowest = 0
+    for _ in range(5):
+        start = time.time()
+        same("book", proxy.say("book")[:7], "rows 0 ")
+        slowest = max(slowest, time.time() - start)
+    start = time.time()
+    same("audit", proxy.stop(), IDLE)
+    late = time.time() - start
+    over.set()
+    print("      book after %.2f s at most, the end %.2f s after stop, beside %d counts of %.3f s" % (slowest, late, answers[0], one))
+    # A turn has a line of each connection at most, so that two have 32 at most.
+    same("in time", (slowest < 0.5 + 40 * one, late < 1.5 + 40 * one), (True, True))
+
+
+def over_http(port, text):
+    """The answer to a text that is sent to the port of the counters."""
+    with socket.create_connection(("127.0.0.1", port), PATIENCE) as sock:
+        sock.sendall(text)
+        return Reader(sock).to_end()
+
+
+@case
+def counters_are_read_over_http(bench):
+    needs_tools("curl")
+    origin = bench.origin()
+    port = free_port()
+    proxy = bench.proxy(origin, 'metrics = "127.0.0.1:%d"' % port)
+    same("served", ask(proxy.port, get("/bytes/3")).body, b"the")
+    page = "http://127.0.0.1:%d" % port
+
+    def curl(*words):
+        return subprocess.run(["curl", "-sS", "-i", "-m", "10", *words], stdout=subprocess.PIPE, check=True).stdout
+    comes("the count", lambda: b"adaptproxy_requests_total 1\n" in curl(page + "/metrics"))
+    head, text = curl(page + "/metrics").split(b"\r\n\r\n")
+    same("head", head, b"HTTP/1.1 200 OK\r\nContent-Type: application/openmetrics-text; version=1.0.0; charset=utf-8\r\n"
+         b"Connection: close\r\nContent-Length: %d" % len(text))
+    same("text", (text.startswith(b"# "), text.endswith(b"\n# EOF\n")), (True, True))
+    same("with a query", curl(page + "/metrics?x=1")[:15], b"HTTP/1.1 200 OK")
+    for words, status in ((["/metric"], 404), (["/metrics/"], 404), (["/"], 404), (["/metrics", "-d", "x"], 405), (["/metrics", "-X", "PUT"], 405),
+                          (["/metrics", "-H", "X: " + "x" * 9000], 400), (["/metrics", "-H", "X y: z"], 400)):
+        answer = curl(page + words[0], *words[1:])
+        same(words, (int(answer[9:12]), answer.endswith(b"\r\n\r\n"), b"\r\nConnection: close\r\n" in answer), (status, True, True))
+    for text, wanted in ((b"stop\n", b"HTTP/1.1 400"), (b"GET /metrics HTTP/2.0\r\n\r\n", b"HTTP/1.1 400"),
+                         (b"\0\0", b"HTTP/1.1 400"), (b"GET /metrics HTTP/1.0\r\n\r\nGET /x HTTP/1.1\r\n\r\n", b"HTTP/1.1 200")):
+        if wanted:
+            same(text, over_http(port, text)[:12], wanted)
+    # Sixteen at once, and each further one takes the place of that which is silent for longest; none of the users'.
+    silent = [socket.create_connection(("127.0.0.1", port), PATIENCE) for _ in range(40)]
+    start = time.time()
+    same("beside silent ones", curl(page + "/metrics")[:15], b"HTTP/1.1 200 OK")
+    same("at once", time.time() - start < 2, True)
+    same("descriptors", proxy.descriptors() < 50, True)
+    same("the administrator", proxy.say("book")[:7], "rows 0 ")
+    for sock in silent:
+        sock.close()
+    for host in ("127.0.0.1", "127.1.2.3", "0.0.0.0"):
+        request = b"GET http://%s:%d/metrics HTTP/1.1\r\nHost: x\r\n\r\n" % (host.encode(), port)
+        same("through the proxy", ask(proxy.port, request).status, 502)
+    same("audit", proxy.stop(), IDLE)
+    same("closed", is_closed(port), True)
+    taken = 'listen = "127.0.0.1:%d"\nadmin = "127.0.0.1:%d"\nmetrics = "127.0.0.1:%d"\n' % (free_port(), free_port(), origin.port)
+    ended = bench.keep(Program(ADAPTPROXY, taken))
+    same("a port that is taken", ended.ended()[2], 1)
+
+
+@case
+def a_proxy_takes_the_place_of_another_without_a_gap(bench):
+    """A second process listens on the same port before the first one drains: users find the port open throughout."""
+    origin = bench.origin()
+    first = bench.proxy(origin, "deadline = 20")
+    over, served, wrong = threading.Event(), [0], []
+
+    def users():
+        while not over.is_set():
+            try:
+                same("served", ask(first.port, get("/bytes/3")).body, b"the")
+                served[0] += 1
+            except (OSError, ValueError, Closed, AssertionError) as error:
+                wrong.append(repr(error))
+    threads = [threading.Thread(target=users) for _ in range(4)]
+    for thread in threads:
+        thread.start()
+    comes("users", lambda: served[0] > 20)
+    text = 'listen = "127.0.0.1:%d"\nadmin = "127.0.0.1:%%d"\n[hosts]\n"o.test" = "127.0.0.1:%d"\n' % (first.port, origin.port)
+    _, errors, status = bench.keep(Program(ADAPTPROXY, text % first.admin)).ended()
+    same("the same administrator's port", (errors[:25], status), (b"adaptproxy: cannot listen", 1))
+    admin = free_port()
+    second = bench.keep(Program(ADAPTPROXY, text % admin))
+    same("beside it", second.first, b"listening\n")
+    before = served[0]
+    same("drain", first.say("drain"), "ok")
+    same("the first one ends", first.ended()[1:], (b"", 0))
+    after = served[0]
+    comes("more users", lambda: served[0] > after + 50, PATIENCE)
+    over.set()
+    for thread in threads:
+        thread.join()
+    print("      %d served, %d of them during the change; wrong: %s" % (served[0], after - before, wrong[:3]))
+    same("wrong", wrong, [])
+    with socket.create_connection(("127.0.0.1", admin), PATIENCE) as sock:
+        sock.sendall(b"stop\n")
+    same("audit", second.ended()[0], (IDLE + "\n").encode())

@@ -1,24 +1,26 @@
-"""A case of tools/try_serve: a real Prometheus scrapes the counters, by the lines of docs/RUNNING.md."""
+"""Cases of tools/try_serve: a real Prometheus scrapes the counters, by the lines of docs/RUNNING.md, and fires the alerts of
+docs/METRICS.md."""
 import json
 import os
 import re
 import subprocess
 import tempfile
+import threading
 import time
 import urllib.parse
 import urllib.request
 
 from serve_lab.cases import IDLE, case, comes, get, needs_tools, post, same
-from serve_lab.loopback import TOP, User, ask, body_of, free_port
-from serve_lab.operators import stats
+from serve_lab.loopback import TOP, Icap, Reader, Server, User, ask, body_of, free_port
+from serve_lab.operators import stats, stats_text
 
 
 class Tool:
     """A program that runs until the case ends, and what it prints."""
 
-    def __init__(self, words, folder, **env):
+    def __init__(self, words, folder):
         self.log = open(os.path.join(folder, "%s.log" % os.path.basename(words[0])), "w+")
-        self.process = subprocess.Popen(words, stdout=self.log, stderr=self.log, env={**os.environ, **env})
+        self.process = subprocess.Popen(words, stdout=self.log, stderr=self.log)
 
     def close(self):
         self.process.terminate()
@@ -27,10 +29,10 @@ class Tool:
 
 
 def documented():
-    """The command of socat and the configuration of Prometheus, as docs/RUNNING.md has them."""
+    """The key of the proxy and the configuration of Prometheus, as docs/RUNNING.md has them."""
     with open(os.path.join(TOP, "docs", "RUNNING.md")) as text:
         page = text.read()
-    return re.search(r"^socat TCP-LISTEN:9129.*$", page, re.M).group(0), re.search(r"^scrape_configs: .*$", page, re.M).group(0)
+    return re.search(r'metrics = "127.0.0.1:9129"', page).group(0), re.search(r"^scrape_configs: .*$", page, re.M).group(0)
 
 
 class Prometheus:
@@ -40,7 +42,8 @@ class Prometheus:
         self.port = free_port()
         path = os.path.join(folder, "prometheus.yml")
         with open(path, "w") as text:
-            text.write("global: {scrape_interval: 500ms, scrape_timeout: 500ms}\n%s\n" % scrape.replace("127.0.0.1:9129", page))
+            text.write("global: {scrape_interval: 500ms, scrape_timeout: 500ms, evaluation_interval: 500ms}\n%s\n" % (
+                scrape.replace("127.0.0.1:9129", page)))
         self.tool = bench.keep(Tool(["prometheus", "--config.file=" + path, "--storage.tsdb.path=" + os.path.join(folder, "data"),
                                      "--web.listen-address=127.0.0.1:%d" % self.port], folder))
 
@@ -74,21 +77,19 @@ def by_labels(name):
 
 @case
 def prometheus_scrapes_the_counters(bench):
-    needs_tools("prometheus", "socat", "sh")
+    needs_tools("prometheus")
     origin = bench.origin()
     service = bench.icap(options=(b"Preview: 4", b"Transfer-Preview: *"))
-    proxy = bench.proxy(origin, "shards = 2\n", [("reqmod", service.port, "/reqmod"), ("respmod", service.port, "/respmod", 5)])
+    key, scrape = documented()
+    page = "127.0.0.1:%d" % free_port()
+    proxy = bench.proxy(origin, "shards = 2\n" + key.replace("127.0.0.1:9129", page), [("reqmod", service.port, "/reqmod"), ("respmod", service.port, "/respmod", 5)])
     user = User(proxy.port)
     for size in (3, 3000, 30000):
         user.ask(get("/bytes/%d" % size))
         user.ask(post("/echo", body_of(size)))
     same("refused", ask(proxy.port, b"GET http://x.test/ HTTP/1.1\r\nHost: x.test\r\n\r\n").status, 502)
     comes("the counts", lambda: stats(proxy)["adaptproxy_requests_total"] == 7)
-    command, scrape = documented()
     with tempfile.TemporaryDirectory() as folder:
-        page = "127.0.0.1:%d" % free_port()
-        words = command.replace("9129", page.split(":")[1]).replace("/usr/local/share/adaptproxy", os.path.join(TOP, "packaging")).split()
-        bench.keep(Tool(words, folder, ADMIN="127.0.0.1:%d" % proxy.admin))
         prometheus = Prometheus(bench, folder, scrape, page)
         comes("a scrape", lambda: prometheus.target() == ("up", ""), 30)
         # All that is counted rests by now, but for the seconds.
@@ -99,7 +100,7 @@ def prometheus_scrapes_the_counters(bench):
         same("numbers", {name: found[name] for name in wanted if name not in seconds},
              {name: number for name, number in wanted.items() if name not in seconds})
         kinds = {name: rows[0]["type"] for name, rows in prometheus.ask("metadata").items() if name.startswith("adaptproxy_")}
-        same("kinds", set(kinds.values()), {"counter", "gauge"})
+        same("kinds", set(kinds.values()), {"counter", "gauge", "histogram"})
         before = prometheus.ask("query", query="adaptproxy_requests_total")["result"][0]["value"][1]
         user.ask(get("/bytes/5"))
         comes("the next one", lambda: prometheus.ask("query", query="adaptproxy_requests_total")["result"][0]["value"][1] == "8", 10)
@@ -110,3 +111,80 @@ def prometheus_scrapes_the_counters(bench):
         same("failed", failed, "0")
     user.close()
     same("audit", proxy.stop(), IDLE)
+
+
+def rules():
+    """The rules for alerts, as docs/METRICS.md has them, over seconds in place of minutes."""
+    with open(os.path.join(TOP, "docs", "METRICS.md")) as text:
+        found = re.search(r"^```yaml\n(groups:.*?)^```", text.read(), re.M | re.S).group(1)
+    return found.replace("[5m]", "[10s]").replace("for: 1m", "for: 1s").replace("for: 5m", "for: 1s")
+
+
+def classic(text):
+    """The text in Prometheus' older format, which promtool reads: there a counter's family is named as its numbers are."""
+    counters = re.findall(r"^# TYPE (\S+) counter$", text, re.M)
+    return re.sub(r"^# (TYPE|HELP) (\S+)", lambda found: "# %s %s" % (found.group(1), found.group(2) + "_total" * (found.group(2) in counters)),
+                  text, flags=re.M)
+
+
+@case
+def prometheus_fires_the_documented_alerts(bench):
+    """Each of the three once: a service that hangs, one with a single connection, and a slow origin. promtool takes rules and names."""
+    needs_tools("prometheus", "promtool")
+
+    def slow(conn, _number):
+        reader = Reader(conn)
+        while True:
+            reader.head()
+            time.sleep(1.2)
+            conn.sendall(b"HTTP/1.1 200 OK\r\nContent-Length: 2\r\n\r\nok")
+
+    def holds(conn, reader, head, _count):
+        Icap.rest(reader, head)
+        time.sleep(1.5)
+        conn.sendall(Icap.NO_MODIFICATION)
+    silent = bench.icap(answer_options=False)
+    pages = ["127.0.0.1:%d" % free_port() for _ in range(3)]
+    keys = [documented()[0].replace("127.0.0.1:9129", page) + "\n" for page in pages]
+    proxies = [bench.proxy(bench.keep(Server(slow)), "deadline = 5\n" + keys[0]),
+               bench.proxy(bench.origin(), "deadline = 1\n" + keys[1], [("respmod", silent.port, "/respmod")]),
+               bench.proxy(bench.origin(), keys[2], [("reqmod", bench.icap(holds).port, "/reqmod", 1)])]
+    ends = threading.Event()
+
+    def asks(proxy):
+        while not ends.is_set():
+            try:
+                ask(proxy.port, get("/bytes/3"))
+            except OSError:
+                return
+    users = [threading.Thread(target=asks, args=(proxy,), daemon=True) for proxy in proxies for _ in range(3)]
+    with tempfile.TemporaryDirectory() as folder:
+        path = os.path.join(folder, "rules.yml")
+        with open(path, "w") as text:
+            text.write(rules())
+        checked = subprocess.run(["promtool", "check", "rules", path], capture_output=True, text=True)
+        same("rules", (checked.returncode, "3 rules found" in checked.stdout), (0, True))
+        lines = subprocess.run(["promtool", "check", "metrics"], input=classic(stats_text(proxies[0])), capture_output=True, text=True)
+        same("metrics", (lines.returncode, lines.stderr), (0, ""))
+        scrape = "rule_files: [%s]\nscrape_configs: [{job_name: adaptproxy, static_configs: [{targets: [%s]}]}]" % (
+            path, ", ".join("'%s'" % page for page in pages))
+        prometheus = Prometheus(bench, folder, scrape, pages[0])
+        for one in users:
+            one.start()
+        wanted = {"ServiceFails", "ServiceIsFull", "ExchangesAreSlow"}
+        fired = set()
+
+        def all_fired():
+            try:
+                found = prometheus.ask("alerts")["alerts"]
+            except OSError:
+                return False
+            fired.update(alert["labels"]["alertname"] for alert in found if alert["state"] == "firing")
+            return fired >= wanted
+        comes("all three", all_fired, 60)
+        same("fired", fired, wanted)
+        ends.set()
+        for one in users:
+            one.join(10)
+    for proxy in proxies:
+        same("audit", proxy.stop()[:11], "audit rows ")

@@ -1,4 +1,5 @@
 """What any user, any origin and any shortage can do to the proxy: seats, resets, descriptors, threads, ends."""
+import collections
 import os
 import re
 import shutil
@@ -104,16 +105,34 @@ def a_user_is_spared_where_many_have_just_sent(bench):
 def a_crowd_on_a_slow_line_is_served(bench):
     origin = bench.origin()
     proxy = bench.proxy(origin, "shards = 1\nrows = 4\ndeadline = 600")
-    idle = [User(proxy.port) for _ in range(3)]
-    for user in idle:
-        same("kept", user.ask(get("/bytes/3")).body, b"the")
-    # Seven users are taken in before a byte of their heads comes: three idle ones go for them, none of them for another.
-    crowd = [User(proxy.port) for _ in range(7)]
-    time.sleep(0.1)
-    for user in crowd:
-        user.send(get("/bytes/5"))
-    same("the crowd", [user.answer().status for user in crowd], [200] * 4 + [503] * 3)
-    same("closed are the idle ones", [is_open(user) for user in idle], [False] * 3)
+    def crowd_of(count):
+        crowd = [User(proxy.port) for _ in range(count)]
+        time.sleep(0.1)
+        return crowd
+
+    def statuses(crowd):
+        for user in crowd:
+            user.send(get("/bytes/5"))
+        return [user.answer().status for user in crowd]
+    busy = [User(proxy.port) for _ in range(2)]
+    for user in busy:
+        user.send(get("/mute"))
+    comes("two exchanges", lambda: sum(b"/mute" in head for head in origin.heads) == 2)
+    idle = User(proxy.port)
+    same("kept", idle.ask(get("/bytes/3")).body, b"the")
+    # Five users are taken in before a byte of their heads comes: the idle one goes for them, and none of them for another, since they
+    # have half of the seats.
+    crowd = crowd_of(5)
+    same("the crowd", statuses(crowd), [200] * 2 + [503] * 3)
+    same("closed is the idle one", is_open(idle), False)
+    for user in crowd + busy:
+        user.close()
+    origin.release.set()
+    comes("free seats", lambda: ask(proxy.port, get("/bytes/5")).status == 200)
+    # Where they have more than half of the seats, the oldest go for the others.
+    crowd = crowd_of(7)
+    same("closed are the oldest", [is_open(user) for user in crowd], [False] * 3 + [True] * 4)
+    same("the crowd", statuses(crowd[3:]), [200] * 4)
     # Later they are spared as any other is that hasn't sent its head.
     for user in crowd:
         user.close()
@@ -147,6 +166,7 @@ def a_user_that_resets_ends_its_exchange(bench):
         comes("its end", lambda: settled(proxy, 0).startswith("rows 0 ") and proxy.descriptors() <= 12, 3)
         print("      ended %.0f ms after the reset" % (1000 * (time.time() - before)))
         same("audit", proxy.stop(), IDLE)
+    # One that closes its sending half alone is answered, as long as nobody wants what it has.
     proxy = bench.proxy(origin, "deadline = 600", [("respmod", service.port, "/respmod/x")])
     half = User(proxy.port)
     heads = len(service.requests)
@@ -155,6 +175,191 @@ def a_user_that_resets_ends_its_exchange(bench):
     half.sock.shutdown(socket.SHUT_WR)
     time.sleep(0.5)
     same("half-closed", proxy.say("book").split(" claimed")[0], "rows 1 held 3000")
+
+
+def ended_users(proxy, origin, count):
+    """Users that have asked an origin which says nothing, and have closed their connections."""
+    before = len(origin.heads)
+    for _ in range(count):
+        user = User(proxy.port)
+        user.send(get("/mute"))
+        user.close()
+    comes("%d exchanges" % count, lambda: len(origin.heads) >= before + min(count, 512))
+
+
+@case
+def seats_are_taken_from_users_that_have_ended_first(bench):
+    origin = bench.origin()
+    proxy = bench.proxy(origin, "shards = 1\nrows = 512\ndeadline = 600", descriptors=4096)
+    ended_users(proxy, origin, 520)
+    same("no transaction", proxy.say("book")[:7], "rows 0 ")
+    same("the others", statuses_of(proxy, 20, ["/bytes/3", "/bytes/5"]), [200] * 40)
+    origin.release.set()
+    same("audit", proxy.stop(), IDLE)
+
+
+@case
+def users_that_have_ended_go_before_idle_ones(bench):
+    origin = bench.origin()
+    proxy = bench.proxy(origin, "shards = 1\nrows = 4\ndeadline = 600")
+    idle = [User(proxy.port) for _ in range(2)]
+    for user in idle:
+        same("kept", user.ask(get("/bytes/3")).body, b"the")
+    halves = [User(proxy.port) for _ in range(2)]
+    for number, user in enumerate(halves):
+        user.send(get("/mute"))
+        comes("an exchange", lambda: sum(b"/mute" in head for head in origin.heads) == number + 1)
+        user.sock.shutdown(socket.SHUT_WR)
+    time.sleep(0.1)
+    further = User(proxy.port)
+    same("a further one", further.ask(get("/bytes/5")).body, body_of(5))
+    same("idle ones stay", [is_open(user) for user in idle], [True, True])
+    same("closed is the one that ended first", is_open(halves[0]), False)
+    origin.release.set()
+    # The other isn't in the way: it gets its answer, which is that the origin said nothing.
+    same("answered", halves[1].answer().status, 502)
+    same("audit", proxy.stop(), IDLE)
+
+
+@case
+def descriptors_are_taken_from_users_that_have_ended_first(bench):
+    origin = bench.origin()
+    proxy = bench.proxy(origin, "shards = 1\nrows = 512\ndeadline = 600", descriptors=120)
+    most = 30
+    ended_users(proxy, origin, most)
+    start = time.time()
+    same("the others", statuses_of(proxy, 8, ["/bytes/3", "/bytes/5"]), [200] * 16)
+    same("at once", time.time() - start < 5, True)
+    origin.release.set()
+    same("audit", proxy.stop(), IDLE)
+
+
+@case
+def connections_to_a_service_are_taken_from_users_that_have_ended(bench):
+    """Sixteen users have the connections to a service that hears them and says nothing, and close theirs."""
+    def reply(conn, reader, head, count):
+        if count > 16:
+            return service.no_modification(conn, reader, head, count)
+        return never(conn, reader, head, count)
+    for text, point in (("", "reqmod"), ("wait = 5", "reqmod"), ("", "respmod"), ("wait = 5", "respmod")):
+        origin = bench.origin()
+        service = bench.icap(reply, [b"Max-Connections: 16"])
+        proxy = bench.proxy(origin, "shards = 1\ndeadline = 600\n" + text, [(point, service.port, "/%s/x" % point, 16)])
+        users = [User(proxy.port) for _ in range(16)]
+        for number, user in enumerate(users):
+            user.send(get("/bytes/3"))
+            comes("a message at the service", lambda: len(service.requests) == number + 1)
+        if not text:
+            same("all are leased", ask(proxy.port, get("/bytes/3")).status, 503)
+        waiter = User(proxy.port)
+        if text:
+            waiter.send(get("/bytes/4"))
+            time.sleep(0.2)
+        for user in users[:8]:
+            user.sock.shutdown(socket.SHUT_WR)
+        start = time.time()
+        if not text:
+            time.sleep(0.1)
+            waiter.send(get("/bytes/4"))
+        same("one who wants a connection", waiter.answer().body, b"the ")
+        print("      %s, %s: served after %.2f s" % (point, text or "wait = 0", time.time() - start))
+        same("served in time", time.time() - start < 1.5, True)
+        same("one that isn't in the way stays", sum(is_open(user) for user in users[:8]), 7)
+        same("the others", statuses_of(proxy, 4, ["/bytes/3", "/bytes/5"]), [200] * 8)
+        same("nobody else goes", all(is_open(user) for user in users[8:]), True)
+        for user in users:
+            user.reset()
+        same("audit", proxy.stop(), IDLE)
+
+
+@case
+def a_user_goes_to_a_thread_that_has_a_seat(bench):
+    """Users are handed to the threads in turn: where both seats of one are taken, the other takes its users too."""
+    origin = bench.origin()
+    proxy = bench.proxy(origin, "shards = 2\nrows = 8\ndeadline = 600")
+    busy, number = [], 0
+
+    def hold():
+        busy.append(User(proxy.port))
+        busy[-1].send(get("/mute"))
+        comes("an exchange", lambda: sum(b"/mute" in head for head in origin.heads) == len(busy))
+    for _ in range(8):
+        hold()
+        same("in between", ask(proxy.port, get("/bytes/3")).status, 200)
+    same("beside a full thread", [ask(proxy.port, get("/bytes/3")).status for _ in range(40)], [200] * 40)
+    for _ in range(8):
+        hold()
+    for _ in range(4):
+        is_refused("no seat in either", proxy.port, get("/bytes/3"), 503)
+    origin.release.set()
+    for user in busy:
+        user.reader.to_end()
+    same("audit", proxy.stop(), IDLE)
+
+
+@case
+def whole_requests_are_served_beside_a_flood_of_silent_connections(bench):
+    """600 connections a second that say nothing, and 64 seats."""
+    origin = bench.origin()
+    proxy = bench.proxy(origin, "shards = 1\nrows = 64\ndeadline = 600", descriptors=2048)
+    over, flood, opened = threading.Event(), collections.deque(), [0]
+
+    def silent():
+        while not over.is_set():
+            flood.append(User(proxy.port))
+            opened[0] += 1
+            if len(flood) > 400:
+                flood.popleft().close()
+            time.sleep(1 / 700)
+    thread = threading.Thread(target=silent)
+    thread.start()
+    comes("a flood", lambda: len(flood) > 200)
+    start, before, statuses = time.time(), opened[0], []
+    for _ in range(60):
+        statuses.append(ask(proxy.port, get("/bytes/3")).status)
+        time.sleep(0.05)
+    rate = (opened[0] - before) / (time.time() - start)
+    over.set()
+    thread.join()
+    for user in flood:
+        user.close()
+    print("      %d of 60 were served beside %.0f connections a second" % (statuses.count(200), rate))
+    same("statuses", (set(statuses), rate > 300), ({200}, True))
+    same("audit", proxy.stop(), IDLE)
+
+
+def processor_time(program):
+    """Seconds of a processor that a program has had."""
+    with open("/proc/%d/stat" % program.process.pid) as text:
+        words = text.read().rsplit(")", 1)[1].split()
+    return (int(words[11]) + int(words[12])) / os.sysconf("SC_CLK_TCK")
+
+
+@case
+def a_user_that_waits_for_descriptors_keeps_no_processor_busy(bench):
+    for shards in (1, 2):
+        origin = bench.origin()
+        proxy = bench.proxy(origin, "shards = %d\nrows = 64\ndeadline = 600" % shards, descriptors=120 + 2 * (shards - 1))
+        busy = [User(proxy.port) for _ in range(30)]
+        for number, user in enumerate(busy):
+            user.send(get("/mute"))
+            comes("an exchange", lambda: len(origin.heads) == number + 1)
+        waiting = User(proxy.port)
+        waiting.send(get("/bytes/3"))
+        time.sleep(0.2)
+        before = processor_time(proxy)
+        time.sleep(2)
+        late = processor_time(proxy) - before
+        print("      shards = %d: %.2f s of a processor in 2 s" % (shards, late))
+        same("busy", late < 0.5, True)
+        busy[0].reset()
+        start = time.time()
+        same("served", waiting.answer().body, b"the")
+        same("soon", time.time() - start < 1, True)
+        origin.release.set()
+        for user in busy:
+            user.close()
+        same("audit", proxy.stop(), IDLE)
 
 
 @case
@@ -220,6 +425,120 @@ def bulk_doesnt_hold_up_others(bench):
             most = max(most, reads)
     print("      at most %d reads of an answer between two waits" % most)
     same("reads", (most > 0, most <= 8), (True, True))
+    same("audit", proxy.stop(), IDLE)
+
+
+class Crowd:
+    """Users who ask for this path again and again; `statuses` are those of their answers."""
+
+    def __init__(self, proxy, path, count):
+        self.proxy, self.path, self.ends, self.statuses = proxy, path, False, []
+        self.threads = [threading.Thread(target=self.run, daemon=True) for _ in range(count)]
+        for thread in self.threads:
+            thread.start()
+
+    def run(self):
+        while not self.ends:
+            try:
+                self.statuses.append(ask(self.proxy.port, get(self.path)).status)
+            except (Closed, OSError) as error:
+                self.statuses.append(repr(error))
+
+    def end(self):
+        self.ends = True
+        for thread in self.threads:
+            thread.join(PATIENCE)
+
+
+def wait_of_others(proxy, seconds=2):
+    """The median of the seconds that one more user of the thread waits for a small answer."""
+    waits, end = [], time.time() + seconds
+    while time.time() < end:
+        start = time.time()
+        same("another's answer", ask(proxy.port, get("/bytes/5")).status, 200)
+        waits.append(time.time() - start)
+    return sorted(waits)[len(waits) // 2]
+
+
+@case
+def interim_responses_without_end_are_refused(bench):
+    """An origin that sends interim responses without end: after 32 of them the next one is a fault, and others hardly wait for that.
+    They put off no deadline."""
+    def exchange(conn, _number):
+        path = Reader(conn).head().split(b" ")[1]
+        while path == b"/storm":
+            conn.sendall(b"HTTP/1.1 100 Continue\r\n\r\n" * 1000)
+        while path == b"/drip":
+            conn.sendall(b"HTTP/1.1 100 Continue\r\n\r\n")
+            time.sleep(0.3)
+        if path.startswith(b"/few/"):
+            conn.sendall(b"HTTP/1.1 103 Hints\r\nLink: x\r\n\r\n" * int(path[5:]))
+        conn.sendall(b"HTTP/1.1 200 OK\r\nContent-Length: 5\r\n\r\nhello")
+    proxy = bench.proxy(bench.keep(Server(exchange)), "shards = 1\ndeadline = 3")
+    for count in (1, 8):
+        crowd = Crowd(proxy, "/storm", count)
+        wait = wait_of_others(proxy)
+        crowd.end()
+        print("      others wait %.0f ms beside %d" % (1000 * wait, count))
+        same("statuses", set(crowd.statuses), {502})
+        same("others wait %.3f s" % wait, wait < 0.1 * PATIENCE / 20, True)
+    same("as many as are read", ask(proxy.port, get("/few/32")).body, b"hello")
+    same("one more", ask(proxy.port, get("/few/33")).status, 502)
+    start = time.time()
+    same("the deadline", ask(proxy.port, get("/drip")).status, 504)
+    took = time.time() - start
+    same("after %.1f s" % took, 3 <= took < 3 + PATIENCE / 5, True)
+    same("audit", proxy.stop(), IDLE)
+
+
+class Downloads:
+    """Users who read an answer without end."""
+
+    def __init__(self, proxy, path, count):
+        self.users = [User(proxy.port) for _ in range(count)]
+        for user in self.users:
+            user.send(get(path))
+            threading.Thread(target=self.read, args=(user,), daemon=True).start()
+
+    def read(self, user):
+        try:
+            while user.sock.recv(1 << 18):
+                pass
+        except OSError:
+            pass
+
+    def end(self):
+        for user in self.users:
+            user.sock.shutdown(socket.SHUT_RDWR)
+            user.close()
+
+
+@case
+def framing_counts_as_work(bench):
+    """Others wait no more than twice as long beside four downloads in chunks of one byte, or with padded sizes, as beside ordinary
+    ones."""
+    kinds = {b"/ordinary": b"1000\r\n" + b"a" * 4096 + b"\r\n", b"/single": b"1\r\na\r\n", b"/padded": b"0" * 249 + b"1\r\na\r\n"}
+
+    def exchange(conn, _number):
+        path = Reader(conn).head().split(b" ")[1]
+        if path in kinds:
+            conn.sendall(b"HTTP/1.1 200 OK\r\nTransfer-Encoding: chunked\r\n\r\n")
+            piece = kinds[path] * (65536 // len(kinds[path]))
+            while True:
+                conn.sendall(piece)
+        conn.sendall(b"HTTP/1.1 200 OK\r\nContent-Length: 5\r\n\r\nhello")
+    proxy = bench.proxy(bench.keep(Server(exchange)), "shards = 1")
+    waits = {}
+    for path in kinds:
+        downloads = Downloads(proxy, path.decode(), 4)
+        time.sleep(0.5)
+        waits[path] = wait_of_others(proxy)
+        downloads.end()
+        settled(proxy)
+        print("      others wait %.0f ms beside %s" % (1000 * waits[path], path.decode()))
+    for path in kinds:
+        same("%r: %.3f s, beside ordinary ones %.3f" % (path, waits[path], waits[b"/ordinary"]),
+             waits[path] <= 2 * PATIENCE / 20 * waits[b"/ordinary"], True)
     same("audit", proxy.stop(), IDLE)
 
 

@@ -20,7 +20,7 @@ def configurations_are_refused_in_order(bench):
             (least + "retry = 1", "config retry", 2), (least + 'hosts = 1', "config hosts", 2),
             (least + '[hosts]\n"a" = "b"', "config hosts.a", 2), (least + "[reqmod]", "config reqmod.host", 2),
             (least + '[respmod]\nhost = "127.0.0.1"\npath = "x"', "config respmod.path", 2),
-            (least + "zebra = 1\nant = 1", "config ant", 2), (taken, "cannot listen", 1)]
+            (least + "zebra = 1\nant = 1", "config ant", 2), (taken, "cannot listen: 127.0.0.1:%d" % origin.port, 1)]
     for text, error, status in rows:
         program = bench.keep(Program(ADAPTPROXY, text))
         if error is not None:

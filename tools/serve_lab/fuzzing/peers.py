@@ -48,6 +48,9 @@ class Peer:
         return random.Random("%s %s %s" % (self.seed, plan.mark, word))
 
 
+INTERIM = (b"HTTP/1.1 103 Hints\r\nLink: x\r\n\r\n", b"HTTP/1.1 100 Continue\r\n\r\n", b"HTTP/1.1 102 Processing\r\nX: %s\r\n\r\n" % (b"y" * 500))
+
+
 class FuzzOrigin(Peer):
     """Answers what the target's identity asks for, whole or broken."""
 
@@ -106,7 +109,7 @@ class FuzzOrigin(Peer):
 
     @staticmethod
     def answer(own, plan):
-        interim = b"HTTP/1.1 103 Hints\r\nLink: x\r\n\r\n" if plan.interim else b""
+        interim = b"".join(own.choice(INTERIM) for _ in range(plan.interim))
         extra = b"X-Mark: <r%s>\r\n" % plan.mark + own.choice((b"", b"", b"Server:  x \r\n", b"Connection: keep-alive\r\n"))
         body = filled(b"r", plan.mark, plan.answer_size)
         has_body = not plan.bodiless()
@@ -131,6 +134,21 @@ BROKEN_OPTIONS = (b"ICAP/1.0 404 No\r\nISTag: \"f-1\"\r\nEncapsulated: null-body
                   b"ICAP/1.0 200 OK\r\nMethods: REQMOD, RESPMOD\r\nEncapsulated: null-body=0\r\n\r\n", b"ICAP/1.0 200 O", b"what\r\n\r\n")
 
 
+def folded(own, text):
+    """An ICAP head, now and then with a field that goes on over further lines, as c-icap's X-Violations-Found does, and with fields
+    that are folded after their colon."""
+    kind = own.random() if b"\r\n" in text else 1
+    if kind < 0.15:
+        line, rest = text.split(b"\r\n", 1)
+        fold = own.choice((b"\r\n\t", b"\r\n ", b"\n\t", b"\r\n \t "))
+        field = b"X-Violations-Found: 1" + fold + fold.join((b"-", b"Eicar-Test-Signature.UNOFFICIAL", b"0", b"0")) + b"\r\n"
+        return line + b"\r\n" + (field + rest if kind < 0.1 else rest[:-2] + field + rest[-2:])
+    if kind < 0.25:
+        line, rest = text.split(b"\r\n", 1)
+        return line + b"\r\n" + rest.replace(b": ", own.choice((b":\r\n\t", b": \r\n ", b":\n  ")))
+    return text
+
+
 class FuzzService(Peer):
     """An ICAP service for both points: gives messages back, adapts them, answers 204 or by itself, or breaks."""
 
@@ -138,24 +156,28 @@ class FuzzService(Peer):
         super().__init__(seed, found)
         self.asked = {}
 
+    def tag(self):
+        """Its state, of which messages have to tell: it changes every hundred messages, and those that bring a new one have the proxy
+        ask for options again."""
+        return b"\"f-%d\"" % (len(self.asked) // 100)
+
     async def serve(self, own, wire):
         while True:
             head = await wire.head()
             if head.startswith(b"OPTIONS"):
-                wire.write(self.options(own, head))
+                wire.write(folded(own, self.options(own, head)))
                 continue
             async with asyncio.timeout(PATIENCE):
                 if not await self.reply(own, wire, head):
                     return
 
-    @staticmethod
-    def options(own, head):
+    def options(self, own, head):
         method = b"REQMOD" if b"/reqmod" in head.split(b"\r\n")[0] else b"RESPMOD"
         if own.random() < 0.01:
             return own.choice(BROKEN_OPTIONS)
-        return (b"ICAP/1.0 200 OK\r\nMethods: %s\r\nISTag: \"f-1\"\r\n%sMax-Connections: %d\r\nPreview: %d\r\nTransfer-Preview: *\r\n"
+        return (b"ICAP/1.0 200 OK\r\nMethods: %s\r\nISTag: %s\r\n%sMax-Connections: %d\r\nPreview: %d\r\nTransfer-Preview: *\r\n"
                 b"Transfer-Ignore: gif\r\nTransfer-Complete: exe\r\nOptions-TTL: %d\r\nEncapsulated: null-body=0\r\n\r\n"
-                % (method, own.choice((b"", b"Allow: 204\r\n")), 2 if b"/few" in head else 200, own.choice((0, 4, 1024)),
+                % (method, self.tag(), own.choice((b"", b"Allow: 204\r\n")), 2 if b"/few" in head else 200, own.choice((0, 4, 1024)),
                    own.choice((0, 2, 3600))))
 
     async def reply(self, own, wire, head):
@@ -179,7 +201,7 @@ class FuzzService(Peer):
         if fault == "closes" and turn == 1:
             return False
         if offer.is_open and (offer.verdict.continues or offer.word == "same" and own.random() < 0.3):
-            wire.write(b"ICAP/1.0 100 Continue\r\n" + own.choice((b"", b"X: y\r\n")) + b"\r\n")
+            wire.write(folded(own, b"ICAP/1.0 100 Continue\r\n" + own.choice((b"", b"X: y\r\n")) + b"\r\n"))
             offer.is_preview = False
             if offer.may_be_hasty():
                 return await self.answer_first(own, wire, offer)
@@ -258,15 +280,15 @@ class Offer:
 
     def answer(self, own):
         """A 204 where it may be; else a 200 with the message as it came, with another one, or with an answer of the service's own."""
-        if self.word == "same" and (self.is_open or (self.is_preview or self.is_allowed) and own.random() < 0.8):
-            return b"ICAP/1.0 204 No Modifications\r\nISTag: \"f-1\"\r\nEncapsulated: null-body=0\r\n\r\n"
-        if self.word == "same" and self.verdict.is_hasty and self.is_allowed:
-            return b"ICAP/1.0 204 No Modifications\r\nISTag: \"f-1\"\r\nEncapsulated: null-body=0\r\n\r\n"
+        tag = self.service.tag()
+        if self.word == "same" and (self.is_open or (self.is_preview or self.is_allowed) and own.random() < 0.8
+                                    or self.verdict.is_hasty and self.is_allowed):
+            return folded(own, b"ICAP/1.0 204 No Modifications\r\nISTag: %s\r\nEncapsulated: null-body=0\r\n\r\n" % tag)
         kind, heads, has_body, body = self.message(own)
         part = kind if has_body else b"null"
         comma = own.choice((b", ", b",", b" ,\t"))
-        text = b"ICAP/1.0 200 OK\r\nISTag: \"f-1\"\r\nEncapsulated: %s-hdr=0%s%s-body=%d\r\n\r\n" % (kind, comma, part, len(heads))
-        return text + heads + (chunks(own, body) if has_body else b"")
+        text = b"ICAP/1.0 200 OK\r\nISTag: %s\r\nEncapsulated: %s-hdr=0%s%s-body=%d\r\n\r\n" % (tag, kind, comma, part, len(heads))
+        return folded(own, text) + heads + (chunks(own, body) if has_body else b"")
 
     def message(self, own):
         """The message of a 200: which kind, its head, whether it has a body, and the body."""

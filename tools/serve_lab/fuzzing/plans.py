@@ -68,13 +68,20 @@ def garbage(own):
     return own.randbytes(own.choice((1, 100, 20000)))
 
 
+# How many bytes a size line has at most.
+SIZE_LINE = 256
+
+
 def chunks(own, body, last=b"0"):
-    """A body in chunks, of any sizes and spellings."""
+    """A body in chunks, of any sizes and spellings; now and then of a byte each, and with sizes that are padded as far as they may be."""
     text, at = [], 0
+    kind = own.random()
+    sizes = (1,) if kind < 0.04 else (1, 2, 7, 100, 4096, 9000, 70000, 70000)
+    spellings = (b"%%0%dx" % (SIZE_LINE - 20), b"%032x") if 0.03 < kind < 0.08 else (b"%x", b"%X", b"000%x")
     while at < len(body):
-        size = min(own.choice((1, 2, 7, 100, 4096, 9000, 70000, 70000)), len(body) - at)
+        size = min(own.choice(sizes if at < 5000 else (4096, 9000, 70000)), len(body) - at)
         mark = own.choice((b"", b"", b"", b" ", b";x=y", b";a=\"b;ieof\""))
-        spelt = own.choice((b"%x", b"%X", b"000%x")) % size
+        spelt = own.choice(spellings) % size
         text.append(b"%s%s\r\n%s\r\n" % (spelt, mark, body[at:at + size]))
         at += size
     return b"".join(text) + last + b"\r\n" + own.choice((b"", b"", b"T: 1\r\n")) + b"\r\n"
@@ -117,7 +124,8 @@ class Plan:
         self.status = chosen(own, 200, (204, 4), (304, 4), (404, 5))
         self.framing = own.choice(("length", "length", "chunked", "close"))
         self.answer_size = some_size(own)
-        self.interim = own.random() < 0.1
+        # How many interim heads come first: 32 are read.
+        self.interim = chosen(own, 0, (1, 5), (2, 2), (5, 2), (32, 1))
         self.origin = chosen(own, None, ("changed", 4), ("cut", 2), ("trailing", 2), ("garbage", 0.5), ("early", 1), ("refuses", 1),
                              ("mute", 0.1))
         if self.framing == "close" and self.origin in ("cut", "trailing"):

@@ -14,6 +14,10 @@ class Cut(Exception):
     """The connection ended within an answer."""
 
 
+class GivenUp(Exception):
+    """The connection was reset after its last answer, where there are too few places."""
+
+
 def request(own, plan):
     """The head and the body that the user of a plan sends, broken where it breaks them."""
     mark = plan.mark.decode()
@@ -126,8 +130,12 @@ class FuzzUser:
         try:
             async with asyncio.timeout(PATIENCE if plan.is_sound() else 3):
                 return await self.read(plan, strength)
+        except GivenUp:
+            self.found.count("sound ones whose connection was reset after their last answer, for want of a seat")
         except (Ended, Reset, Cut) as error:
             word = "cut within an answer" if isinstance(error, Cut) else "closed before an answer"
+            if strength == 3 and is_first and not self.seats and not isinstance(error, Cut):
+                word = "closed at once for want of a seat"
             if strength == 3 and isinstance(error, Cut) and not self.found.is_late():
                 self.wrong("%r was %s: %s", plan.mark, word, error)
             self.found.count("%s %s%s" % ("sound ones" if strength == 3 else "others", word, "" if is_first else " to a later request"))
@@ -164,6 +172,10 @@ class FuzzUser:
             await self.wire.message(body, fields, to_head or status in (204, 304))
         except (Ended, Reset) as error:
             self.judge_bytes(plan, head, body)
+            if strength == 3 and not self.seats and isinstance(error, Reset) and fields.get(b"connection", b"").lower() == b"close":
+                # All was said to it, and bytes of its further requests are dropped: the place of one that is at its end is given to
+                # another user. Its bytes that weren't read yet go on as a reset.
+                raise GivenUp from error
             raise Cut("%s after %d bytes of %r" % (type(error).__name__, len(body), head[:120])) from error
         self.found.count("answered %d" % status)
         is_refusal = status in STATUSES and head == refusal(status)
