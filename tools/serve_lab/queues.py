@@ -141,7 +141,7 @@ def exchanges_wait_in_the_order_of_arrival(bench):
 
 @case
 def users_that_close_leave_the_queue(bench):
-    """Also where only their sending half is closed, before they wait or while they do. Who closes it while its message moves is answered."""
+    """Also where only their sending half is closed, before they wait or while they do. Who closes it while nobody waits is answered."""
     for point, wanted in (("reqmod", [0, 2, 4, 5, 0]), ("respmod", [3, 2, 4, 5, 3])):
         sizes, origin = [], bench.origin()
         _service, proxy, first, held = one_held(bench, "wait = 30\nshards = 4", sizes, point=point, origin=origin)
@@ -161,7 +161,6 @@ def users_that_close_leave_the_queue(bench):
         early.sock.shutdown(socket.SHUT_WR)
         same("half closed before it waits", early.is_ended(), True)
         wait_for(proxy, 3)
-        first.sock.shutdown(socket.SHUT_WR)
         held.set()
         same("the first user", first.answer().body, body_of(3))
         for number in (1, 3, 4):
