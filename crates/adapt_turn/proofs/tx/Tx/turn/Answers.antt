@@ -1,5 +1,5 @@
 use Rattle.adapt_turn.proofs.Together.{goes_none, goes_then}
-use Rattle.std.proofs.Common.{inl, inr, sym, ◌∙◌, ap, ◌≡◌, refl, subst, true, false, [], Some, None, ℕ, arith, ◌+◌, ◌-◌, ◌≤◌}
+use Rattle.std.proofs.Common.{inl, inr, sym, ◌∙◌, ap, ◌≡◌, refl, subst, true, false, [], Some, None, ℕ, arith, ◌+◌, ◌≤◌}
 use Rattle.trace_core.specs.declared.history.Cause.TheVariants.{Deadline, Stopping}
 use Rattle.plan_rules.specs.Room.{original_room, adapted_room}
 use Rattle.adapt_hold.specs.Holding.{Holding, shows}
