@@ -328,6 +328,20 @@ impl SourceSide {
         self.head_fault
     }
 
+    /// Whether an interim response was read before the message (RFC 9110, section 15.2).
+    pub fn has_interims(&self) -> bool
+        ensures { result ≡ false ↔ self.now.interims ≡ 0 }
+    {
+        self.interims > 0
+    }
+
+    /// The bytes that came and weren't taken yet: of a head that isn't whole, or is refused, all of it that came.
+    pub fn raw(&self) -> &[u8]
+        ensures { result.now ≡ self.now.raw.items }
+    {
+        self.raw.as_slice()
+    }
+
     /// Gives back the room for raw bytes, if there is no such byte.
     fn free_memory(&mut self)
         ensures { GivesBack self.old self.new }

@@ -97,7 +97,7 @@ pub fn heard_says_a_byte()
     ensures { (x : Seen) (adapted read : List ℕ) (s : ReadSide) → SideHeard x adapted read s → ((x.heard ≡ true) ↔ (0 < length read)) }
 {}
 
-/// Once the reader is over, its tag and its word on closing are those of the final response's ICAP head.
+/// Once the reader is over, its tag, what the service found and its word on closing are those of the final response's ICAP head.
 pub fn the_final_head_says()
     ensures { (x : Seen) (adapted read : List ℕ) (r : Reader) → r.stage ≡ stages.Over → HasHeard x adapted read r → WasSaid x read r }
 {}

@@ -22,7 +22,7 @@ mod stage;
 pub use events::Framed;
 pub use options::{OptionsSide, OptionsStage};
 pub use reader::ReplyReader;
-pub use said::says_close;
+pub use said::{Found, says_close};
 pub use service::ServiceSide;
 pub use side::ReplySide;
 pub use stage::Stage;

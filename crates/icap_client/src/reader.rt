@@ -5,7 +5,7 @@ ghost use Rattle.icap_head.specs.Heads.{Response, HasResponse, response_parts, R
 ghost use Rattle.icap_head.specs.declared.reading.HeadFault.TheVariants as heads;
 ghost use Rattle.trace_core.specs.History.{seen, shows};
 ghost use Rattle.icap_client.specs.Events.{listed, MayCome, MayHear, MayAllFollow, ad_sum, adapted_events};
-ghost use Rattle.icap_client.specs.Said.{tag_in, says_close};
+ghost use Rattle.icap_client.specs.Said.{no_remarks, remarks_in, says_close};
 ghost use Rattle.icap_client.specs.Heard.{noted, Reader, in_stage, KeepsLimits, KeepsHead, Stays};
 ghost use Rattle.icap_client.specs.Laws.{first_reader};
 ghost use Rattle.icap_client.specs.Hearing.{ReaderHears, PassesWithoutEvent, MustWait, HasNoEmptyLine};
@@ -20,7 +20,7 @@ use crate::body::read_body;
 use crate::events::{Framed, FramedHead, adapted_events, event_list, may_all, payload_of, refusal};
 use crate::lists::has_body;
 use crate::replies::{Reply, may_reply, reply_of};
-use crate::said::says_close;
+use crate::said::{KeptRemarks, says_close};
 use crate::stage::Stage;
 use adapt_bytes::{behind, front};
 use adapt_sides::ClientFault;
@@ -40,17 +40,16 @@ pub struct ReplyReader {
     stage: Stage,
     layout: Option<Layout>,
     head: Vec<u8>,
-    tag: Option<Vec<u8>>,
+    remarks: KeptRemarks,
     closes: bool,
 }
 
 impl Model for ReplyReader {
-    ghost use Rattle.std.specs.Prelude.{option_map};
     ghost use Rattle.icap_client.specs.Heard.{Reader, KeepsLimits};
 
     ghost Value = { Reader };
 
-    ghost view = { λ r. record { point = r.point; stage = r.stage; layout = r.layout; head = r.head.items; tag = option_map (λ tag. tag.items) r.tag; closes = r.closes } };
+    ghost view = { λ r. record { point = r.point; stage = r.stage; layout = r.layout; head = r.head.items; remarks = r.remarks; closes = r.closes } };
 
     ghost invariant = { λ r. KeepsLimits r.stage };
 }
@@ -58,7 +57,7 @@ impl Model for ReplyReader {
 impl ReplyReader {
     /// A reader before the first byte of a response.
     pub fn new(alloc: Global, point: Point) -> ReplyReader
-        ensures { result ≡ record { point = point; stage = Stage.Replies; layout = None; head = []; tag = None; closes = false } }
+        ensures { result ≡ record { point = point; stage = Stage.Replies; layout = None; head = []; remarks = no_remarks; closes = false } }
     {
         ReplyReader {
             alloc,
@@ -66,7 +65,7 @@ impl ReplyReader {
             stage: Stage::Replies,
             layout: None,
             head: Vec::new(alloc),
-            tag: None,
+            remarks: KeptRemarks::none(),
             closes: false,
         }
     }
@@ -78,7 +77,7 @@ impl ReplyReader {
         self.stage = Stage::Replies;
         self.layout = None;
         self.head = Vec::new(self.alloc);
-        self.tag = None;
+        self.remarks = KeptRemarks::none();
         self.closes = false;
     }
 
@@ -89,15 +88,12 @@ impl ReplyReader {
 
     /// Keeps what a response says beside its message.
     fn note(&mut self, value: &IcapResponse) -> Result<(), AllocError>
-        ensures ok { OnOk result (self.new ≡ noted self.old (tag_in (response_parts value.now).fields) (says_close (response_parts value.now).fields)) }
+        ensures ok { OnOk result (self.new ≡ noted self.old (remarks_in (response_parts value.now).fields) (says_close (response_parts value.now).fields)) }
         ensures err { OnErr result (self.new ≡ self.old) }
     {
-        let tag = match value.fields.first(b"ISTag") {
-            Some(tag) => Some(tag.to_vec(self.alloc)?),
-            None => None,
-        };
+        let remarks = KeptRemarks::of(self.alloc, &value.fields)?;
         self.closes = says_close(&value.fields);
-        self.tag = tag;
+        self.remarks = remarks;
         Ok(())
     }
 
@@ -114,7 +110,7 @@ impl ReplyReader {
         requires limits { LimitsOf reply }
         requires head { HasResponse raw.now (response_parts value.now) size × (size ≤ length raw.now) }
         requires says { SpellsReply self.old.point (response_parts value.now) reply }
-        requires said { (self.old.tag ≡ tag_in (response_parts value.now).fields) × (self.old.closes ≡ says_close (response_parts value.now).fields) }
+        requires said { (self.old.remarks ≡ remarks_in (response_parts value.now).fields) × (self.old.closes ≡ says_close (response_parts value.now).fields) }
         ensures within { IfOk result (λ framed. framed.used ≤ length raw.now) }
         ensures silent { IfOk result (λ framed. ad_sum (listed framed.event) ≡ 0) }
         ensures hears { IfOk result (λ framed. ReaderHears (shows state.now) self.old self.new (listed framed.event) (take framed.used raw.now) []) }

@@ -17,6 +17,7 @@ ghost use Rattle.icap_client.specs.Turns.{ServiceSent, ServiceHeard, is_whole_re
 use crate::answered::is_answered;
 use crate::due::{decide, has_last_stop};
 use crate::request::request_head;
+use crate::said::Found;
 use crate::side::ReplySide;
 use crate::stage::Stage;
 use adapt_sides::{ClientFault, Turn, push_event};
@@ -190,9 +191,16 @@ impl ServiceSide {
 
     /// The tag that the last answer's head had.
     pub fn tag(&self) -> Option<&[u8]>
-        ensures { option_copied result ≡ self.now.replies.reader.tag }
+        ensures { option_copied result ≡ self.now.replies.reader.remarks.tag }
     {
         self.replies.tag()
+    }
+
+    /// What the last answer's head says that the service found in the message: of each value the first 256 bytes.
+    pub fn found(&self) -> Found<'_>
+        ensures { (option_copied result.infection ≡ self.now.replies.reader.remarks.infection) × (option_copied result.virus ≡ self.now.replies.reader.remarks.virus) }
+    {
+        self.replies.found()
     }
 
     /// Whether the last answer's head says that the connection closes.

@@ -16,6 +16,7 @@ ghost use Rattle.wire_kit.specs.Past.{Past};
 use crate::events::{Framed, event_list};
 use crate::kept::Kept;
 use crate::reader::ReplyReader;
+use crate::said::Found;
 use crate::stage::Stage;
 use adapt_sides::{ClientFault, Filled, Turn};
 use arrayvec::ArrayVec;
@@ -106,9 +107,16 @@ impl ReplySide {
 
     /// The tag that the last answer's head had.
     pub fn tag(&self) -> Option<&[u8]>
-        ensures { option_copied result ≡ self.now.reader.tag }
+        ensures { option_copied result ≡ self.now.reader.remarks.tag }
     {
         self.reader.tag()
+    }
+
+    /// What the last answer's head says that the service found in the message: of each value the first 256 bytes.
+    pub fn found(&self) -> Found<'_>
+        ensures { (option_copied result.infection ≡ self.now.reader.remarks.infection) × (option_copied result.virus ≡ self.now.reader.remarks.virus) }
+    {
+        self.reader.found()
     }
 
     /// Whether the last answer's head says that the connection closes.

@@ -1,11 +1,11 @@
 -- A connection, read by read.
 use Rattle.std.proofs.Common.{◌≡◌, ℕ, ◌++◌, List, [], take, refl, sym, ap, ◌∙◌, subst, append-nil, Bool, true, false, inl, inr, ◌⊎◌, Option, Some, None}
-use Rattle.std.specs.Io.KnownBytes.{Consumes, IsAtEnd}
+use Rattle.std.specs.Io.KnownBytes.{Consumes, IsAtEnd, Keeps}
 use Rattle.std.proofs.KnownBytes.{Consumes-nil, Consumes-trans, Appends-nil, Appends-trans}
 use Rattle.icap_services.specs.Texts.{Shown, shown}
 use Rattle.icap_server.specs.declared.side.ServerSide.{ServerSide}
 use Rattle.icap_server.specs.Answers.{Answers, AnswersUntilMemoryRanOut}
-use Rattle.icap_server.specs.Connection.{AreAll, AnswersAll, AnswersFront, WritesOn, ServesOn}
+use Rattle.icap_server.specs.Connection.{AreAll, AnswersAll, AnswersFront, AnswersRead, WritesOn, ServesOn}
 use Rattle.icap_server.specs.Served.{HasServed, Serves, is_closed, has_run_out}
 use Rattle.icap_server.proofs.Feeding.{closed_more, open_has_memory}
 use Rattle.icap_server.proofs.Steps.{answers_of, answers_until}
@@ -67,19 +67,30 @@ answers_so_far s reader left old new side h =
     let P : Shown → Type 0 = λ x. Answers x h.come h.text in
     subst P h.settings (answers_of (shown side.settings) h.come h.text side.stage side.input.items side.body.items h.served (open_has_memory side.stage h.open_side))
 
--- the answers so far are those to a front
-pub front : (s : Shown) (reader left old new : Option (List ℕ)) (side : ServerSide) → ServesOn s reader left old new side → AnswersFront s reader old new
-front s reader left old new side h = record {
-  front = h.come;
-  left = left;
+-- the answers so far are those to what was read
+pub read : (s : Shown) (reader left old new : Option (List ℕ)) (side : ServerSide) → ServesOn s reader left old new side → AnswersRead s reader left old new
+read s reader left old new side h = record {
+  read = h.come;
   text = h.text;
   cut = h.cut;
   answers = answers_so_far s reader left old new side h;
   written = h.written;
 }
 
+kept_cut : (left left' : Option (List ℕ)) → Keeps left left' → Consumes left left' []
+kept_cut None left' same = tt
+kept_cut (Some bytes) None same = absurd same
+kept_cut (Some bytes) (Some more) same = sym same
+
+-- so they are after a read that failed
+pub read_kept : (s : Shown) (reader left left' old new : Option (List ℕ)) (side : ServerSide) → ServesOn s reader left old new side → Keeps left left' → AnswersRead s reader left' old new
+read_kept s reader left left' old new side h same = read s reader left' old new side (stays s reader left left' old new side h (kept_cut left left' same))
+
+-- and where nothing was written since, they are those to a prefix
 pub front_kept : (s : Shown) (reader left old new new' : Option (List ℕ)) (side : ServerSide) → ServesOn s reader left old new side → new' ≡ new → AnswersFront s reader old new'
-front_kept s reader left old new new' side h same = let P : Option (List ℕ) → Type 0 = λ x. AnswersFront s reader old x in subst P (sym same) (front s reader left old new side h)
+front_kept s reader left old new new' side h same =
+    let P : Option (List ℕ) → Type 0 = λ x. AnswersRead s reader left old x in
+    (left, subst P (sym same) (read s reader left old new side h))
 
 -- nothing more comes
 ends : (s : Shown) (reader left old new : Option (List ℕ)) (side : ServerSide) → ServesOn s reader left old new side → IsAtEnd left → AnswersAll s reader old new

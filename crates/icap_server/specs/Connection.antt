@@ -20,14 +20,17 @@ pub record AnswersAll (s : Shown) (reader old new : Option (List ℕ)) : Type 0 
   pub answers : Answers s bytes text ⊎ AnswersUntilMemoryRanOut s bytes text
   pub written : Appends old new text
 
--- the answers to a prefix of the reader's bytes were added
-pub record AnswersFront (s : Shown) (reader old new : Option (List ℕ)) : Type 0 where
-  pub front : List ℕ
-  pub left : Option (List ℕ)
+-- the answers to just what was read of the reader's bytes were added; it has these left
+pub record AnswersRead (s : Shown) (reader left old new : Option (List ℕ)) : Type 0 where
+  pub read : List ℕ
   pub text : List ℕ
-  pub cut : Consumes reader left front
-  pub answers : Answers s front text
+  pub cut : Consumes reader left read
+  pub answers : Answers s read text
   pub written : Appends old new text
+
+-- the answers to a prefix of the reader's bytes were added
+abbrev pub AnswersFront : Shown → Option (List ℕ) → Option (List ℕ) → Option (List ℕ) → Type 0
+AnswersFront s reader old new = (left : Option (List ℕ)) × AnswersRead s reader left old new
 
 -- what a side answers to a piece was added
 pub record WritesOn (side : ServerSide) (piece : List ℕ) (side' : ServerSide) (old new : Option (List ℕ)) : Type 0 where

@@ -1,7 +1,7 @@
 //! `icapd once`: standard input is one connection's bytes.
 ghost use Rattle.std.specs.Prelude.{◌≡◌, ◌+◌, ◌≢◌, ◌⊎◌, IfOk, IfErr, IfSome, OnOk, take};
 ghost use Rattle.adapt_bytes.specs.declared.limits.TheConstants.{MAX_INPUT};
-ghost use Rattle.icap_server.specs.Connection.{AnswersAll, AnswersFront};
+ghost use Rattle.icap_server.specs.Connection.{AnswersAll};
 ghost use Rattle.icapd_commands.specs.Once.{default_shown};
 ghost use Rattle.icap_services.specs.Texts.{shown};
 
@@ -51,14 +51,18 @@ fn default_settings(alloc: Global) -> Result<Settings, NoMemory>
 /// an error that was answered.
 ///
 /// `ReadFailed` and `WriteFailed` where the reader or the writer fails; `NoMemory` where memory ran out.
-pub fn once<R: Read + Drop, W: Write>(alloc: Global, reader: R, writer: &mut W) -> Result<(), Error>
+pub fn once<R: Read + Drop, W: Write>(
+    alloc: Global,
+    mut reader: R,
+    writer: &mut W,
+) -> Result<(), Error>
     ensures all { OnOk result (AnswersAll default_shown (R.remaining reader) (W.contents writer.old) (W.contents writer.new)) }
     ensures failed { IfErr result (λ error. (error ≡ Error.NoMemory) ⊎ (error ≡ Error.ReadFailed) ⊎ (error ≡ Error.WriteFailed)) }
 {
     let Ok(settings) = default_settings(alloc) else {
         return Err(Error::NoMemory);
     };
-    match serve(alloc, settings, reader, writer) {
+    match serve(alloc, settings, &mut reader, writer) {
         Ok(()) => Ok(()),
         Err(ServeFault::Read) => Err(Error::ReadFailed),
         Err(ServeFault::Write) => Err(Error::WriteFailed),

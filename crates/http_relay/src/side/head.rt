@@ -205,6 +205,7 @@ impl SourceSide {
         ensures stays { IfErr result (λ fault. self.new.fault ≡ Some fault) }
         ensures faulted { IfSome self.old.fault (λ fault. (result ≡ Err fault) × (self.new ≡ self.old)) }
         ensures asks { self.new.asks ≡ self.old.asks }
+        ensures idle { (self.old.fault ≡ None → self.old.head ≡ SourceHead.Unread → ⊥) → wire.new ≡ wire.old }
     {
         if let Some(fault) = self.fault {
             return Err(fault);

@@ -4,6 +4,7 @@ ghost use Rattle.std.specs.Prelude.{◌≡◌, IsTrue, ◌↔◌, None, Some, Ma
 ghost use Rattle.icap_client.specs.Heard.{KeepsLimits};
 
 use super::ReplyReader;
+use crate::said::Found;
 use crate::stage::Stage;
 use encapsulated::Layout;
 
@@ -41,12 +42,16 @@ impl ReplyReader {
 
     /// What the last response's ICAP head said: its tag.
     pub fn tag(&self) -> Option<&[u8]>
-        ensures { option_copied result ≡ self.now.tag }
+        ensures { option_copied result ≡ self.now.remarks.tag }
     {
-        match &self.tag {
-            Some(tag) => Some(tag.as_slice()),
-            None => None,
-        }
+        self.remarks.tag()
+    }
+
+    /// What the last response's ICAP head said that the service found in the message: of each value the first 256 bytes.
+    pub fn found(&self) -> Found<'_>
+        ensures { (option_copied result.infection ≡ self.now.remarks.infection) × (option_copied result.virus ≡ self.now.remarks.virus) }
+    {
+        self.remarks.found()
     }
 
     /// What the last response's ICAP head said: that the connection closes.
