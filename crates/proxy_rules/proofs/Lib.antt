@@ -7,3 +7,6 @@ pub mod WireLemmas
 pub mod ArrivalLemmas
 pub mod OfferLemmas
 pub mod RunLemmas
+pub mod SinceLemmas
+pub mod CallLemmas
+pub mod FollowLemmas

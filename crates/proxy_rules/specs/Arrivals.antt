@@ -1,5 +1,5 @@
 -- A message whose head is read before its transaction.
-use Rattle.std.specs.Prelude.{◌≡◌, ℕ, ◌⊎◌, Bool, false, List, Option, Some, None}
+use Rattle.std.specs.Prelude.{◌≡◌, ℕ, ◌⊎◌, Bool, false, List, ◌++◌, Option, Some, None}
 use Rattle.trace_core.specs.declared.history.Point.{Point}
 use Rattle.trace_core.specs.declared.history.Point.TheVariants.{Reqmod, Respmod}
 use Rattle.http_side.specs.Heads.{RequestParts}
@@ -7,6 +7,8 @@ use Rattle.http_relay.specs.declared.side.Asks.{Asks}
 use Rattle.http_relay.specs.declared.side.Asks.TheVariants as asks
 use Rattle.http_relay.specs.declared.side.SourceSide.{SourceSide}
 use Rattle.http_relay.specs.Reading.{AtHead, Begins, request_of}
+use Rattle.wire_kit.specs.declared.wire.Wire.{Ghosts as Wire}
+use Rattle.proxy_rules.specs.Grown.{Grown}
 use Rattle.proxy_rules.specs.Users.{is_head_request}
 
 -- a source's side, and for a response the side of the user whose request it answers
@@ -37,3 +39,9 @@ pub record Arrives (side : SourceSide) (user : Option SourceSide) : Type 0 where
   pub read : List ℕ
   pub has_come : HasCome read side
   pub asks : side.asks ≡ asks_of user
+
+-- A message and its source's wire: the wire was this one when the message began, with these bytes kept from the message before; since then
+-- it gave these, and took those. Of the message were read those that were kept, and those that came since.
+pub record Came {A : Type 0} (a : Wire A) (first : A) (ahead since beside : List ℕ) (side : SourceSide) (wire : A) : Type 0 where
+  pub has_come : HasCome (ahead ++ since) side
+  pub wire_is : Grown (a.past first) (a.past wire) since beside

@@ -11,3 +11,7 @@ pub mod Connections
 pub mod Pools
 pub mod Heads
 pub mod Wires
+pub mod Grown
+pub mod Since
+pub mod Calls
+pub mod Following

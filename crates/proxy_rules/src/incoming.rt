@@ -1,11 +1,11 @@
 //! A message whose head is read before its transaction: a user's request, or an origin's response to one.
 
-ghost use Rattle.std.specs.Prelude.{◌≡◌, ◌↔◌, List, ℕ, [], true, false, None, Some, IfSome, IsSome, option_copied};
+ghost use Rattle.std.specs.Prelude.{◌≡◌, ◌↔◌, ◌++◌, List, ℕ, [], true, false, None, Some, IfSome, IsSome, option_copied};
 ghost use Rattle.trace_core.specs.History.{seen};
 ghost use Rattle.http_relay.specs.Source.{Agrees};
 ghost use Rattle.http_relay.specs.Reading.{HeadTurn, request_of, response_of};
 ghost use Rattle.proxy_rules.specs.Heads.{user_head};
-ghost use Rattle.proxy_rules.specs.Arrivals.{Arrives, point_of, is_head_in};
+ghost use Rattle.proxy_rules.specs.Arrivals.{Arrives, HasCome, Came, point_of, is_head_in};
 
 use crate::expect::is_head_request;
 use crate::head_maker::HeadMaker;
@@ -50,6 +50,7 @@ impl Incoming {
     /// A user's first request, before its first byte.
     pub fn request(alloc: Global) -> Incoming
         ensures user { result.user ≡ None }
+        ensures begins { HasCome [] result.side }
     {
         Incoming {
             side: SourceSide::request(alloc),
@@ -60,6 +61,7 @@ impl Incoming {
     /// The answer to this user's request, before its first byte.
     pub fn response(alloc: Global, user: SourceSide) -> Incoming
         ensures user { result.user ≡ Some user }
+        ensures begins { HasCome [] result.side }
     {
         let to_head = asks_head(&user);
         Incoming {
@@ -72,6 +74,7 @@ impl Incoming {
     pub fn next(request: SourceSide) -> Option<Incoming>
         ensures user { IfSome result (λ next. next.user ≡ None) }
         ensures raw { IfSome result (λ next. next.side.raw.items ≡ request.raw.items) }
+        ensures begins { IfSome result (λ next. HasCome request.raw.items next.side) }
         ensures some { IsSome result ↔ (request.body.ended ≡ true) × (request.head ≡ SourceHead.Unread → ⊥) × (request.asks ≡ Asks.Request) }
     {
         if !request.ended() {
@@ -99,6 +102,8 @@ impl Incoming {
     /// Reads the message's head: Taken once it was read. One read of the wire at most, and one interim response. A fault stays.
     pub fn head_turn<W: Wire>(&mut self, wire: &mut W) -> Result<HeadProgress, RelayFault>
         ensures turn { self.old.side.fault ≡ None → self.old.side.head ≡ SourceHead.Unread → HeadTurn self.old.side self.new.side (W.past wire.old) (W.past wire.new) result }
+        ensures came { (first : W) (ahead since beside : List ℕ) → Came W.Wire first ahead since beside self.old.side wire.old
+            → (more : List ℕ) × Came W.Wire first ahead (since ++ more) beside self.new.side wire.new }
         ensures user { self.new.user ≡ self.old.user }
     {
         self.side.head_turn(wire)
@@ -133,6 +138,20 @@ impl Incoming {
         ensures { result ≡ self.now.side.head_fault }
     {
         self.side.head_fault()
+    }
+
+    /// Whether an interim response was read before the message (RFC 9110, section 15.2).
+    pub fn has_interims(&self) -> bool
+        ensures { result ≡ false ↔ self.now.side.interims ≡ 0 }
+    {
+        self.side.has_interims()
+    }
+
+    /// The bytes that came and weren't taken yet: of a head that isn't whole, or is refused, all of it that came.
+    pub fn raw(&self) -> &[u8]
+        ensures { result.now ≡ self.now.side.raw.items }
+    {
+        self.side.raw()
     }
 
     /// Whether a transaction of this plan may begin: the head was read, nothing of the body was reported, and a length that the plan

@@ -1,7 +1,7 @@
 //! What holds of every head that goes on, and of every transaction. Each law is the contract of a function that does nothing, but for the
 //! one from the beginning on: it begins a transaction, and takes its turns.
 
-ghost use Rattle.std.specs.Prelude.{◌≡◌, ◌≤◌, ◌+◌, ◌↔◌, ℕ, Bool, List, [], length, Option, is_some, true, false, codes, MatchOption, IsOk, IfOk, IfErr};
+ghost use Rattle.std.specs.Prelude.{◌≡◌, ◌≤◌, ◌+◌, ◌++◌, ◌↔◌, ℕ, Bool, List, [], length, Option, is_some, true, false, codes, IsOk, IfOk, IfErr};
 ghost use Rattle.span_bank.specs.declared.limits.TheConstants.{MAX_CAPACITY};
 ghost use Rattle.plan_rules.specs.Claims.{claim_of};
 ghost use Rattle.trace_core.specs.declared.history.Cause.{Cause as AnyCause};
@@ -25,14 +25,21 @@ ghost use Rattle.http_side.specs.declared.forward.Forward.{Forward as Sent};
 ghost use Rattle.http_side.specs.Forward.{is_response, is_named_by, closes};
 ghost use Rattle.http_side.specs.Laws.{forwarded_fields};
 ghost use Rattle.proxy_rules.specs.Heads.{MakesNone};
-ghost use Rattle.proxy_rules.specs.Wires.{WiresTook, TookSince};
+ghost use Rattle.proxy_rules.specs.Wires.{WiresTook};
+ghost use Rattle.proxy_rules.specs.Since.{Snapshot, first_snapshot};
+ghost use Rattle.proxy_rules.specs.Arrivals.{Came, HasCome};
+ghost use Rattle.proxy_rules.specs.Grown.{Grown};
+ghost use Rattle.proxy_rules.specs.Calls.{AreLines};
+ghost use Rattle.proxy_rules.specs.Following.{GaveTexts, IsMessageText};
 ghost use Rattle.proxy_rules.specs.Offers.{text_of};
 ghost use Rattle.proxy_rules.specs.Beginnings.{MayBegin};
 ghost use Rattle.proxy_rules.specs.Running.{TakesFrom};
 
+use crate::calls::Call;
 use crate::head_maker::HeadMaker;
+use crate::incoming::Incoming;
 use crate::own_ends::{OwnEnds, Wires};
-use crate::running::Running;
+use crate::running::{Accounting, Running};
 use crate::starting::{Beginning, begin};
 use adapt_sides::{Service, Source};
 use adapt_turn::{Answering, MakesHead, Refusing, Side, Standing, Tx};
@@ -41,6 +48,7 @@ use icap_client::ServiceSide;
 use span_bank::{Bank, Ledgers};
 use std::alloc::Global;
 use std::sync::Wait;
+use wire_kit::Wire;
 
 /// An answer's head says `close` exactly if the user's connection ends after it; a request's head says it always, for each
 /// exchange has an origin's connection of its own (RFC 9112, section 9.6).
@@ -73,20 +81,22 @@ pub fn the_wires_take_one_message<B: Ledgers, W: Wires>(tx: &Tx<B, OwnEnds<W>>)
     let _ = tx.seen();
 }
 
-/// What [`the_wires_take_one_message`] says holds of a running transaction wherever it stands, for some request and some texts, and
-/// without a premise. Where it failed, the user's writer has the refusal of the cause's status, or a byte has gone out to the user.
+/// What [`the_wires_take_one_message`] says holds of a running transaction wherever it stands, of just what its wires gave and took since
+/// each beginning since which they are accounted for; and there is one. Where it failed, the user's writer has the refusal of the cause's
+/// status, or a byte has gone out to the user.
 pub fn a_running_transaction_takes_one_message<B: Ledgers, W: Wires>(running: &Running<B, W>)
-    ensures took { ∥ ((request : List ℕ) × (t : Texts)
-        × WiresTook running.now.tx.ends running.now.tx.hold request t) ∥₁ }
+    ensures took { (s : Snapshot W.SourceWire W.ServiceWire W.NextWire) → ⟦<Tx<B, OwnEnds<W>> as Accounting<W>>⟧.since s running.now.tx
+        → ⟦<Tx<B, OwnEnds<W>> as Accounting<W>>⟧.took s running.now.tx }
+    ensures some { ∥ ((s : Snapshot W.SourceWire W.ServiceWire W.NextWire) × ⟦<Tx<B, OwnEnds<W>> as Accounting<W>>⟧.took s running.now.tx) ∥₁ }
     ensures refuses { (shows running.now.tx.hold.history).closed ≡ true → (cause : AnyCause) → running.now.tx.outcome ≡ outcomes.Fail cause
         → ∥ ⟦<Tx<B, OwnEnds<W>> as Refusing>⟧.refuses running.now.tx cause ∥₁ }
 {
     the_wires_take_one_message(&running.tx);
 }
 
-/// Begins a transaction, takes turns of it, and says what its wires gave and took since then: after all that each had given and taken
-/// before, just the texts of [`the_wires_take_one_message`]. Only the bytes that the head was found in had come before. It holds of all
-/// turns, each of a side at a moment, and of wires of any kind; a wire in memory shows its bytes.
+/// Begins a transaction, takes turns of it, and says what its wires gave and took: the source's since the first read of the message, the
+/// others since the beginning; after all that each had given and taken before, just the texts of [`the_wires_take_one_message`]. It holds
+/// of all turns, each of a side at a moment, and of wires of any kind; a wire in memory shows its bytes.
 ///
 /// Everything comes back where [`begin`] gives it back.
 pub fn from_the_beginning_the_wires_take_one_message<B: Ledgers, W: Wires>(
@@ -100,10 +110,8 @@ pub fn from_the_beginning_the_wires_take_one_message<B: Ledgers, W: Wires>(
     requires claim { beginning.stake.claim ≡ claim_of beginning.offer.plan beginning.limits.window }
     requires small { beginning.stake.claim ≤ MAX_CAPACITY }
     ensures accepts { IsOk result ↔ MayBegin beginning.message beginning.offer (is_some beginning.way.service) }
-    ensures took { IfOk result (λ running. TookSince
-        (record { source = W.SourceWire.past beginning.way.source; service = λ p. MatchOption beginning.way.service ⊥ (λ wire. W.ServiceWire.past wire p); next = W.NextWire.past beginning.way.next })
-        (⟦<Tx<B, OwnEnds<W>> as Standing>⟧.pasts running.tx)
-        (WiresTook running.tx.ends running.tx.hold (text_of beginning.offer.side))) }
+    ensures took { IfOk result (λ running. (first : W.SourceWire) (ahead since beside : List ℕ) → Came W.SourceWire.Wire first ahead since beside beginning.message.side beginning.way.source
+        → ⟦<Tx<B, OwnEnds<W>> as Accounting<W>>⟧.took (first_snapshot (text_of beginning.offer.side) ahead beside first beginning.way.next beginning.way.service) running.tx) }
     ensures turns { IfOk result (λ running. TakesFrom (λ begun. (begun.hold.history ≡ record { plan = beginning.offer.plan; events = [] })
         × (begun.pace ≡ beginning.pace))
         (λ old side now new. (said : AnyAnswer) × ⟦<Tx<B, OwnEnds<W>> as Answering>⟧.answers old side new said
@@ -114,6 +122,60 @@ pub fn from_the_beginning_the_wires_take_one_message<B: Ledgers, W: Wires>(
     match begin(alloc, beginning) {
         Ok(mut running) => {
             running.take_turns(rt, bank, turns);
+            the_wires_take_one_message(&running.tx);
+            Ok(running)
+        }
+        Err(beginning) => Err(beginning),
+    }
+}
+
+/// A message and the wire that it comes over. It begins there with the bytes that were kept of the message before it; a turn at its head
+/// reads what the wire gives in it ([`Incoming::head_turn`]); and what the wire takes beside, as an interim response, is no part of it.
+pub fn a_message_comes_over_its_wire<W: Wire>(message: &Incoming, wire: &W)
+    ensures begins { (ahead : List ℕ) → HasCome ahead message.now.side → Came W.Wire wire.now ahead [] [] message.now.side wire.now }
+    ensures beside { (first old : W) (ahead since beside more : List ℕ) → Grown (W.past old) (W.past wire.now) [] more
+        → Came W.Wire first ahead since beside message.now.side old → Came W.Wire first ahead since (beside ++ more) message.now.side wire.now }
+{}
+
+/// Messages that come one after the other over a connection: what it gave is their texts in their order, and then the bytes that are left
+/// over, of which none is lost and none is read twice. The next message begins with just these ([`Incoming::next`]), so the law holds of
+/// as many messages as there are. What the connection takes meanwhile, as an answer, changes nothing of that.
+pub fn messages_follow_one_another<B: Ledgers, W: Wires>(running: &Running<B, W>)
+    ensures none { (wire : W.SourceWire) → GaveTexts W.SourceWire.Wire wire wire [] [] }
+    ensures meanwhile { (first old new : W.SourceWire) (texts left more : List ℕ) → Grown (W.SourceWire.past old) (W.SourceWire.past new) [] more
+        → GaveTexts W.SourceWire.Wire first old texts left → GaveTexts W.SourceWire.Wire first new texts left }
+    ensures further { (s : Snapshot W.SourceWire W.ServiceWire W.NextWire) (first : W.SourceWire) (texts : List ℕ)
+        → ⟦<Tx<B, OwnEnds<W>> as Accounting<W>>⟧.since s running.now.tx → GaveTexts W.SourceWire.Wire first s.source texts s.ahead
+        → (text : List ℕ) × IsMessageText running.now.tx.ends running.now.tx.hold text
+        × GaveTexts W.SourceWire.Wire first running.now.tx.ends.source_wire (texts ++ text) running.now.tx.ends.source.raw.items }
+{
+    a_running_transaction_takes_one_message(running);
+}
+
+/// Begins a transaction, makes calls of it, and says what its wires gave and took: the source's since the first read of the message; the
+/// next hop's since the beginning; the service's connection since the request began on it, up to when it was given up, if it was. These
+/// are just the texts of [`the_wires_take_one_message`], with the offer's own request. It holds of all calls and of wires of any kind.
+///
+/// Everything comes back where [`begin`] gives it back.
+pub fn over_all_calls_the_wires_take_one_message<B: Ledgers, W: Wires>(
+    rt: &impl Wait,
+    alloc: Global,
+    bank: &Bank<B>,
+    beginning: Beginning<B, W>,
+    calls: &mut [Call<W::ServiceWire>],
+) -> Result<Running<B, W>, Beginning<B, W>>
+    requires empty { (beginning.stake.held ≡ 0) × (beginning.stake.pages ≡ 0) }
+    requires claim { beginning.stake.claim ≡ claim_of beginning.offer.plan beginning.limits.window }
+    requires small { beginning.stake.claim ≤ MAX_CAPACITY }
+    ensures accepts { IsOk result ↔ MayBegin beginning.message beginning.offer (is_some beginning.way.service) }
+    ensures took { IfOk result (λ running. (first : W.SourceWire) (ahead since beside : List ℕ) → Came W.SourceWire.Wire first ahead since beside beginning.message.side beginning.way.source
+        → (line : Option W.ServiceWire) × (given : Option W.ServiceWire) × AreLines beginning.way.service calls.old line
+        × ⟦<Tx<B, OwnEnds<W>> as Accounting<W>>⟧.took (record (first_snapshot (text_of beginning.offer.side) ahead beside first beginning.way.next line) { given = given }) running.tx) }
+    ensures back { IfErr result (λ back. back ≡ beginning) }
+{
+    match begin(alloc, beginning) {
+        Ok(mut running) => {
+            running.call_all(rt, bank, calls);
             the_wires_take_one_message(&running.tx);
             Ok(running)
         }

@@ -5,6 +5,7 @@
 #![tactic(auto)]
 
 mod address;
+mod calls;
 mod connections;
 mod expect;
 mod head_maker;
@@ -21,6 +22,7 @@ mod scan;
 mod starting;
 
 pub use address::{Origin, origin_of};
+pub use calls::Call;
 pub use connections::keeps_user;
 pub use expect::{awaits_continue, interim_continue, is_head_request};
 pub use head_maker::HeadMaker;
@@ -31,5 +33,5 @@ pub use own_ends::{OwnEnds, OwnTx, Way, Wires};
 pub use plans::{limits_of, request_plan, response_plan};
 pub use pools::{is_reusable_after_options, pool_maximum};
 pub use route::origin_address;
-pub use running::Running;
+pub use running::{Accounting, Lasting, Running};
 pub use starting::{Beginning, begin};

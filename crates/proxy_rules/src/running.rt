@@ -1,6 +1,6 @@
 //! A transaction of the proxy's own sides that runs: what the edge holds.
 
-ghost use Rattle.std.specs.Prelude.{not, ◌≡◌, ◌↔◌, ◌≤◌, ◌⊎◌, ◌+◌, ℕ, List, true, false, [], None, Some, IfSome};
+ghost use Rattle.std.specs.Prelude.{not, ◌≡◌, ◌↔◌, ◌≤◌, ◌⊎◌, ◌+◌, ℕ, List, true, false, [], Option, None, Some, IfSome};
 ghost use Rattle.trace_core.specs.declared.history.Cause.{Cause as AnyCause};
 ghost use Rattle.trace_core.specs.declared.history.Cause.TheVariants.{Deadline, Stopping};
 ghost use Rattle.trace_core.specs.declared.history.Event.TheVariants.{Fail, Retry};
@@ -13,16 +13,21 @@ ghost use Rattle.adapt_turn.specs.Refusals.{user_untouched};
 ghost use Rattle.icap_client.specs.Turns.{is_reusable};
 ghost use Rattle.adapt_turn.specs.ServiceOver.{MayFree};
 ghost use Rattle.proxy_rules.specs.Running.{Runs, StandsOver, IsFaultless, RefusesFor, TakesTurns};
+ghost use Rattle.proxy_rules.specs.Since.{Snapshot, Since, freed_wire, anew_on, given_up};
+ghost use Rattle.proxy_rules.specs.Wires.{WiresTook};
 
 use crate::own_ends::{OwnEnds, OwnTx, Wires};
-use adapt_turn::{Answering, FreedConnection, Going, Outcome, Refusing, Side, TurnAnswer, Tx};
+use adapt_turn::{
+    Answering, FreedConnection, Going, Outcome, Refusing, Side, Standing, TurnAnswer, Tx,
+};
 use span_bank::{Bank, Ledgers};
 use std::sync::Wait;
 use trace_core::{Cause, Seen};
+use wire_kit::Wire;
 
-/// A transaction that was begun, and each step of which kept what stood then: some request and texts stand between it and its wires; no
-/// side of an open one has a fault, but for a service whose connection broke; and where it failed, the user's writer has the refusal of
-/// the cause, or a byte has gone out to the user.
+/// A transaction that was begun, and each step of which kept what stood then: since some beginning its wires gave and took just what
+/// stands between it and them; no side of an open one has a fault, but for a service whose connection broke; and where it failed, the
+/// user's writer has the refusal of the cause, or a byte has gone out to the user.
 ///
 /// ```
 /// // A body of six bytes comes; its preview is offered, and the service answers 204.
@@ -34,14 +39,46 @@ use trace_core::{Cause, Seen};
 #[must_use]
 pub struct Running<B: Ledgers, W: Wires> {
     pub(crate) tx: OwnTx<B, W>,
-    pub ghost runs: { ∥ Runs (StandsOver tx.hold tx.ends tx.refusing) (shows tx.hold.history).closed
+    pub ghost runs: { ∥ Runs (λ s. Since W.SourceWire.Wire W.ServiceWire.Wire W.NextWire.Wire s (StandsOver tx.hold tx.ends tx.refusing) tx.ends.source_wire (wire_of tx.ends.service) tx.ends.next_wire) (shows tx.hold.history).closed
         (IsFaultless tx.ends tx.pace.broken) tx.outcome (RefusesFor tx.hold tx.refusing tx.ends.next tx.ends.back) ∥₁ },
+}
+
+/// What the wires of a transaction gave and took since a beginning of it, and nothing else.
+pub trait Accounting<W: Wires> {
+    // since this beginning its wires gave and took just what stands between it and them
+    ghost since: { Snapshot W.SourceWire W.ServiceWire W.NextWire → Self → Type 0 };
+
+    // since this beginning what its wires gave spells the bodies, and what they took is of one request and one message
+    ghost took: { Snapshot W.SourceWire W.ServiceWire W.NextWire → Self → Type 0 };
+}
+
+/// What a call makes of the beginnings of a transaction.
+pub trait Lasting<W: Wires> {
+    // what was so since a beginning is so since what this makes of it
+    ghost lasts: { (Snapshot W.SourceWire W.ServiceWire W.NextWire → Snapshot W.SourceWire W.ServiceWire W.NextWire) → Self → Self → Type 0 };
+
+    // what was so since a beginning is so since one with another connection to the service, by this relation, maybe given up
+    ghost renews: { (Option W.ServiceWire → Option W.ServiceWire → Type 0) → Self → Self → Type 0 };
+}
+
+impl<B: Ledgers, W: Wires> Accounting<W> for Tx<B, OwnEnds<W>> {
+    ghost since = { λ s tx. Since W.SourceWire.Wire W.ServiceWire.Wire W.NextWire.Wire s (⟦<Tx<B, OwnEnds<W>> as Standing>⟧.stands tx) tx.ends.source_wire (wire_of tx.ends.service) tx.ends.next_wire };
+
+    ghost took = { λ s tx. Since W.SourceWire.Wire W.ServiceWire.Wire W.NextWire.Wire s (WiresTook tx.ends tx.hold) tx.ends.source_wire (wire_of tx.ends.service) tx.ends.next_wire };
+}
+
+impl<B: Ledgers, W: Wires> Lasting<W> for Tx<B, OwnEnds<W>> {
+    ghost lasts = { λ after old new. (s : Snapshot W.SourceWire W.ServiceWire W.NextWire) → ⟦<Tx<B, OwnEnds<W>> as Accounting<W>>⟧.since s old → ⟦<Tx<B, OwnEnds<W>> as Accounting<W>>⟧.since (after s) new };
+
+    ghost renews = { λ may old new. (s : Snapshot W.SourceWire W.ServiceWire W.NextWire) → ⟦<Tx<B, OwnEnds<W>> as Accounting<W>>⟧.since s old
+        → (line : Option W.ServiceWire) × (given : Option W.ServiceWire) × may s.line line × ⟦<Tx<B, OwnEnds<W>> as Accounting<W>>⟧.since (record s { line = line; given = given }) new };
 }
 
 impl<B: Ledgers, W: Wires> Running<B, W> {
     /// One turn of one side, at a moment in seconds.
     pub fn turn(&mut self, rt: &impl Wait, bank: &Bank<B>, side: Side, now: u64) -> TurnAnswer
         ensures goes { ⟦<Tx<B, OwnEnds<W>> as Going>⟧.goes self.old.tx self.new.tx }
+        ensures lasts { ⟦<Tx<B, OwnEnds<W>> as Lasting<W>>⟧.lasts (λ s. s) self.old.tx self.new.tx }
         ensures answers { ⟦<Tx<B, OwnEnds<W>> as Answering>⟧.answers self.old.tx side self.new.tx result }
         ensures keeps { ⟦<Tx<B, OwnEnds<W>> as Answering>⟧.keeps self.old.tx side self.new.tx }
         ensures fails { (shows self.old.tx.hold.history).closed ≡ false → (cause : AnyCause) → self.new.tx.outcome ≡ outcomes.Fail cause
@@ -56,6 +93,7 @@ impl<B: Ledgers, W: Wires> Running<B, W> {
     /// Turns in order, each of a side at a moment in seconds.
     pub fn take_turns(&mut self, rt: &impl Wait, bank: &Bank<B>, turns: &[(Side, u64)])
         ensures goes { ⟦<Tx<B, OwnEnds<W>> as Going>⟧.goes self.old.tx self.new.tx }
+        ensures lasts { ⟦<Tx<B, OwnEnds<W>> as Lasting<W>>⟧.lasts (λ s. s) self.old.tx self.new.tx }
         ensures turns { TakesTurns (λ old side now new. (said : AnyAnswer) × ⟦<Tx<B, OwnEnds<W>> as Answering>⟧.answers old side new said
             × ⟦<Tx<B, OwnEnds<W>> as Answering>⟧.keeps old side new
             × ((shows old.hold.history).closed ≡ false → old.pace.last_moved + old.pace.deadline ≤ now → new.outcome ≡ outcomes.Fail Deadline)) self.old.tx turns.now self.new.tx }
@@ -72,6 +110,7 @@ impl<B: Ledgers, W: Wires> Running<B, W> {
     /// Turns by a schedule, each at the moment of the last moved byte.
     pub fn drive(&mut self, rt: &impl Wait, bank: &Bank<B>, schedule: &[Side])
         ensures goes { ⟦<Tx<B, OwnEnds<W>> as Going>⟧.goes self.old.tx self.new.tx }
+        ensures lasts { ⟦<Tx<B, OwnEnds<W>> as Lasting<W>>⟧.lasts (λ s. s) self.old.tx self.new.tx }
     {
         self.tx.drive(rt, bank, schedule);
     }
@@ -79,6 +118,7 @@ impl<B: Ledgers, W: Wires> Running<B, W> {
     /// Fails it because the proxy stops, where it isn't closed.
     pub fn halt(&mut self, rt: &impl Wait, bank: &Bank<B>)
         ensures goes { ⟦<Tx<B, OwnEnds<W>> as Going>⟧.goes self.old.tx self.new.tx }
+        ensures lasts { ⟦<Tx<B, OwnEnds<W>> as Lasting<W>>⟧.lasts (λ s. s) self.old.tx self.new.tx }
         ensures over { (shows self.new.tx.hold.history).closed ≡ true }
         ensures halted { (shows self.old.tx.hold.history).closed ≡ false → self.new.tx.outcome ≡ outcomes.Fail Stopping }
     {
@@ -127,6 +167,7 @@ impl<B: Ledgers, W: Wires> Running<B, W> {
         ensures hold { self.new.tx.hold ≡ moved self.old.tx.hold Retry [] }
         ensures fresh { IfSome self.new.tx.ends.service (λ line. line.wire ≡ Some wire) }
         ensures back { IfSome self.old.tx.ends.service (λ line. result ≡ line.wire) }
+        ensures lasts { ⟦<Tx<B, OwnEnds<W>> as Lasting<W>>⟧.lasts (anew_on (wire_of self.new.tx.ends.service)) self.old.tx self.new.tx }
     {
         let _ = self.tx.seen();
         self.tx.retry(rt, bank, wire)
@@ -137,6 +178,7 @@ impl<B: Ledgers, W: Wires> Running<B, W> {
         requires broken { self.old.tx.pace.broken ≡ true }
         ensures wire { result ≡ wire_of self.old.tx.ends.service }
         ensures kept { (self.new.tx.hold ≡ self.old.tx.hold) × (self.new.tx.pace ≡ self.old.tx.pace) }
+        ensures lasts { ⟦<Tx<B, OwnEnds<W>> as Lasting<W>>⟧.lasts (given_up result) self.old.tx self.new.tx }
     {
         self.tx.take_broken()
     }
@@ -146,6 +188,7 @@ impl<B: Ledgers, W: Wires> Running<B, W> {
         requires broken { self.old.tx.pace.broken ≡ true }
         requires may { MayFollow self.old.tx.hold.history.plan self.old.tx.hold.history.events Retry }
         ensures outcome { self.new.tx.outcome ≡ outcomes.Fail cause }
+        ensures lasts { ⟦<Tx<B, OwnEnds<W>> as Lasting<W>>⟧.lasts (λ s. s) self.old.tx self.new.tx }
     {
         self.tx.fail_unretried(rt, bank, cause);
     }
@@ -156,6 +199,7 @@ impl<B: Ledgers, W: Wires> Running<B, W> {
         ensures due { result ≡ None → MayFree (shows self.old.tx.hold.history) → wire_of self.old.tx.ends.service ≡ None }
         ensures wire { IfSome result (λ free. wire_of self.old.tx.ends.service ≡ Some free.wire) }
         ensures reusable { IfSome result (λ free. IfSome self.old.tx.ends.service (λ line. free.is_reusable ≡ is_reusable line.side)) }
+        ensures lasts { ⟦<Tx<B, OwnEnds<W>> as Lasting<W>>⟧.lasts (given_up (freed_wire result)) self.old.tx self.new.tx }
     {
         self.tx.take_freed()
     }

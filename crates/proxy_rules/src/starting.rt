@@ -6,17 +6,20 @@ ghost use Rattle.plan_rules.specs.Claims.{claim_of};
 ghost use Rattle.adapt_turn.specs.Stands.{no_texts};
 ghost use Rattle.proxy_rules.specs.Offers.{text_of};
 ghost use Rattle.proxy_rules.specs.Beginnings.{MayBegin, service_end_of};
+ghost use Rattle.proxy_rules.specs.Arrivals.{Came};
+ghost use Rattle.proxy_rules.specs.Since.{first_snapshot};
 
 use crate::incoming::Incoming;
 use crate::offer::Offer;
 use crate::own_ends::{OwnEnds, Way, Wires};
-use crate::running::Running;
+use crate::running::{Accounting, Running};
 use adapt_turn::{Ends, ServiceEnd, Standing, Start, Tx};
 use http_relay::HopWriter;
 use icap_client::ServiceSide;
 use plan_rules::{Limits, Pace};
 use span_bank::{Ledgers, Stake};
 use std::alloc::Global;
+use wire_kit::Wire;
 
 /// What a transaction of the proxy's own sides begins with.
 pub struct Beginning<B: Ledgers, W: Wires> {
@@ -91,6 +94,8 @@ pub fn begin<B: Ledgers, W: Wires>(
     ensures begun { IfOk result (λ running. running.tx.hold.history ≡ record { plan = beginning.offer.plan; events = [] }) }
     ensures pace { IfOk result (λ running. running.tx.pace ≡ beginning.pace) }
     ensures stands { IfOk result (λ running. (read : List ℕ) × ⟦<Tx<B, OwnEnds<W>> as Standing>⟧.stands running.tx (text_of beginning.offer.side) (record no_texts { source_read = record { bytes = read; ended = false } })) }
+    ensures since { IfOk result (λ running. (first : W.SourceWire) (ahead since beside : List ℕ) → Came W.SourceWire.Wire first ahead since beside beginning.message.side beginning.way.source
+        → ⟦<Tx<B, OwnEnds<W>> as Accounting<W>>⟧.since (first_snapshot (text_of beginning.offer.side) ahead beside first beginning.way.next beginning.way.service) running.tx) }
     ensures sides { IfOk result (λ running. (running.tx.ends.source ≡ beginning.message.side) × (running.tx.ends.maker.user ≡ beginning.message.user) × (running.tx.ends.maker.last ≡ beginning.last) × (running.tx.ends.service ≡ service_end_of beginning.offer.side beginning.way.service)) }
     ensures wires { IfOk result (λ running. (running.tx.ends.source_wire ≡ beginning.way.source) × (running.tx.ends.next_wire ≡ beginning.way.next)) }
     ensures back { IfErr result (λ back. back ≡ beginning) }

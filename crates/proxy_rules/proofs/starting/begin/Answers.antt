@@ -1,7 +1,8 @@
-use Rattle.std.proofs.Common.{Option, IfSome, [], false, refl, ap, sym, subst, ◌∙◌, is_some}
+use Rattle.std.proofs.Common.{◌≡◌, ◌++◌, Option, Some, None, IfSome, [], false, refl, ap, sym, subst, ◌∙◌, is_some}
 use Rattle.trace_core.specs.History.{History, seen}
 use Rattle.adapt_hold.specs.Holding.{shows}
-use Rattle.adapt_turn.specs.Stands.{no_texts}
+use Rattle.std.proofs.lemmas.List.{append-nil}
+use Rattle.adapt_turn.specs.ChosenHead.{wire_of}
 use Rattle.adapt_turn.specs.declared.ends.ServiceEnd.{ServiceEnd}
 use Rattle.icap_client.specs.Turns.{Service}
 use Rattle.http_relay.specs.Giving.{Hop, gift_of}
@@ -11,12 +12,23 @@ use Rattle.proxy_rules.proofs.ArrivalLemmas.{has_begun}
 use Rattle.proxy_rules.proofs.OfferLemmas.{unused_on}
 use Rattle.proxy_rules.proofs.BeginLemmas.{nothing_on, faultless_on}
 use Rattle.proxy_rules.proofs.RunLemmas.{not_both}
+use Rattle.proxy_rules.proofs.SinceLemmas.{since_begun, grown_none}
+use Rattle.proxy_rules.specs.Arrivals.{HasCome}
+use Rattle.proxy_rules.specs.Since.{first_snapshot}
+use Rattle.proxy_rules.specs.Beginnings.{service_end_of}
 use Rattle.proxy_rules.proofs.starting.begin.Goals as goal
 
 pub service_end-requires : goal.service_end-requires
 service_end-requires g c =
     let may = c.may_begin.ensures.0 c.if-not-may_begin.false in
     ap is_some c.into_plan-side.ensures.side ∙ (may.line ∙ c.is_some-is_connected.ensures)
+
+-- the service's connection is the one that it begins with
+line_is : {W : Type 0} (side : Option Service) (wire : Option W) → is_some side ≡ is_some wire → wire_of (service_end_of side wire) ≡ wire
+line_is None None e = refl
+line_is None (Some w) e = absurd cc
+line_is (Some s) None e = absurd cc
+line_is (Some s) (Some w) e = refl
 
 pub invariant_of-running : goal.invariant_of-running
 invariant_of-running g c =
@@ -29,18 +41,38 @@ invariant_of-running g c =
     subst (λ (side : Option Service). IfSome c.service_end.result (λ line. IsUnused (text_of side) line.side)) c.into_plan-side.ensures.side
     (subst (λ (service : Option (ServiceEnd Service _)). IfSome service (λ line. IsUnused (text_of c.into_plan-side.result.1) line.side)) (sym c.service_end.ensures)
     (unused_on plan c.into_plan-side.result.1 c.args.beginning.way.service c.into_plan-side.ensures.binds)) in
+    let line = ap (λ z. wire_of z.service) c.in-Ok.ensures.ends ∙ (ap (λ z. wire_of z) c.service_end.ensures ∙ line_is c.into_plan-side.result.1 c.args.beginning.way.service (ap is_some c.into_plan-side.ensures.side ∙ (may.line ∙ c.is_some-is_connected.ensures))) in
     record {
       runs = ∣ record {
-        request = text_of c.args.beginning.offer.side;
-        texts = record no_texts { source_read = record { bytes = read; ended = false } };
-        stands_is = c.in-Ok.ensures.stands (record { bytes = read; ended = false }) (text_of c.args.beginning.offer.side) (begins (seen plan []) refl refl).0 (nothing_on (text_of c.args.beginning.offer.side) plan c.service_end.result unused)
-            (ap (λ (h : Hop). gift_of h.stage) c.new.ensures.shows) c.new.ensures.aside (ap (λ (h : Hop). gift_of h.stage) c.new-2.ensures.shows) c.new-2.ensures.aside;
+        start = first_snapshot (text_of c.args.beginning.offer.side) read [] c.args.beginning.way.source c.args.beginning.way.next c.args.beginning.way.service;
+        since_is = since_begun g.W.SourceWire.Wire g.W.ServiceWire.Wire g.W.NextWire.Wire (text_of c.args.beginning.offer.side) read read [] [] _ _ _ c.in-Ok.tx.ends.service _ _ _ _
+            (c.in-Ok.ensures.stands (record { bytes = read; ended = false }) (text_of c.args.beginning.offer.side) (begins (seen plan []) refl refl).0 (nothing_on (text_of c.args.beginning.offer.side) plan c.service_end.result unused)
+            (ap (λ (h : Hop). gift_of h.stage) c.new.ensures.shows) c.new.ensures.aside (ap (λ (h : Hop). gift_of h.stage) c.new-2.ensures.shows) c.new-2.ensures.aside)
+            (sym (append-nil read)) (grown_none _) (ap (λ z. z.source_wire) c.in-Ok.ensures.ends) line (ap (λ z. z.next_wire) c.in-Ok.ensures.ends);
         faultless_is = λ going.
             c.in-Ok.ensures.faultless (ap (λ (s : SourceSide). s.fault) source.ensures.side ∙ may.fault) (faultless_on (text_of c.args.beginning.offer.side) c.service_end.result unused)
             (ap (λ (h : Hop). h.fault) c.new.ensures.shows) (ap (λ (h : Hop). h.fault) c.new-2.ensures.shows);
         refused_is = λ over. not_both _ over (ap (λ (h : History). (shows h).closed) c.in-Ok.ensures.begun);
       } ∣₁;
     }
+
+pub returns-clause-since : goal.returns-clause-since
+returns-clause-since g c = λ first ahead since beside came.
+    let may = c.may_begin.ensures.0 c.if-not-may_begin.false in
+    let source = c.into_sides-source in
+    let plan = c.into_plan-side.result.0 in
+    let read = ahead ++ since in
+    let begins = has_begun source.result.0 c.args.beginning.message.user (record { read = read; has_come = subst (λ (s : SourceSide). HasCome read s) (sym source.ensures.side) came.has_come; asks = source.ensures.arrives.asks })
+    (λ e. may.read (sym (ap (λ (s : SourceSide). s.head) source.ensures.side) ∙ e)) in
+    let unused : IfSome c.service_end.result (λ line. IsUnused (text_of c.args.beginning.offer.side) line.side) =
+    subst (λ (side : Option Service). IfSome c.service_end.result (λ line. IsUnused (text_of side) line.side)) c.into_plan-side.ensures.side
+    (subst (λ (service : Option (ServiceEnd Service _)). IfSome service (λ line. IsUnused (text_of c.into_plan-side.result.1) line.side)) (sym c.service_end.ensures)
+    (unused_on plan c.into_plan-side.result.1 c.args.beginning.way.service c.into_plan-side.ensures.binds)) in
+    let line = ap (λ z. wire_of z.service) c.in-Ok.ensures.ends ∙ (ap (λ z. wire_of z) c.service_end.ensures ∙ line_is c.into_plan-side.result.1 c.args.beginning.way.service (ap is_some c.into_plan-side.ensures.side ∙ (may.line ∙ c.is_some-is_connected.ensures))) in
+    since_begun g.W.SourceWire.Wire g.W.ServiceWire.Wire g.W.NextWire.Wire (text_of c.args.beginning.offer.side) read ahead since beside _ _ _ c.in-Ok.tx.ends.service _ _ _ _
+    (c.in-Ok.ensures.stands (record { bytes = read; ended = false }) (text_of c.args.beginning.offer.side) (begins (seen plan []) refl refl).0 (nothing_on (text_of c.args.beginning.offer.side) plan c.service_end.result unused)
+    (ap (λ (h : Hop). gift_of h.stage) c.new.ensures.shows) c.new.ensures.aside (ap (λ (h : Hop). gift_of h.stage) c.new-2.ensures.shows) c.new-2.ensures.aside)
+    refl came.wire_is (ap (λ z. z.source_wire) c.in-Ok.ensures.ends) line (ap (λ z. z.next_wire) c.in-Ok.ensures.ends)
 
 pub returns-clause-stands : goal.returns-clause-stands
 returns-clause-stands g c =

@@ -1,6 +1,8 @@
 use Rattle.std.proofs.Math.Logic.{∥∥₁_map}
-use Rattle.std.proofs.Common.{[]}
+use Rattle.proxy_rules.specs.Since.{anew_on}
+use Rattle.adapt_turn.specs.ChosenHead.{wire_of}
 use Rattle.proxy_rules.proofs.RunLemmas.{retry_open, not_both}
+use Rattle.proxy_rules.proofs.SinceLemmas.{since_anew}
 use Rattle.proxy_rules.proofs.running.Running.retry.Goals as goal
 
 pub invariant_of-self : goal.invariant_of-self
@@ -8,10 +10,17 @@ invariant_of-self g c =
     let e = c.retry.ensures in
     record {
       runs = ∥∥₁_map c.args.self.now.runs (λ r. record {
-        request = r.request;
-        texts = record r.texts { service_read = []; service_taken = [] };
-        stands_is = e.anew r.request r.texts r.stands_is;
+        start = anew_on (wire_of c.retry.new.self.ends.service) r.start;
+        since_is = since_anew g.W.SourceWire.Wire g.W.ServiceWire.Wire g.W.NextWire.Wire r.start _ _ _ _
+            c.args.self.now.tx.ends.service c.retry.new.self.ends.service
+            _ _ e.anew e.others.0 e.others.1 r.since_is;
         faultless_is = λ going. e.faultless (r.faultless_is c.requires.may.0);
         refused_is = λ over. not_both _ over (retry_open _ _ c.seen.ensures.tied c.requires.may e.hold);
       });
     }
+
+pub returns-clause-lasts : goal.returns-clause-lasts
+returns-clause-lasts g c = λ s h.
+    let e = c.retry.ensures in
+    since_anew g.W.SourceWire.Wire g.W.ServiceWire.Wire g.W.NextWire.Wire s _ _ _ _
+    c.args.self.now.tx.ends.service c.retry.new.self.ends.service _ _ e.anew e.others.0 e.others.1 h
