@@ -1,15 +1,11 @@
--- What a socket's wire may have done so far: all that has its counts.
-use Rattle.std.specs.Prelude.{◌≡◌, length}
+-- What a wire over a stream may have done so far: all that has its counts, and went over the stream.
 use Rattle.wire_kit.specs.Past.{Past}
-use Rattle.wire_kit.specs.Memory.{Counts}
-use Rattle.socket_wire.specs.declared.socket.SocketWire.{SocketWire}
+use Rattle.socket_wire.specs.Answers.{but_waits}
+use Rattle.socket_wire.specs.Counting.{HasCounts}
+use Rattle.socket_wire.specs.declared.socket.StreamWire.{StreamWire}
 
-pub record IsPast {R : Type 0} (wire : SocketWire R) (p : Past) : Type 0 where
-  pub read : length p.read ≡ wire.read
-  pub taken : length p.taken ≡ wire.taken
-  pub ends : Counts wire.ends p.ends
-  pub read_waits : Counts wire.read_waits p.read_waits
-  pub write_waits : Counts wire.write_waits p.write_waits
-  pub faults : Counts wire.faults p.faults
-  pub reads : Counts wire.reads p.reads
-  pub writes : Counts wire.writes p.writes
+pub record IsPast {S : Type 0} (over : S → Past → Type 0) (wire : StreamWire S) (p : Past) : Type 0 where
+  -- each byte, each end and each fault is in the wire's counts
+  pub counts : HasCounts wire.tally p
+  -- the bytes are those that the stream's calls gave and took, and an end and a fault is each one of its calls
+  pub calls : over wire.stream (but_waits p)

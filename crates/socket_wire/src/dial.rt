@@ -1,31 +1,33 @@
 //! Opening connections from a thread that was handed only what it may do.
 
-use libc::net::{AF_INET, SOCK_CLOEXEC, SOCK_NONBLOCK, SOCK_STREAM, socket};
+ghost use Rattle.std.specs.Prelude.{◌≡◌, Some, IfOk};
+
+use crate::role::Called;
+use crate::stream::Stream;
 use mio::net::TcpStream;
-use os::{FromRawFd, errno};
 use std::io;
-use std::net::SocketAddr;
+use std::net::{SocketAddr, SocketAddrV4};
 
 /// Opens connections. The system's runtime does; a test may count or refuse them.
 pub trait Dial {
     /// A connection to the address, which may still be on its way: if it is refused, its first read or write fails.
-    fn dial(&self, address: SocketAddr) -> io::Result<TcpStream>;
+    fn dial<R: Called>(&self, address: SocketAddrV4) -> io::Result<Stream<R>>
+        ensures { IfOk result (λ stream. stream.to ≡ Some address) };
 
-    /// The socket of a connection over IPv4 that is dialled later.
-    fn socket(&self) -> io::Result<TcpStream>;
+    /// A connection to the address that is dialled at its first write. Until then it is a socket.
+    fn dial_late<R: Called>(&self, address: SocketAddrV4) -> io::Result<Stream<R>>
+        ensures { IfOk result (λ stream. stream.to ≡ Some address) };
 }
 
 impl Dial for HostRuntime {
-    fn dial(&self, address: SocketAddr) -> io::Result<TcpStream> {
-        TcpStream::connect(self, address)
+    fn dial<R: Called>(&self, address: SocketAddrV4) -> io::Result<Stream<R>> {
+        match TcpStream::connect(self, SocketAddr::V4(address)) {
+            Ok(inner) => Ok(Stream::dialled(inner, address)),
+            Err(error) => Err(error),
+        }
     }
 
-    fn socket(&self) -> io::Result<TcpStream> {
-        let kind = SOCK_STREAM | SOCK_NONBLOCK | SOCK_CLOEXEC;
-        let fd = unsafe { socket(AF_INET, kind, 0) };
-        if fd < 0 {
-            return Err(io::Error::from_raw_os_error(errno()));
-        }
-        Ok(unsafe { TcpStream::from_raw_fd(fd) })
+    fn dial_late<R: Called>(&self, address: SocketAddrV4) -> io::Result<Stream<R>> {
+        Stream::late(address)
     }
 }
