@@ -5,7 +5,7 @@ use loop_parts::{Accepted, AdminInput, Asker, Listening, MAX_ASKERS, Request, Sp
 use mio::net::TcpStream;
 use mio::{Registry, Token};
 use slab::Slab;
-use socket_wire::{Readiness, SocketWire};
+use socket_wire::{Caller, Readiness, SocketWire, Stream};
 use std::alloc::{AllocError, Global};
 use std::mem;
 use std::sync::Arc;
@@ -13,6 +13,8 @@ use std::time::Duration;
 
 /// The administrator, as the peer of a connection.
 struct Administrator;
+
+impl Caller for Administrator {}
 
 /// An administrator's connection.
 type AdminWire = SocketWire<Administrator>;
@@ -159,7 +161,8 @@ impl Askers {
         if let Ok(ready) = Arc::new(alloc, Readiness::new())
             && let Ok(told) = ready.clone()
         {
-            let _ = self.seat(alloc, SocketWire::new(stream, told), ready, registry);
+            let wire = SocketWire::new(Stream::accepted(stream), told);
+            let _ = self.seat(alloc, wire, ready, registry);
         }
     }
 

@@ -14,15 +14,21 @@ pub struct Handed {
     pub stream: TcpStream,
     pub number: u64,
     pub permit: UserPermit,
-    /// How many loops take users, and how many of them have no seat for this one.
+    /// How many loops take users, and how often one of them was asked that has no seat for this one.
     pub loops: usize,
     pub tried: usize,
 }
 
 impl Handed {
-    /// Whether a loop that wasn't asked yet may have a seat for it, beside the one that has it now.
-    pub fn may_go_on(&self) -> bool {
+    /// Whether a loop that wasn't asked yet may have a seat for it, or an idle user to spare, beside the one that has it now.
+    pub fn is_first_round(&self) -> bool {
         self.tried.saturating_add(1) < self.loops
+    }
+
+    /// Whether another loop is to be asked after the one that has it now. The last one of the first round is the first of the second, in
+    /// which the others are asked again.
+    pub fn may_go_on(&self) -> bool {
+        self.tried.saturating_add(2) < self.loops.saturating_mul(2)
     }
 }
 

@@ -36,7 +36,7 @@ pub enum Driven {
 pub enum Admitted {
     /// It has a seat: its exchange is driven under this key.
     Seated(usize),
-    /// There is no seat for it, and no other user that can be spared: the next loop may have one.
+    /// There is no seat for it, and no other user that can be spared in this round: the next loop may have one.
     Full(Handed),
     /// It was closed.
     Closed,
@@ -56,7 +56,7 @@ pub trait Work {
     ) -> Admitted;
 
     /// Closes idle connections, or that of the user that can best be spared, so that another one has room. False if there is no
-    /// such connection.
+    /// such connection, or another thread has users that are spared first.
     fn make_room<R: Wait + Dial + Clock>(
         &mut self,
         rt: &R,

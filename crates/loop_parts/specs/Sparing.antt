@@ -18,6 +18,10 @@ IsRank Idle age youth rank = rank ≡ 1
 IsRank Head age youth rank = (youth ≤ age) × (rank ≡ 2)
 IsRank End age youth rank = rank ≡ 3
 
+-- its rank is that of a user that has ended its side, or of an idle one
+abbrev pub IsIdle : Spared → Type 0
+IsIdle spared = IsRank Ended 0 0 spared.rank ⊎ IsRank Idle 0 0 spared.rank
+
 -- the one is spared rather than the other
 abbrev pub ComesBefore : Spared → Spared → Type 0
 ComesBefore this other = (this.rank < other.rank) ⊎ ((this.rank ≡ other.rank) × (this.since < other.since))

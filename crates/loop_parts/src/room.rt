@@ -33,16 +33,33 @@ pub struct Room {
     most: u64,
     used: AtomicU64,
     users: AtomicU64,
+    /// How many of the users have ended their side.
+    ended: AtomicU64,
 }
 
 /// A user's permit. There is room for another one once it is dropped.
 pub struct UserPermit {
     room: Arc<Room>,
+    /// Whether the user has ended its side: then it is counted among those.
+    ended: bool,
+}
+
+impl UserPermit {
+    /// The user has ended its side. That is counted once.
+    pub fn end(&mut self) {
+        if !self.ended {
+            self.ended = true;
+            let _ = self.room.ended.fetch_add(1, Ordering::SeqCst);
+        }
+    }
 }
 
 impl Drop for UserPermit {
     fn drop(self) {
-        let UserPermit { room } = self;
+        let UserPermit { room, ended } = self;
+        if ended {
+            let _ = room.ended.fetch_sub(1, Ordering::SeqCst);
+        }
         let _ = room.users.fetch_sub(1, Ordering::SeqCst);
         room.give_back(USER);
     }
@@ -84,6 +101,7 @@ impl Room {
             most,
             used: AtomicU64::new(0),
             users: AtomicU64::new(0),
+            ended: AtomicU64::new(0),
         }
     }
 
@@ -122,6 +140,11 @@ impl Room {
         self.users.load(Ordering::SeqCst) == 0
     }
 
+    /// Whether a user of any thread has ended its side.
+    pub fn has_ended(&self) -> bool {
+        self.ended.load(Ordering::SeqCst) > 0
+    }
+
     /// Whether only idle connections keep the next user out.
     pub fn has_too_many_idle(&self) -> bool {
         self.users.load(Ordering::SeqCst) < self.most
@@ -138,7 +161,7 @@ impl Room {
             return None;
         }
         let _ = room.users.fetch_add(1, Ordering::SeqCst);
-        Some(UserPermit { room })
+        Some(UserPermit { room, ended: false })
     }
 
     /// A permit for one more idle connection, if there is room.

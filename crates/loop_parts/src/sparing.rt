@@ -1,7 +1,7 @@
 //! Which users' connections are closed so that others are served.
 
 ghost use Rattle.std.specs.Prelude.{◌≡◌, ◌↔◌, ℕ, true, None, IfSome, if◌then◌else◌, nat_lt, ◌*◌};
-ghost use Rattle.loop_parts.specs.Sparing.{IsRank, ComesBefore, youth};
+ghost use Rattle.loop_parts.specs.Sparing.{IsRank, ComesBefore, IsIdle, youth};
 
 /// What a user's connection is in the midst of, as far as it may be spared for another one.
 #[derive(Clone, Copy, Debug, PartialEq, Eq)]
@@ -60,6 +60,13 @@ pub fn spared_of(key: usize, stay: Stay, age: u64, youth: u64, since: u64) -> Op
 }
 
 impl Spared {
+    /// Whether its user has ended its side, or is idle: it is spared before any loop spares one that is in the midst of something.
+    pub fn is_idle(&self) -> bool
+        ensures { result ≡ true ↔ IsIdle self.now }
+    {
+        self.rank == 0 || self.rank == 1
+    }
+
     /// Whether it is spared rather than the other one.
     pub fn comes_before(&self, other: &Spared) -> bool
         ensures { result ≡ true ↔ ComesBefore self.now other.now }
