@@ -4,6 +4,7 @@ ghost use Rattle.span_bank.specs.declared.limits.TheConstants.{MAX_CAPACITY, MAX
 
 use crate::sharing::put_both;
 use crate::tapes::{put_seen, write_and_drop};
+use crate::words::{journal_of, put_no_memory};
 use crate::{budget_threads, budgets};
 use span_bank::{Bank, Blanks, Ledgers, MAX_CAPACITY, MAX_ROWS};
 use std::alloc::Global;
@@ -50,7 +51,7 @@ where
         budgets::put_budget(rt, alloc, bank, row, out)
     } else if says(call, b"tape") {
         put_seen(out, write_and_drop(rt, &bank))
-    } else if says(call, b"threads of both") {
+    } else if says(call, b"threads of both") && rows == 4 {
         put_both(rt, alloc, bank, out)
     } else if says(call, b"threads of a budget") && rows == 4 {
         budget_threads::put_budget(rt, alloc, bank, out)
@@ -83,8 +84,17 @@ fn put_on_bank<
     requires capacity { (1 ≤ capacity) × (capacity ≤ MAX_CAPACITY) }
     requires rows { (1 ≤ rows) × (rows ≤ MAX_ROWS) }
 {
-    let bank: Bank<(H, F, S, P)> = Bank::new(alloc, blanks, capacity, rows, 16)?;
-    put_use(rt, alloc, bank, rows, call, row, out)
+    let made: Result<Bank<(H, F, S, P)>, NoMemory> = Bank::new(
+        alloc,
+        blanks,
+        capacity,
+        rows,
+        journal_of(row),
+    );
+    match made {
+        Ok(bank) => put_use(rt, alloc, bank, rows, call, row, out),
+        Err(NoMemory) => put_no_memory(row, out),
+    }
 }
 
 /// Adds what comes of a new bank.

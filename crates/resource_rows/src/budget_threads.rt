@@ -16,7 +16,7 @@ struct Rounds<'a, T>(&'a T);
 
 /// Makes a reservation that stays, with all its bytes in use on one page.
 #[derive(Drop)]
-struct Stay<'a, T>(&'a T);
+pub struct Stay<'a, T>(pub &'a T);
 
 impl<'a, T: Budget> Task for Rounds<'a, T> {
     type Kept = ();
@@ -54,7 +54,7 @@ fn end_made<T: Budget>(budget: &T, made: Option<T::Lent>) {
 }
 
 /// The reservations of four threads. Where one has none, the others end.
-fn all_made<T: Budget>(budget: &T, made: Four<Option<T::Lent>>) -> Option<Four<T::Lent>> {
+pub fn all_made<T: Budget>(budget: &T, made: Four<Option<T::Lent>>) -> Option<Four<T::Lent>> {
     let (front, back) = made;
     match (front.0, front.1, back.0, back.1) {
         (Some(first), Some(second), Some(third), Some(fourth)) => {
@@ -80,7 +80,7 @@ where
 }
 
 /// The sums of a budget whose four rows are taken; none where one isn't.
-fn sums_of_four<B: Ledgers>(
+pub fn sums_of_four<B: Ledgers>(
     bank: Bank<B>,
     stakes: Vec<Stake<B>>,
     made: Option<Four<Reserved<B>>>,

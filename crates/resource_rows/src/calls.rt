@@ -61,8 +61,10 @@ impl<'a, L: Ledger, R: Wait> Leasing for Counter<'a, L, R> {
     }
 
     fn limit(&self, alloc: Global, maximum: u64) -> Result<Vec<u32>, NoMemory> {
-        self.pool
-            .set_max(self.rt, alloc, maximum.min(MAX_CONNECTIONS))
+        let limited = self
+            .pool
+            .set_max(self.rt, alloc, maximum.min(MAX_CONNECTIONS))?;
+        Ok(limited.into_closed())
     }
 }
 

@@ -5,6 +5,7 @@ ghost use Rattle.adapt_bytes.specs.declared.limits.TheConstants.{MAX_CONNECTIONS
 use crate::calls::{Counter, Leased, Leasing, audited, put_audit};
 use crate::steps::put_steps;
 use crate::threads::share;
+use crate::words::{journal_of, put_no_memory};
 use adapt_bytes::MAX_CONNECTIONS;
 use service_pool::{LEDGER_PARTS, Pool};
 use std::alloc::Global;
@@ -43,15 +44,17 @@ fn put_on_pool<L: Ledger + Send + Sync, R: Threads + Wait + Sync>(
     alloc: Global,
     blank: Blank,
     maximum: u64,
-    journal: usize,
+    row: &Row<'_>,
     lines: Option<&[u8]>,
     out: &mut Vec<u8>,
 ) -> Result<(), NoMemory>
     requires blank { (blank.name ≡ L.name) × (blank.parts ≡ L.parts) × (blank.parts ≡ LEDGER_PARTS) }
     requires maximum { maximum ≤ MAX_CONNECTIONS }
-    requires journal { 1 ≤ journal }
 {
-    let pool: Pool<u32, L> = Pool::new(alloc, blank, maximum, journal)?;
+    let made: Result<Pool<u32, L>, NoMemory> = Pool::new(alloc, blank, maximum, journal_of(row));
+    let Ok(pool) = made else {
+        return put_no_memory(row, out);
+    };
     let mut leases = Vec::with_capacity(alloc, LEASES)?;
     let told = put_run(rt, &Counter { rt, pool: &pool }, &mut leases, lines, out);
     let count = audited(rt, pool, leases);
@@ -68,12 +71,12 @@ pub fn put_pool<R: Threads + Wait + Sync>(
     row: &Row<'_>,
     out: &mut Vec<u8>,
 ) -> Result<(), NoMemory> {
-    let (maximum, journal, lines) = if says(call, b"threads") {
-        (3, 64, None)
+    let (maximum, lines) = if says(call, b"threads") {
+        (3, None)
     } else {
         let maximum = row.number(b"maximum").unwrap_or(0);
-        (maximum.min(MAX_CONNECTIONS), 16, Some(row.get(b"want")))
+        (maximum.min(MAX_CONNECTIONS), Some(row.get(b"want")))
     };
     let blank = Blank::new(LEDGER_PARTS);
-    put_on_pool::<Brand, R>(rt, alloc, blank, maximum, journal, lines, out)
+    put_on_pool::<Brand, R>(rt, alloc, blank, maximum, row, lines, out)
 }

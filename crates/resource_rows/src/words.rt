@@ -1,9 +1,11 @@
 //! Words of steps and answers.
+ghost use Rattle.std.specs.Prelude.{◌≤◌};
+
 use service_pool::{AuditFault, Numbers, Over};
 use span_bank::{Audit, Book, CapacityFault, OpenFault};
 use std::alloc::Global;
 use std::fmt::Display;
-use test_rows::{NoMemory, number, put_decimal, put_line, put_number};
+use test_rows::{NoMemory, Row, number, put_decimal, put_line, put_number};
 
 /// The number after a word, as in `put 11`.
 pub fn number_after(text: &[u8], word: &[u8]) -> Option<u64> {
@@ -37,6 +39,22 @@ pub fn index_of(words: &[u8], word: &[u8]) -> Option<usize> {
         place = place.saturating_add(1);
     }
     None
+}
+
+/// For how many steps a row's journal has room: 16, if the row doesn't say.
+pub fn journal_of(row: &Row<'_>) -> usize
+    ensures { 1 ≤ result }
+{
+    row.number(b"journal").unwrap_or(16).max(1) as usize
+}
+
+/// Adds that no memory was found for what a row makes, if it is the row's journal that wants it.
+pub fn put_no_memory(row: &Row<'_>, out: &mut Vec<u8>) -> Result<(), NoMemory> {
+    if row.has(b"journal") {
+        put_line(out, b"no memory")
+    } else {
+        Err(NoMemory)
+    }
 }
 
 /// What a line of the wanted answers asks: what stands before ` = `.

@@ -43,6 +43,12 @@ FindsYoung since now most (found.Idle idle lease) = IsYoung (since idle) now mos
 FindsYoung since now most (found.Fresh lease) = now ≡ now
 FindsYoung since now most found.Busy = now ≡ now
 
+-- an idle connection that was found leads to where it should
+abbrev pub FindsLeading : {I Q A : Type 0} → (I → Type 0) → Found I Q A → Type 0
+FindsLeading leads (found.Idle idle lease) = leads idle
+FindsLeading leads (found.Fresh lease) = true ≡ true
+FindsLeading leads found.Busy = true ≡ true
+
 -- the lease that was found
 abbrev pub HasLease : {I Q A : Type 0} → Found I Q A → Leased Q A → Type 0
 HasLease (found.Idle idle lease) other = other ≡ lease
@@ -97,6 +103,11 @@ Lends now most before after (Err fault) = LendsIdle now most before after (Some 
 abbrev pub IsOf : {U Q A : Type 0} → Point → Result (LeasedConnection U Q A) LendFault → Type 0
 IsOf point (Ok connection) = point_of connection.lease ≡ point
 IsOf point (Err fault) = point ≡ point
+
+-- A connection that was lent leads to where it should.
+abbrev pub Leads : {U Q A : Type 0} → (U → Type 0) → Result (LeasedConnection U Q A) LendFault → Type 0
+Leads leads (Ok connection) = leads connection.wire
+Leads leads (Err fault) = fault ≡ fault
 
 -- What was asked to open a connection in place of one that is closed. Nothing was where the pool doesn't allow one.
 abbrev pub Reopens : {U : Type 0} → (before after : List Act → Type 0) → Result U LendFault → Type 0

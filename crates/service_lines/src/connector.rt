@@ -1,10 +1,8 @@
 //! What opens connections and wakes threads, as traits.
 
-ghost use Rattle.std.specs.Prelude.{◌≡◌, ℕ, List, ◌∷◌, Err, IfSome, is_some};
+ghost use Rattle.std.specs.Prelude.{◌≡◌, ℕ, List, ◌∷◌, Err, IfOk, IfSome, is_some, true};
 ghost use Rattle.service_lines.specs.declared.connector.Act.{Act as AnyAct};
 ghost use Rattle.service_lines.specs.Lending.{fault_in};
-
-use trace_core::Point;
 
 /// Why no connection to a service can be lent.
 #[derive(Clone, Copy, Debug, PartialEq, Eq, Drop)]
@@ -65,6 +63,9 @@ pub trait Keeper<E: Edge> {
 
     ghost past: { Self → List AnyAct → Type 0 };
 
+    // a connection that lies idle is this one, which was in use
+    ghost is_line: { E.Idle → Self.Used → Type 0 };
+
     /// Whether a used connection may lie idle: its service hasn't ended it, and nothing lies unread on it.
     fn may_rest(&mut self, used: &Self::Used) -> bool
         ensures { (p : List AnyAct) → past self.old p → past self.new (Act.Checked result ∷ p) };
@@ -73,6 +74,7 @@ pub trait Keeper<E: Edge> {
     /// then it is closed.
     fn rest(&mut self, used: Self::Used, now: u64) -> Option<E::Idle>
         ensures since { IfSome result (λ idle. E.since idle ≡ now) }
+        ensures line { IfSome result (λ idle. is_line idle used) }
         ensures asked { (p : List AnyAct) → past self.old p → past self.new (Act.Rested (is_some result) ∷ p) };
 
     /// Closes a connection.
@@ -82,17 +84,29 @@ pub trait Keeper<E: Edge> {
 
 /// What opens connections to services for an exchange, and brings idle ones into use.
 pub trait Connector<E: Edge>: Keeper<E> {
-    /// Opens a connection to the service of a point. It may still be on its way. It is never `Busy`.
-    fn open(&mut self, point: Point) -> Result<Self::Used, LendFault>
+    /// Where a service is.
+    type Place: Copy;
+
+    // a connection, or one that lies idle, leads to the service that is there
+    ghost leads: { Self.Place → Self.Used → Type 0 };
+
+    ghost idle_leads: { Self.Place → E.Idle → Type 0 };
+
+    /// Opens a connection to the service that is there. It may still be on its way. It is never `Busy`.
+    fn open(&mut self, place: Self::Place) -> Result<Self::Used, LendFault>
         ensures free { result ≡ Err LendFault.Busy → ⊥ }
+        ensures leads { IfOk result (λ used. leads place used) }
         ensures asked { (p : List AnyAct) → Self.past self.old p → Self.past self.new (Act.Opened (fault_in result) ∷ p) };
 
-    /// Whether an idle connection is fit for use: its service hasn't ended it, and has said nothing on it that nobody asked for.
-    fn is_fit(&mut self, idle: &E::Idle) -> bool
-        ensures { (p : List AnyAct) → Self.past self.old p → Self.past self.new (Act.Looked result ∷ p) };
+    /// Whether an idle connection is fit for use: it leads to the service that is there, which hasn't ended it, and has said nothing on
+    /// it that nobody asked for.
+    fn is_fit(&mut self, place: Self::Place, idle: &E::Idle) -> bool
+        ensures leads { result ≡ true → idle_leads place idle.now }
+        ensures asked { (p : List AnyAct) → Self.past self.old p → Self.past self.new (Act.Looked result ∷ p) };
 
     /// Brings an idle connection into use. Where it fails, the connection is closed. It is never `Busy`.
     fn resume(&mut self, idle: E::Idle) -> Result<Self::Used, LendFault>
         ensures free { result ≡ Err LendFault.Busy → ⊥ }
+        ensures leads { (place : Self.Place) → idle_leads place idle → IfOk result (λ used. leads place used) }
         ensures asked { (p : List AnyAct) → Self.past self.old p → Self.past self.new (Act.Resumed (E.since idle) (fault_in result) ∷ p) };
 }

@@ -3,7 +3,7 @@
 ghost use Rattle.std.specs.Prelude.{◌≡◌};
 ghost use Rattle.service_lines.specs.Lending.{point_of, is_reused};
 
-use service_pool::Lease;
+use service_pool::{Lease, SetTo};
 use std::sync::ledger::Ledger;
 use trace_core::Point;
 
@@ -34,6 +34,13 @@ impl<Q: Ledger, A: Ledger> Leased<Q, A> {
             Leased::Response(lease) => lease.reused(),
         }
     }
+}
+
+/// The maximum that the pool of one point was set to.
+#[derive(Drop)]
+pub enum Limit<Q: Ledger, A: Ledger> {
+    Request(SetTo<Q>),
+    Response(SetTo<A>),
 }
 
 /// A connection to a service, with its lease.

@@ -2,7 +2,7 @@
 
 ghost use Rattle.std.specs.Prelude.{◌≡◌, ◌↔◌, false, List, Err, Ok, IfOk, IfSome, OnOk, ◌∷◌};
 ghost use Rattle.service_lines.specs.declared.connector.Act.{Act as AnyAct};
-ghost use Rattle.service_lines.specs.Lending.{point_of, is_reused, fault_in, Tells, HasLease, IsOf, FindsYoung, after_take, after_lend, TakesLive, Lends, Reopens, LaysDown, PutsBack};
+ghost use Rattle.service_lines.specs.Lending.{point_of, is_reused, fault_in, Tells, HasLease, IsOf, FindsYoung, FindsLeading, Leads, after_take, after_lend, TakesLive, Lends, Reopens, LaysDown, PutsBack};
 
 use crate::connector::{Act, Connector, Edge, Keeper, LendFault};
 use crate::leased::{Found, Leased, LeasedConnection};
@@ -22,6 +22,7 @@ fn lay_down<E: Edge, C: Keeper<E>>(
 ) -> Option<E::Idle>
     ensures asked { LaysDown keeps (C.past connector.old) (C.past connector.new) result }
     ensures since { IfSome result (λ idle. E.since idle ≡ now) }
+    ensures line { IfSome result (λ idle. C.is_line idle used) }
 {
     if keeps && connector.may_rest(&used) {
         connector.rest(used, now)
@@ -32,21 +33,23 @@ fn lay_down<E: Edge, C: Keeper<E>>(
 }
 
 impl<'a, E: Edge, Q: Ledger, A: Ledger> Pools<'a, E, Q, A> {
-    /// Takes a connection. `None` where it is an idle one that isn't fit for use: it is closed, and its lease given up.
+    /// Takes a connection. `None` where it is an idle one that isn't fit for use there: it is closed, and its lease given up.
     fn take_fit<R: Wait, C: Connector<E>>(
         &self,
         rt: &R,
         connector: &mut C,
         point: Point,
+        place: C::Place,
         now: u64,
     ) -> Option<Found<E::Idle, Q, A>>
+        ensures leads { IfSome result (FindsLeading (C.idle_leads place)) }
         ensures tells { IfSome result (Tells point) }
         ensures young { IfSome result (FindsYoung E.since now self.now.idle_seconds) }
         ensures looks { (p : List AnyAct) → C.past connector.old p → C.past connector.new (after_take result p) }
     {
         match self.take_young(rt, point, now) {
             Found::Idle(idle, lease) => {
-                if connector.is_fit(&idle) {
+                if connector.is_fit(place, &idle) {
                     Some(Found::Idle(idle, lease))
                 } else {
                     drop(idle);
@@ -60,20 +63,22 @@ impl<'a, E: Edge, Q: Ledger, A: Ledger> Pools<'a, E, Q, A> {
     }
 
     /// Takes a connection, but never one that is too old, that its service has ended meanwhile, or on which it has said what nobody asked
-    /// for.
+    /// for, or that leads elsewhere.
     fn take_live<R: Wait, C: Connector<E>>(
         &self,
         rt: &R,
         connector: &mut C,
         point: Point,
+        place: C::Place,
         now: u64,
     ) -> Found<E::Idle, Q, A>
+        ensures leads { FindsLeading (C.idle_leads place) result }
         ensures tells { Tells point result }
         ensures young { FindsYoung E.since now self.now.idle_seconds result }
         ensures takes { TakesLive (C.past connector.old) (C.past connector.new) result }
     {
         for _ in 0..MAX_CONNECTIONS {
-            if let Some(found) = self.take_fit(rt, connector, point, now) {
+            if let Some(found) = self.take_fit(rt, connector, point, place, now) {
                 return found;
             }
         }
@@ -104,8 +109,11 @@ impl<'a, E: Edge, Q: Ledger, A: Ledger> Pools<'a, E, Q, A> {
         &self,
         rt: &R,
         connector: &mut C,
+        place: C::Place,
         found: Found<E::Idle, Q, A>,
     ) -> Result<LeasedConnection<C::Used, Q, A>, LendFault>
+        requires leads { FindsLeading (C.idle_leads place) found }
+        ensures leads { Leads (C.leads place) result }
         ensures busy { (result ≡ Err LendFault.Busy) ↔ (found ≡ Found.Busy) }
         ensures lease { IfOk result (λ connection. HasLease found connection.lease) }
         ensures asked { (p : List AnyAct) → C.past connector.old p → C.past connector.new (after_lend E.since found (fault_in result) p) }
@@ -116,44 +124,48 @@ impl<'a, E: Edge, Q: Ledger, A: Ledger> Pools<'a, E, Q, A> {
                 self.connection_of(rt, used, lease)
             }
             Found::Fresh(lease) => {
-                let used = connector.open(lease.point());
+                let used = connector.open(place);
                 self.connection_of(rt, used, lease)
             }
             Found::Busy => Err(LendFault::Busy),
         }
     }
 
-    /// Lends a connection to a point's service at this moment, in seconds: an idle one first, whoever waits.
+    /// Lends a connection to a point's service, which is there, at this moment, in seconds: an idle one first, whoever waits.
     fn lend_now<R: Wait, C: Connector<E>>(
         &self,
         rt: &R,
         connector: &mut C,
         point: Point,
+        place: C::Place,
         now: u64,
     ) -> Result<LeasedConnection<C::Used, Q, A>, LendFault>
+        ensures leads { Leads (C.leads place) result }
         ensures point { IsOf point result }
         ensures lends { Lends now self.now.idle_seconds (C.past connector.old) (C.past connector.new) result }
     {
-        let found = self.take_live(rt, connector, point, now);
-        self.lend_found(rt, connector, found)
+        let found = self.take_live(rt, connector, point, place, now);
+        self.lend_found(rt, connector, place, found)
     }
 
-    /// Lends a connection to a point's service at this moment, in seconds: an idle one first. One who comes while others wait for theirs
-    /// gets none.
+    /// Lends a connection to a point's service, which is there, at this moment, in seconds: an idle one first. One who comes while others
+    /// wait for theirs gets none.
     pub fn lend<R: Wait, C: Connector<E>>(
         &self,
         rt: &R,
         connector: &mut C,
         point: Point,
+        place: C::Place,
         now: u64,
     ) -> Result<LeasedConnection<C::Used, Q, A>, LendFault>
+        ensures leads { Leads (C.leads place) result }
         ensures point { IsOf point result }
         ensures lends { Lends now self.now.idle_seconds (C.past connector.old) (C.past connector.new) result }
     {
         if self.waiting.is_awaited(rt, point) {
             return Err(LendFault::Busy);
         }
-        self.lend_now(rt, connector, point, now)
+        self.lend_now(rt, connector, point, place, now)
     }
 
     /// Lends a connection to one who waits, once it is its turn. With a connection it has left the queue, and the next one is called.
@@ -162,47 +174,54 @@ impl<'a, E: Edge, Q: Ledger, A: Ledger> Pools<'a, E, Q, A> {
         rt: &R,
         connector: &mut C,
         point: Point,
+        place: C::Place,
         waiter: Waiter,
         now: u64,
     ) -> Result<LeasedConnection<C::Used, Q, A>, LendFault>
+        ensures leads { Leads (C.leads place) result }
         ensures point { IsOf point result }
         ensures lends { Lends now self.now.idle_seconds (C.past connector.old) (C.past connector.new) result }
     {
         if !self.waiting.is_first(rt, point, waiter) {
             return Err(LendFault::Busy);
         }
-        let lent = self.lend_now(rt, connector, point, now);
+        let lent = self.lend_now(rt, connector, point, place, now);
         if lent.is_ok() {
             self.waiting.leave(rt, point, waiter);
         }
         lent
     }
 
-    /// Opens a fresh connection in place of a leased one that broke, and that is closed.
+    /// Opens a fresh connection to the service that is there, in place of a leased one that broke, and that is closed.
     pub fn reopen<R: Wait, C: Connector<E>>(
         &self,
         rt: &R,
         connector: &mut C,
+        place: C::Place,
         lease: &mut Leased<Q, A>,
     ) -> Result<C::Used, LendFault>
+        ensures leads { IfOk result (λ used. C.leads place used) }
         ensures asked { Reopens (C.past connector.old) (C.past connector.new) result }
         ensures point { point_of lease.new ≡ point_of lease.old }
         ensures fresh { OnOk result (is_reused lease.new ≡ false) }
     {
         if self.replace(rt, lease) {
-            connector.open(lease.point())
+            connector.open(place)
         } else {
             Err(LendFault::Unreached)
         }
     }
 
-    /// Closes a connection that broke, and opens a fresh one in its place. Where there is none, its lease is given up.
+    /// Closes a connection that broke, and opens a fresh one in its place to the service that is there. Where there is none, its lease is
+    /// given up.
     pub fn renew<R: Wait, C: Connector<E>>(
         &self,
         rt: &R,
         connector: &mut C,
+        place: C::Place,
         connection: LeasedConnection<C::Used, Q, A>,
     ) -> Result<LeasedConnection<C::Used, Q, A>, LendFault>
+        ensures leads { Leads (C.leads place) result }
         ensures point { IsOf (point_of connection.lease) result }
         ensures fresh { IfOk result (λ renewed. is_reused renewed.lease ≡ false) }
 
@@ -212,7 +231,7 @@ impl<'a, E: Edge, Q: Ledger, A: Ledger> Pools<'a, E, Q, A> {
         let LeasedConnection { wire, lease } = connection;
         connector.close(wire);
         let mut lease = lease;
-        let used = self.reopen(rt, connector, &mut lease);
+        let used = self.reopen(rt, connector, place, &mut lease);
         self.connection_of(rt, used, lease)
     }
 

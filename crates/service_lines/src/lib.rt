@@ -13,7 +13,7 @@ mod queues;
 
 pub use book::PointBook;
 pub use connector::{Act, Connector, Edge, Keeper, LendFault};
-pub use leased::{Found, Leased, LeasedConnection};
+pub use leased::{Found, Leased, LeasedConnection, Limit};
 pub use pools::Pools;
 pub use queues::{POINTS, Queues, Waiting};
 pub use std::alloc::AllocError as NoMemory;

@@ -1,11 +1,12 @@
 //! The pools of both points.
 
-ghost use Rattle.std.specs.Prelude.{◌≡◌, ◌↔◌, ◌≤◌, true, false, Some, OnOk, OnErr};
+ghost use Rattle.std.specs.Prelude.{◌≡◌, ◌↔◌, ◌≤◌, true, false, Some, None, IfOk, OnOk, OnErr};
 ghost use Rattle.service_lines.specs.Lending.{Tells, IsYoung, FindsYoung, point_of, is_reused};
+ghost use Rattle.service_lines.specs.Limits.{limited_point, maximum_of};
 
 use crate::book::PointBook;
 use crate::connector::Edge;
-use crate::leased::{Found, Leased};
+use crate::leased::{Found, Leased, Limit};
 use crate::queues::Waiting;
 use adapt_bytes::MAX_CONNECTIONS;
 use options_book::Record;
@@ -175,26 +176,28 @@ impl<'a, E: Edge, Q: Ledger, A: Ledger> Pools<'a, E, Q, A> {
         true
     }
 
-    /// Sets how many connections may be open, and closes idle ones that are too many.
+    /// Sets how many connections to a point's service may be open, and closes idle ones that are too many. Which pool's maximum was set,
+    /// and to what.
     pub fn set_max<R: Wait>(
         &self,
         rt: &R,
         alloc: Global,
         point: Point,
         maximum: u64,
-    ) -> Result<(), AllocError>
+    ) -> Result<Limit<Q, A>, AllocError>
         requires { maximum ≤ MAX_CONNECTIONS }
+        ensures { IfOk result (λ limit. (limited_point limit ≡ point) × (maximum_of limit ≡ maximum)) }
     {
-        let _closed = match point {
-            Point::Reqmod => self.request.set_max(rt, alloc, maximum)?,
-            Point::Respmod => self.response.set_max(rt, alloc, maximum)?,
+        let limit = match point {
+            Point::Reqmod => Limit::Request(self.request.set_max(rt, alloc, maximum)?.limit()),
+            Point::Respmod => Limit::Response(self.response.set_max(rt, alloc, maximum)?.limit()),
         };
         self.waiting.call(rt, point);
-        Ok(())
+        Ok(limit)
     }
 
-    /// Keeps what a service said, once its pool has the maximum that it says. `Err` where no memory was found: then nothing has
-    /// changed.
+    /// Keeps what a service said, once its pool has the maximum that it says. Which pool's maximum was set, and to what. `Err` where no
+    /// memory was found: then nothing has changed.
     pub fn keep<R: Wait>(
         &self,
         rt: &R,
@@ -203,13 +206,14 @@ impl<'a, E: Edge, Q: Ledger, A: Ledger> Pools<'a, E, Q, A> {
         maximum: u64,
         book: &mut PointBook,
         said: Record,
-    ) -> Result<(), AllocError>
+    ) -> Result<Limit<Q, A>, AllocError>
         requires { maximum ≤ MAX_CONNECTIONS }
-        ensures kept { OnOk result (book.new.said ≡ Some said) }
+        ensures limits { IfOk result (λ limit. (limited_point limit ≡ point) × (maximum_of limit ≡ maximum)) }
+        ensures kept { OnOk result ((book.new.said ≡ Some said) × (book.new.tag ≡ None) × (book.new.stale ≡ false)) }
         ensures same { OnErr result (book.new ≡ book.old) }
     {
-        self.set_max(rt, alloc, point, maximum)?;
+        let limit = self.set_max(rt, alloc, point, maximum)?;
         book.keep(said);
-        Ok(())
+        Ok(limit)
     }
 }

@@ -13,7 +13,7 @@ mod window;
 
 pub use crate::journal::Journal;
 pub use crate::lease::{Lease, Taken};
-pub use crate::locked::Locked;
+pub use crate::locked::{Limited, Locked, SetTo};
 pub use crate::pool::Pool;
 pub use crate::rebasing::RebasingJournal;
 pub use crate::state::{Checked, Found, PoolState};

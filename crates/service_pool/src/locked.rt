@@ -12,7 +12,7 @@ use crate::step::{AuditFault, LEDGER_PARTS, Numbers, Over, PoolStep};
 use crate::window::Window;
 use adapt_bytes::MAX_CONNECTIONS;
 use std::alloc::Global;
-use std::marker::Model;
+use std::marker::{Model, PhantomData};
 use std::sync::ledger::{Blank, Book, Ledger, Share};
 
 /// The locked part of a pool, between two calls of its methods.
@@ -24,6 +24,40 @@ pub struct Locked<C, L: Ledger> {
     state: PoolState<C, Window>,
     leased: Book<L>,
     rest: Share<L>,
+}
+
+/// The maximum that the pool of the ledger `L` was set to, under its lock. Only that call makes one.
+#[derive(Drop)]
+pub struct SetTo<L: Ledger> {
+    maximum: u64,
+    ledger: PhantomData<L>,
+}
+
+/// The maximum that a pool was set to, and the idle connections that are to be closed.
+#[derive(Drop)]
+pub struct Limited<C, L: Ledger> {
+    closed: Vec<C>,
+    set: SetTo<L>,
+}
+
+impl<C, L: Ledger> Limited<C, L> {
+    /// The connections that are to be closed, the oldest one first.
+    pub fn into_closed(self) -> Vec<C>
+        ensures { result ≡ self.closed }
+    {
+        let Limited { closed, set: _ } = self;
+        closed
+    }
+
+    /// The maximum. The connections are dropped.
+    pub fn limit(self) -> SetTo<L>
+    where
+        C: Drop,
+        ensures { result ≡ self.set }
+    {
+        let Limited { closed: _, set } = self;
+        set
+    }
 }
 
 impl<C, L: Ledger> Model for Locked<C, L> {
@@ -161,16 +195,24 @@ impl<C, L: Ledger> Locked<C, L> {
     /// Sets the largest number of open connections, as the step `Limit`, and hands back idle ones to
     /// be closed: oldest first, until at most that many are open or no connection is idle. `Err` if
     /// their list finds no memory.
-    pub fn set_max(&mut self, alloc: Global, maximum: u64) -> Result<Vec<C>, NoMemory>
+    pub fn set_max(&mut self, alloc: Global, maximum: u64) -> Result<Limited<C, L>, NoMemory>
         requires { maximum ≤ MAX_CONNECTIONS }
-        ensures oldest { IfOk result (λ closed. closed.items ++ self.new.idle ≡ self.old.idle) }
-        ensures few { IfOk result (λ closed. vec_len closed ≤ MAX_CONNECTIONS) }
+        ensures oldest { IfOk result (λ limited. limited.closed.items ++ self.new.idle ≡ self.old.idle) }
+        ensures few { IfOk result (λ limited. vec_len limited.closed ≤ MAX_CONNECTIONS) }
+        ensures set { IfOk result (λ limited. limited.set.maximum ≡ maximum) }
         ensures step { OnOk result
             (self.new.journal ≡ stepped slid self.old.journal (PoolStep.Limit maximum)) }
         ensures err { OnErr result (self.new ≡ self.old) }
         ensures kept { IsKept self.new }
     {
-        self.state.set_max(alloc, maximum)
+        let closed = self.state.set_max(alloc, maximum)?;
+        Ok(Limited {
+            closed,
+            set: SetTo {
+                maximum,
+                ledger: PhantomData,
+            },
+        })
     }
 
     /// Ends the pool with all its leases, and returns their number, which is the leased number; idle

@@ -5,7 +5,7 @@ ghost use Rattle.service_pool.specs.Leasing.{Tells};
 
 use crate::NoMemory;
 use crate::lease::{Lease, Taken};
-use crate::locked::Locked;
+use crate::locked::{Limited, Locked};
 use crate::state::{Checked, PoolState};
 use crate::step::{AuditFault, LEDGER_PARTS, Numbers, Over};
 use adapt_bytes::MAX_CONNECTIONS;
@@ -110,9 +110,15 @@ impl<C, L: Ledger> Pool<C, L> {
     /// Sets the largest number of open connections, and hands back idle ones to be closed: oldest
     /// first, until at most that many are open or no connection is idle. `Err` if their list finds
     /// no memory; then nothing has changed.
-    pub fn set_max(&self, rt: &impl Wait, alloc: Global, maximum: u64) -> Result<Vec<C>, NoMemory>
+    pub fn set_max(
+        &self,
+        rt: &impl Wait,
+        alloc: Global,
+        maximum: u64,
+    ) -> Result<Limited<C, L>, NoMemory>
         requires { maximum ≤ MAX_CONNECTIONS }
-        ensures { IfOk result (λ closed. vec_len closed ≤ MAX_CONNECTIONS) }
+        ensures few { IfOk result (λ limited. vec_len limited.closed ≤ MAX_CONNECTIONS) }
+        ensures set { IfOk result (λ limited. limited.set.maximum ≡ maximum) }
     {
         self.locked.lock(rt).set_max(alloc, maximum)
     }

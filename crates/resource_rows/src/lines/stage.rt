@@ -134,6 +134,8 @@ impl<'a, 'o> Keeper<Memory<'a>> for Hand<'a, 'o> {
 
     ghost past = { λ hand p. ⊤ };
 
+    ghost is_line = { λ idle used. ⊤ };
+
     fn may_rest(&mut self, used: &u64) -> bool {
         let is_quiet = self.stage.is_quiet(*used);
         self.say(b"checks", *used);
@@ -163,8 +165,14 @@ impl<'a, 'o> Keeper<Memory<'a>> for Hand<'a, 'o> {
 }
 
 impl<'a, 'o> Connector<Memory<'a>> for Hand<'a, 'o> {
-    fn open(&mut self, point: Point) -> Result<u64, LendFault> {
-        let name: &[u8] = match point {
+    type Place = Point;
+
+    ghost leads = { λ place used. ⊤ };
+
+    ghost idle_leads = { λ place idle. ⊤ };
+
+    fn open(&mut self, place: Point) -> Result<u64, LendFault> {
+        let name: &[u8] = match place {
             Point::Reqmod => b"opens",
             Point::Respmod => b"opens response",
         };
@@ -183,7 +191,7 @@ impl<'a, 'o> Connector<Memory<'a>> for Hand<'a, 'o> {
         }
     }
 
-    fn is_fit(&mut self, idle: &Idle<'a>) -> bool {
+    fn is_fit(&mut self, _place: Point, idle: &Idle<'a>) -> bool {
         let is_quiet = self.stage.is_quiet(idle.number);
         self.say(b"looks", idle.number);
         self.say_truth(is_quiet);

@@ -105,7 +105,7 @@ fn put_pools<E: Edge, Q: Ledger, A: Ledger, R: Wait>(
         return put_truth(out, pools.make_room(rt, 3));
     }
     if says(word, b"maximum") {
-        pools.set_max(rt, alloc, point, number.min(MAX_CONNECTIONS))?;
+        let _ = pools.set_max(rt, alloc, point, number.min(MAX_CONNECTIONS))?;
     }
     put_counts(rt, pools, point, out)
 }
@@ -186,9 +186,9 @@ impl<'a, 's, Q: Ledger, A: Ledger, R: Wait> Play<'a, 's, Q, A, R> {
         let lent = match waiter {
             Some(waiter) => {
                 self.pools
-                    .lend_in_turn(self.rt, &mut hand, point, waiter, now)
+                    .lend_in_turn(self.rt, &mut hand, point, point, waiter, now)
             },
-            None => self.pools.lend(self.rt, &mut hand, point, now),
+            None => self.pools.lend(self.rt, &mut hand, point, point, now),
         };
         let Hand { stage: _, out } = hand;
         self.keep(lent, out)
@@ -210,7 +210,8 @@ impl<'a, 's, Q: Ledger, A: Ledger, R: Wait> Play<'a, 's, Q, A, R> {
             out,
         };
         if says(word, b"renew") {
-            let lent = self.pools.renew(self.rt, &mut hand, connection);
+            let point = connection.lease.point();
+            let lent = self.pools.renew(self.rt, &mut hand, point, connection);
             let Hand { stage: _, out } = hand;
             return self.keep(lent, out);
         }
