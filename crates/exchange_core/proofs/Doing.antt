@@ -3,11 +3,12 @@ use Rattle.std.proofs.Common.{◌≡◌, ◌||◌, true, false, List, subst, ari
 use Rattle.std.proofs.lemmas.Bool.Decides.{nat_tests}
 use Rattle.exchange_core.specs.declared.event.Event.{Event}
 use Rattle.exchange_core.specs.declared.event.Event.TheVariants.{HeadBegun, RequestRead, ResponseRead, Stale, Queued, Lent, Asked, Learned, Planned, Reserved, HalfTold, Stuck, Told, Dialed, Started, LetPass, Renewed, Served, Begun, Sent, Answered, Failed, Returned, Released, HungUp, Refused, UserClosed, UserLost, Dropped, Late, Drain, Stop, Tried}
+use Rattle.exchange_core.specs.declared.due.Due.{Due}
 use Rattle.exchange_core.specs.declared.due.Due.TheVariants.{Await, Start, Turn, ReadResponse}
 use Rattle.exchange_core.specs.declared.event.RefusalCause.{RefusalCause}
 use Rattle.exchange_core.specs.declared.course.Course.{Course}
 use Rattle.exchange_core.specs.May.{is_refusing, is_gone, may_come, is_free}
-use Rattle.exchange_core.specs.Dues.{due_of, comes_of, fits, is_wait, is_for_message, is_for_user, is_between}
+use Rattle.exchange_core.specs.Dues.{due_of, comes_of, fits, is_wait, is_for_message, fails_of, is_for_user, is_between}
 use Rattle.exchange_core.specs.Log.{course_of, IsLegal, IsReached}
 use Rattle.exchange_core.proofs.Sound.{Sound, sound}
 use Rattle.exchange_core.proofs.Going.{waits_late}
@@ -78,6 +79,13 @@ turns_there c r d = turns_at c (sound_there c r) d
 
 pub fails_there : (c : Course) (why : RefusalCause) → is_for_message (due_of c) ≡ true → may_come c (Failed why) ≡ true
 fails_there c why d = grind (arith, nat_tests)
+
+-- what fails of a cause is due for a message
+for_message : (d : Due) (why : RefusalCause) → fails_of d why ≡ true → is_for_message d ≡ true
+for_message d why f = grind (arith, nat_tests)
+
+pub fails_so : (c : Course) (why : RefusalCause) → fails_of (due_of c) why ≡ true → may_come c (Failed why) ≡ true
+fails_so c why f = fails_there c why (for_message (due_of c) why f)
 
 serves_at : (c : Course) → Sound c → is_for_user (due_of c) ≡ true → c.stopping ≡ false
 serves_at c s d = grind (arith, nat_tests)

@@ -186,3 +186,39 @@ abbrev pub is_for_telling : Due → Bool
 is_for_telling TryTell = true
 is_for_telling Tell = true
 is_for_telling _ = false
+
+-- it lies with others, or room, a connection or memory was wanting
+abbrev pub lies_elsewhere : RefusalCause → Bool
+lies_elsewhere causes.Elsewhere = true
+lies_elsewhere causes.Scarce = true
+lies_elsewhere _ = false
+
+-- it lies with a request's head, or memory was wanting for that
+abbrev pub lies_in_head : RefusalCause → Bool
+lies_in_head causes.Faulty = true
+lies_in_head causes.Unserved = true
+lies_in_head causes.Scarce = true
+lies_in_head _ = false
+
+abbrev pub is_scarce : RefusalCause → Bool
+is_scarce causes.Scarce = true
+is_scarce _ = false
+
+abbrev pub is_deadline : RefusalCause → Bool
+is_deadline causes.Deadline = true
+is_deadline _ = false
+
+-- what is due fails of this cause: a reservation of a want alone, a user that takes no text of the deadline alone
+abbrev pub fails_of : Due → RefusalCause → Bool
+fails_of ReadRequest why = lies_in_head why
+fails_of Plan why = lies_elsewhere why
+fails_of Lend why = lies_elsewhere why
+fails_of Await why = lies_elsewhere why || is_deadline why
+fails_of Ask why = lies_elsewhere why
+fails_of Hear why = lies_elsewhere why || is_deadline why
+fails_of Reserve why = is_scarce why
+fails_of Tell why = is_deadline why
+fails_of Dial why = lies_elsewhere why
+fails_of Start why = is_scarce why
+fails_of ReadResponse why = lies_elsewhere why || is_deadline why
+fails_of _ why = false

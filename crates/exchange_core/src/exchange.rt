@@ -40,7 +40,7 @@ impl Exchange {
     ghost use Rattle.exchange_core.specs.declared.due.Due.TheVariants.{Await, Start, Turn, ReadResponse};
     ghost use Rattle.exchange_core.specs.Course.{start, after};
     ghost use Rattle.exchange_core.specs.May.{may_come, is_free, is_refusing, is_gone};
-    ghost use Rattle.exchange_core.specs.Dues.{due_of, comes_of, fits, is_wait, is_for_message, is_for_user, is_between};
+    ghost use Rattle.exchange_core.specs.Dues.{due_of, comes_of, fits, is_wait, fails_of, is_for_user, is_between};
     ghost use Rattle.exchange_core.specs.Log.{IsReached, Goes};
 
     /// Before the first event: the head of the first request comes.
@@ -87,9 +87,9 @@ impl Exchange {
         self.course = self.course.after(Event::Late);
     }
 
-    /// Takes it that the message, or the head before it, goes no further.
+    /// Takes it that the message, or the head before it, goes no further, for a cause of which what is due may fail.
     pub fn failed(&mut self, why: RefusalCause)
-        requires { is_for_message (due_of self.old) ≡ true }
+        requires { fails_of (due_of self.old) why ≡ true }
         ensures after { self.new ≡ after self.old (Failed why) }
         ensures goes { Goes self.old self.new }
     {

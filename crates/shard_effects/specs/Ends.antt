@@ -12,3 +12,9 @@ EndsBy ended.Deadline end = end ≡ ends.Failed causes.Deadline
 EndsBy ended.Stop end = end ≡ ends.Stopped
 EndsBy ended.User end = end ≡ ends.Lost
 EndsBy _ end = ⊤
+
+-- where nothing else ends it
+abbrev pub IfItself : EndedBy → Type 0 → Type 0
+IfItself ended.Itself told = told
+IfItself ended.Gate told = told
+IfItself _ told = ⊤

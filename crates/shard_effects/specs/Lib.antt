@@ -1,3 +1,4 @@
 pub mod Ends
 pub mod Hand
 pub mod Reasons
+pub mod Saying

@@ -1,5 +1,7 @@
 //! What is answered to an exchange that asks for a thing.
 
+ghost use Rattle.std.specs.Prelude.{◌≡◌};
+
 use crate::reason::Reason;
 use adapt_sides::{ClientFault, RelayFault};
 use icap_head::IcapResponse;
@@ -11,7 +13,8 @@ pub enum HeadTurn {
     Whole,
     /// Bytes of it came.
     More,
-    /// An interim response before it was dropped. It puts off no deadline, and bytes after it may have come with it.
+    /// An interim response before it was dropped, or bytes came after one. That puts off no deadline, and bytes after it may have come
+    /// with it.
     Interim,
     /// Nothing came.
     Nothing,
@@ -40,8 +43,12 @@ pub enum Unplanned {
 }
 
 impl Unplanned {
+    ghost use Rattle.shard_effects.specs.Reasons.{unplanned_reason};
+
     /// Why a message is refused that has no plan, though its service was asked.
-    pub fn reason(self) -> Reason {
+    pub fn reason(self) -> Reason
+        ensures { result ≡ unplanned_reason self }
+    {
         match self {
             Unplanned::Stale => Reason::Service,
             Unplanned::Refused(reason) => reason,

@@ -1,12 +1,22 @@
 //! What an exchange asks of what it holds.
 
-ghost use Rattle.std.specs.Prelude.{◌≡◌, Bool, IsTrue, Some, is_ok, true, false, IfSome};
+ghost use Rattle.std.specs.Prelude.{◌≡◌, Bool, IsTrue, Some, Result, is_ok, true, false, IfSome, IfOk, IfErr};
+ghost use Rattle.exchange_core.specs.Course.{is_ready};
 ghost use Rattle.exchange_core.specs.Dues.{due_of, is_for_telling, refusal_due};
+ghost use Rattle.exchange_core.specs.declared.event.RefusalCause.TheVariants.{Scarce};
 ghost use Rattle.exchange_core.specs.Log.{is_silent};
 ghost use Rattle.exchange_core.specs.May.{is_gone};
-ghost use Rattle.http_side.specs.Refusals.{is_own_status};
-ghost use Rattle.shard_effects.specs.Hand.{Hand, IsEmpty, Keeps, KeepsButLease, KeepsButRoom, KeepsButOrigin, SetsOut, ComesBack};
-ghost use Rattle.shard_effects.specs.Ends.{EndsBy};
+ghost use Rattle.http_side.specs.Refusals.{is_own_status, refusal};
+ghost use Rattle.icap_head.specs.Heads.{Response as AnyResponse, response_parts};
+ghost use Rattle.trace_core.specs.declared.history.Point.{Point as AnyPoint};
+ghost use Rattle.wire_kit.specs.Past.{Past};
+ghost use Rattle.shard_effects.specs.Hand.{Hand, IsEmpty, Keeps, KeepsButTold, KeepsButRefused, KeepsButLease, KeepsButRoom, KeepsButOrigin, SetsOut, ComesBack};
+ghost use Rattle.shard_effects.specs.Ends.{EndsBy, IfItself};
+ghost use Rattle.shard_effects.specs.Reasons.{cause_of, lies_elsewhere, unplanned_reason};
+ghost use Rattle.shard_effects.specs.Saying.{SaysOn, interim_text};
+ghost use Rattle.shard_effects.specs.declared.answers.Marks.{Marks as AnyMarks};
+ghost use Rattle.shard_effects.specs.declared.answers.Unplanned.{Unplanned as AnyUnplanned};
+ghost use Rattle.shard_effects.specs.declared.ends.End.{End as AnyEnd};
 
 use crate::answers::{HeadTurn, Lingered, Marks, OptionsTurn, Round, Said, Started, Unplanned};
 use crate::ends::{EndedBy, Report};
@@ -32,6 +42,18 @@ pub trait Holder: InHand {
 
     // the connection to its service may carry another request
     ghost reusable: { Self → Bool };
+
+    // what may have happened on the user's connection so far, where no transaction has it
+    ghost user_past: { Self → Past → Type 0 };
+
+    // so may that on which a service was asked for its options and answered this
+    ghost usable_after: { Self → AnyResponse → Bool };
+
+    // what the course is told of the message that moves where nothing else ends it: by how its transaction ended
+    ghost ends: { Self → AnyEnd → Type 0 };
+
+    // by whether a byte of an answer went to its user: that one's connection is cut, so that the user sees that the answer isn't whole
+    ghost cut_is: { Self → (answered cut : Bool) → Type 0 };
 
     /// The surroundings of the exchanges of a thread.
     type Outside;
@@ -62,17 +84,19 @@ pub trait Holder: InHand {
     fn hear(&mut self) -> Option<OptionsTurn>
         ensures { Keeps (Self.hand self.old) (Self.hand self.new) };
 
-    /// Tells the user to send its body, as far as it takes the text. At this course that is due.
+    /// Tells the user to send its body, as far as it takes the text, from where the last call ended. At this course that is due.
     fn tell(&mut self, course: &Exchange) -> Said
         requires due { is_for_telling (due_of course.now) ≡ true }
-        ensures kept { Keeps (Self.hand self.old) (Self.hand self.new) };
+        ensures says { SaysOn (user_past self.old) (user_past self.new) interim_text (Self.hand self.old).told (Self.hand self.new).told result }
+        ensures kept { KeepsButTold (Self.hand self.old) (Self.hand self.new) };
 
-    /// Says the refusal of this status to the user, as far as it takes it. At this course it is due, so no byte of an answer or of
-    /// another text is out. The proxy has a refusal of that status.
+    /// Says the refusal of this status to the user, as far as it takes it, from where the last call ended. At this course it is due, so
+    /// no byte of an answer or of another text is out. The proxy has a refusal of that status.
     fn refuse(&mut self, course: &Exchange, status: u16) -> Said
         requires due { refusal_due (due_of course.now) ≡ Some status }
         requires own { IsTrue (is_own_status status) }
-        ensures kept { Keeps (Self.hand self.old) (Self.hand self.new) };
+        ensures says { SaysOn (user_past self.old) (user_past self.new) (refusal status) (Self.hand self.old).refused (Self.hand self.new).refused result }
+        ensures kept { KeepsButRefused (Self.hand self.old) (Self.hand self.new) };
 
     /// Whether the user was told that nothing more comes.
     fn is_finished(&self) -> bool;
@@ -108,6 +132,17 @@ pub trait Effects<P>: Holder {
     // no byte of the exchange moved for longer than the deadline
     ghost is_late: { Self.Outside → P → Bool };
 
+    // a message is planned: what is held before and after that, its surroundings, whether its service was asked for it, and the answer
+    ghost plans: { Self → Self → Self.Outside → P → Bool → Result AnyMarks AnyUnplanned → Type 0 };
+
+    // what a point's service said of its options was read of this answer, and is kept: the surroundings before and after that
+    ghost learns: { Self.Outside → Self.Outside → P → AnyPoint → AnyResponse → Type 0 };
+
+    // the leased connection that is held was put back, or its lease given up: the surroundings before that and after it
+    ghost puts: { Self → Self.Outside → Self.Outside → P → Type 0 };
+
+    ghost gives_up: { Self → Self.Outside → Self.Outside → P → Type 0 };
+
     /// Whether no byte moved for longer than the deadline.
     fn is_late(at: &P, out: &Self::Outside) -> bool
         ensures { result ≡ is_late out.now at.now };
@@ -124,9 +159,11 @@ pub trait Effects<P>: Holder {
     /// Whether the transaction of a message may move.
     fn may_pass(at: &P, out: &mut Self::Outside) -> bool;
 
-    /// Plans the message, and keeps its plan.
+    /// Plans the message, and keeps its plan. Its service was asked for it, or not.
     fn plan(&mut self, at: &P, out: &Self::Outside, asked: bool) -> Result<Marks, Unplanned>
-        ensures { Keeps (Self.hand self.old) (Self.hand self.new) };
+        ensures plans { plans self.old self.new out.now at.now asked result }
+        ensures suits { IfErr result (λ unplanned. lies_elsewhere (unplanned_reason unplanned) ≡ true) }
+        ensures kept { Keeps (Self.hand self.old) (Self.hand self.new) };
 
     /// Leases a connection of the point's service: whether it was idle before.
     fn lend(&mut self, at: &P, out: &mut Self::Outside, point: Point) -> Result<bool, LendFault>
@@ -153,11 +190,13 @@ pub trait Effects<P>: Holder {
 
     /// Begins to ask the point's service for its options.
     fn ask(&mut self, at: &P, out: &Self::Outside, point: Point) -> Result<(), Reason>
-        ensures { Keeps (Self.hand self.old) (Self.hand self.new) };
+        ensures suits { IfErr result (λ reason. lies_elsewhere reason ≡ true) }
+        ensures kept { Keeps (Self.hand self.old) (Self.hand self.new) };
 
     /// Begins to ask anew, on a fresh connection.
     fn ask_anew(&mut self, at: &P, out: &mut Self::Outside, point: Point) -> Result<(), Reason>
-        ensures { Keeps (Self.hand self.old) (Self.hand self.new) };
+        ensures suits { IfErr result (λ reason. lies_elsewhere reason ≡ true) }
+        ensures kept { Keeps (Self.hand self.old) (Self.hand self.new) };
 
     /// Keeps what the point's service said of its options: whether its connection may serve again.
     fn learn(
@@ -167,7 +206,10 @@ pub trait Effects<P>: Holder {
         point: Point,
         answer: &IcapResponse,
     ) -> Result<bool, Reason>
-        ensures { Keeps (Self.hand self.old) (Self.hand self.new) };
+        ensures usable { IfOk result (λ usable. usable ≡ Self.usable_after self.old (response_parts answer.now)) }
+        ensures learned { IfOk result (λ _. learns out.old out.new at.now point (response_parts answer.now)) }
+        ensures suits { IfErr result (λ reason. lies_elsewhere reason ≡ true) }
+        ensures kept { Keeps (Self.hand self.old) (Self.hand self.new) };
 
     /// Takes note that the service's connection failed while it was asked.
     fn blame(&self, at: &P, out: &mut Self::Outside, fault: ClientFault);
@@ -176,12 +218,14 @@ pub trait Effects<P>: Holder {
     fn reserve<R: Wait>(&mut self, rt: &R, at: &P, out: &mut Self::Outside) -> Result<(), Reason>
         requires { ((Self.hand self.old).room ≡ false) × ((Self.hand self.old).moving ≡ false) }
         ensures reserved { is_ok result ≡ (Self.hand self.new).room }
+        ensures suits { IfErr result (λ reason. cause_of reason ≡ Scarce) }
         ensures kept { KeepsButRoom (Self.hand self.old) (Self.hand self.new) };
 
     /// Opens the connection that a request goes to for which this was reserved.
     fn dial(&mut self, at: &P, out: &mut Self::Outside) -> Result<(), Reason>
         requires { ((Self.hand self.old).origin ≡ false) × ((Self.hand self.old).moving ≡ false) }
         ensures opened { is_ok result ≡ (Self.hand self.new).origin }
+        ensures suits { IfErr result (λ reason. lies_elsewhere reason ≡ true) }
         ensures kept { KeepsButOrigin (Self.hand self.old) (Self.hand self.new) };
 
     /// Starts the transaction of a message that has all that it needs. Where it can't, what it would have stood over stays here.
@@ -204,16 +248,20 @@ pub trait Effects<P>: Holder {
         ensures back { ComesBack (Self.hand self.old) (Self.hand self.new) }
         ensures ends { EndsBy by result.end }
         ensures answered { result.has_answered ≡ Self.answered self.old }
+        ensures told { IfItself by (Self.ends self.old result.end) }
         ensures cuts { result.has_answered ≡ false → result.cuts ≡ false }
+        ensures cut { Self.cut_is self.old result.has_answered result.cuts }
         ensures served { IfSome result.served (λ usable. usable ≡ Self.reusable self.old) };
 
-    /// Puts the service's connection back where it is ready to serve again. Else it is closed, and its lease given up. Says whether
-    /// it was put back.
-    fn give_back(&mut self, at: &P, out: &mut Self::Outside, is_ready: bool) -> bool
+    /// Puts the service's connection back where by this course nothing is under way on it, and it may serve again: the one that was leased,
+    /// with its lease. Else it is closed, and its lease given up. Says whether it was put back.
+    fn give_back(&mut self, at: &P, out: &mut Self::Outside, course: &Exchange) -> bool
         requires { (Self.hand self.old).leased ≡ true }
         ensures back { (Self.hand self.new).leased ≡ false }
         ensures kept { KeepsButLease (Self.hand self.old) (Self.hand self.new) }
-        ensures ready { result ≡ true → is_ready ≡ true };
+        ensures put { result ≡ true → puts self.old out.old out.new at.now }
+        ensures closed { result ≡ false → gives_up self.old out.old out.new at.now }
+        ensures ready { result ≡ true → is_ready course.now.connection ≡ true };
 
     /// Closes the reservation.
     fn release<R: Wait>(&mut self, rt: &R, at: &P, out: &mut Self::Outside)
@@ -233,7 +281,8 @@ pub trait Effects<P>: Holder {
 
     /// The head of a request was read. Its user was told nothing yet.
     fn note_request(&mut self, at: &P, out: &mut Self::Outside)
-        ensures { Keeps (Self.hand self.old) (Self.hand self.new) };
+        ensures untold { (Self.hand self.new).told ≡ 0 }
+        ensures kept { KeepsButTold (Self.hand self.old) (Self.hand self.new) };
 
     /// The head of the origin's response was read.
     fn note_response(&self, at: &P, out: &mut Self::Outside);

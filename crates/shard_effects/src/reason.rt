@@ -1,9 +1,12 @@
 //! Why the proxy answers a request itself, and with which status (RFC 9110, section 15).
 
-ghost use Rattle.std.specs.Prelude.{◌≡◌, IsTrue};
+ghost use Rattle.std.specs.Prelude.{◌≡◌, IsTrue, IfSome, true};
 ghost use Rattle.http_side.specs.Refusals.{is_own_status};
-ghost use Rattle.shard_effects.specs.Reasons.{request_status, status_of, user_head_reason, origin_head_reason, options_reason, record_reason, open_reason};
+ghost use Rattle.exchange_core.specs.declared.event.RefusalCause.TheVariants.{Scarce};
+ghost use Rattle.exchange_core.specs.Dues.{lies_in_head};
+ghost use Rattle.shard_effects.specs.Reasons.{cause_of, lies_elsewhere, status_of, user_head_reason, origin_head_reason, options_reason, record_reason, open_reason};
 
+use crate::causes::refusal_cause_of;
 use adapt_sides::{ClientFault, RelayFault};
 use http_side::HttpFault;
 use options_book::OptFault;
@@ -37,37 +40,19 @@ pub enum Reason {
 }
 
 impl Reason {
-    /// The status of the proxy's own response, one of those that [`http_side::own_refusal`] has a text for.
+    /// The status of the proxy's own response, one of those that [`http_side::own_refusal`] has a text for: that of its cause.
     pub fn status(self) -> u16
         ensures status { result ≡ status_of self }
         ensures own { IsTrue (is_own_status result) }
     {
-        match self {
-            Reason::Request(fault) => request_status(fault),
-            Reason::UnknownHost | Reason::NoOrigin | Reason::OriginHead | Reason::Service => 502,
-            Reason::Busy | Reason::Full | Reason::NoRow | Reason::NoMemory | Reason::Stopping => {
-                503
-            }
-            Reason::Deadline => 504,
-        }
-    }
-}
-
-/// The status for a request's head that is refused.
-fn request_status(fault: HttpFault) -> u16
-    ensures status { result ≡ request_status fault }
-    ensures own { IsTrue (is_own_status result) }
-{
-    match fault {
-        HttpFault::Coding | HttpFault::Connect => 501,
-        HttpFault::NoMemory => 503,
-        _ => 400,
+        refusal_cause_of(self).status()
     }
 }
 
 /// Why a user is refused whose request has no head. `None` where it ended or broke off inside its head: it gets no answer.
 pub fn user_head_reason(fault: RelayFault, head: Option<HttpFault>) -> Option<Reason>
-    ensures { result ≡ user_head_reason fault head }
+    ensures reason { result ≡ user_head_reason fault head }
+    ensures suits { IfSome result (λ reason. lies_in_head (cause_of reason) ≡ true) }
 {
     match fault {
         RelayFault::Head => Some(Reason::Request(head.unwrap_or(HttpFault::Bad))),
@@ -78,7 +63,8 @@ pub fn user_head_reason(fault: RelayFault, head: Option<HttpFault>) -> Option<Re
 
 /// Why a user is refused whose origin's response has no head.
 pub fn origin_head_reason(fault: RelayFault, head: Option<HttpFault>) -> Reason
-    ensures { result ≡ origin_head_reason fault head }
+    ensures reason { result ≡ origin_head_reason fault head }
+    ensures suits { lies_elsewhere result ≡ true }
 {
     match (fault, head) {
         (RelayFault::NoMemory, _) | (RelayFault::Head, Some(HttpFault::NoMemory)) => {
@@ -90,7 +76,8 @@ pub fn origin_head_reason(fault: RelayFault, head: Option<HttpFault>) -> Reason
 
 /// Why a user is refused where the service's answer to OPTIONS can't be had.
 pub fn options_reason(fault: ClientFault) -> Reason
-    ensures { result ≡ options_reason fault }
+    ensures reason { result ≡ options_reason fault }
+    ensures suits { lies_elsewhere result ≡ true }
 {
     match fault {
         ClientFault::NoMemory => Reason::NoMemory,
@@ -100,7 +87,8 @@ pub fn options_reason(fault: ClientFault) -> Reason
 
 /// Why a user is refused where the service's answer to OPTIONS is no record.
 pub fn record_reason(fault: OptFault) -> Reason
-    ensures { result ≡ record_reason fault }
+    ensures reason { result ≡ record_reason fault }
+    ensures suits { lies_elsewhere result ≡ true }
 {
     match fault {
         OptFault::NoMemory => Reason::NoMemory,
@@ -110,7 +98,8 @@ pub fn record_reason(fault: OptFault) -> Reason
 
 /// Why a user is refused for whose message nothing can be reserved.
 pub fn open_reason(fault: OpenFault) -> Reason
-    ensures { result ≡ open_reason fault }
+    ensures reason { result ≡ open_reason fault }
+    ensures suits { cause_of result ≡ Scarce }
 {
     match fault {
         OpenFault::Full { claimed: _ } => Reason::Full,

@@ -1,2 +1,3 @@
+pub mod Learning
 pub mod Planning
-pub mod Saying
+pub mod Usable

@@ -135,3 +135,9 @@ pub record IsKept (by : Grounds) (m : Arrival) (kept : Option (Box Planned Globa
 abbrev pub Plans : Grounds → Arrival → (old new : Option (Box Planned Global)) → Result Marks Unplanned → Type 0
 Plans by m old new (Ok marks) = IsKept by m new marks
 Plans by m old new (Err unplanned) = (new ≡ old) × HasNoPlan by m unplanned
+
+-- A message is planned by what its surroundings are said to have: their configuration, limits, books and moment.
+abbrev pub PlansBy : (config_is : Config → Type 0) → (limits_is : Limits → Type 0) → (book_is : Point → PointBook → Type 0) → (now_is : ℕ → Type 0)
+    → (asked : Bool) → Arrival → (old new : Option (Box Planned Global)) → Result Marks Unplanned → Type 0
+PlansBy config_is limits_is book_is now_is asked m old new result = (config : Config) × config_is config × (limits : Limits) × limits_is limits
+    × (book : PointBook) × book_is (point_of m.user) book × (now : ℕ) × now_is now × Plans (grounds config limits book now asked) m old new result

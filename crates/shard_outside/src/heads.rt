@@ -9,13 +9,23 @@ use shard_effects::HeadTurn;
 use std::boxed::Box;
 use wire_kit::Wire;
 
+/// What a turn means that read bytes of a head which isn't whole. After an interim response they count as one: an origin that never
+/// answers could send such heads in pieces for ever.
+fn part_of(message: &Incoming) -> HeadTurn {
+    if message.has_interims() {
+        HeadTurn::Interim
+    } else {
+        HeadTurn::More
+    }
+}
+
 /// A turn at a message's head over this wire.
 fn head_turn<W: Wire>(message: &mut Incoming, wire: &mut W) -> HeadTurn {
     let (before, _) = wire.counts();
     match message.head_turn(wire) {
         Ok(HeadProgress::Taken) => HeadTurn::Whole,
         Ok(HeadProgress::Interim) => HeadTurn::Interim,
-        Ok(HeadProgress::More) if wire.counts().0 != before => HeadTurn::More,
+        Ok(HeadProgress::More) if wire.counts().0 != before => part_of(message),
         Ok(HeadProgress::More) => HeadTurn::Nothing,
         Err(fault) => HeadTurn::Fault(fault),
     }

@@ -1,5 +1,11 @@
 //! Asking a service for its options.
 
+ghost use Rattle.std.specs.Prelude.{◌≡◌, IfOk, IfErr, true};
+ghost use Rattle.icap_head.specs.Heads.{response_parts};
+ghost use Rattle.shard_effects.specs.Reasons.{lies_elsewhere};
+ghost use Rattle.shard_outside.specs.Learning.{IsLearned};
+ghost use Rattle.shard_outside.specs.Usable.{usable_by};
+
 use crate::outside::Outside;
 use crate::planning::service_of;
 use crate::slots::lay;
@@ -13,7 +19,9 @@ use trace_core::Point;
 use wire_kit::Wire;
 
 /// Who asks the service of a point for its options. `Err` where there is no service, or no memory was found.
-fn asker<P, O: Outside<P>>(out: &O, point: Point) -> Result<Box<OptionsSide>, Reason> {
+fn asker<P, O: Outside<P>>(out: &O, point: Point) -> Result<Box<OptionsSide>, Reason>
+    ensures { IfErr result (λ reason. lies_elsewhere reason ≡ true) }
+{
     let Some(service) = service_of(out.config(), point) else {
         return Err(Reason::Service);
     };
@@ -32,7 +40,9 @@ pub fn begin_asking<P, O: Outside<P>>(
     out: &O,
     point: Point,
     asking: &mut Option<Box<OptionsSide>>,
-) -> Result<(), Reason> {
+) -> Result<(), Reason>
+    ensures { IfErr result (λ reason. lies_elsewhere reason ≡ true) }
+{
     match asker(out, point) {
         Ok(side) => {
             lay(asking, side);
@@ -59,7 +69,11 @@ pub fn keep<P, O: Outside<P>>(
     out: &mut O,
     point: Point,
     answer: &IcapResponse,
-) -> Result<(), Reason> {
+) -> Result<(), Reason>
+    ensures learned { IfOk result (λ _. IsLearned (O.config_is out.old) (O.now_is out.old at.now) (O.keeps out.old out.new at.now point)
+        point (response_parts answer.now)) }
+    ensures suits { IfErr result (λ reason. lies_elsewhere reason ≡ true) }
+{
     match read_record(out.alloc(), answer, point, out.now(at)) {
         Ok(record) => {
             let mut record = record;
@@ -74,7 +88,9 @@ pub fn keep<P, O: Outside<P>>(
 }
 
 /// Whether a connection on which this was said may serve again.
-pub fn is_reusable(asking: &Option<Box<OptionsSide>>, answer: &IcapResponse) -> bool {
+pub fn is_reusable(asking: &Option<Box<OptionsSide>>, answer: &IcapResponse) -> bool
+    ensures { result ≡ usable_by (λ side. side.value.raw) asking.now (response_parts answer.now) }
+{
     match asking {
         Some(side) => is_reusable_after_options(side, answer),
         None => false,

@@ -1,13 +1,17 @@
 //! What an exchange asks of its surroundings: connections, the budget, the clock, and what is noted of it.
 
-ghost use Rattle.std.specs.Prelude.{◌≡◌, ℕ, Bool, IfOk, ⊤};
+ghost use Rattle.std.specs.Prelude.{◌≡◌, ℕ, Bool, IfOk, IfErr, true, ⊤};
+ghost use Rattle.options_book.specs.Options.{Options as AnyOptions};
 ghost use Rattle.plan_rules.specs.declared.limits.Limits.{Limits as AnyLimits};
 ghost use Rattle.proxy_config.specs.declared.config.Config.{Config as AnyConfig};
 ghost use Rattle.service_lines.specs.declared.book.PointBook.{PointBook as AnyBook};
+ghost use Rattle.shard_effects.specs.Reasons.{lies_elsewhere};
 ghost use Rattle.trace_core.specs.declared.history.Point.{Point as AnyPoint};
 
+use crate::reusable::Reusable;
 use adapt_sides::ClientFault;
 use adapt_turn::Outcome;
+use icap_client::Found;
 use options_book::Record;
 use plan_rules::Limits;
 use proxy_config::Config;
@@ -46,6 +50,8 @@ pub struct MessageEnd<'m> {
     pub service_is_fresh: bool,
     /// Whether nothing went over the connection to the next hop.
     pub next_is_fresh: bool,
+    /// What the service said that it found in the message, where there was one.
+    pub found: Option<Found<'m>>,
     /// The head of the adapted message, where one was read.
     pub adapted_head: Option<&'m [u8]>,
     /// Whether a byte of an answer went to the user.
@@ -60,6 +66,11 @@ pub trait Outside<P>: Kinds {
     // the point whose service the lease is of
     ghost point_of: { Self.Lease → AnyPoint };
 
+    // what the surroundings are once a connection was put back with its lease, or a lease given up: before that and after it
+    ghost puts: { Self → Self → P → Self.Service → Self.Lease → Type 0 } = { λ _ _ _ _ _. ⊤ };
+
+    ghost gives_up: { Self → Self → P → Self.Lease → Type 0 } = { λ _ _ _ _. ⊤ };
+
     // what messages are planned by, where the surroundings say what that is
     ghost config_is: { Self → AnyConfig → Type 0 } = { λ _ _. ⊤ };
 
@@ -68,6 +79,12 @@ pub trait Outside<P>: Kinds {
     ghost book_is: { Self → AnyPoint → AnyBook → Type 0 } = { λ _ _ _. ⊤ };
 
     ghost now_is: { Self → P → ℕ → Type 0 } = { λ _ _ _. ⊤ };
+
+    // what the service of a point said is kept: before and after that
+    ghost keeps: { Self → Self → P → AnyPoint → AnyOptions → Type 0 } = { λ _ _ _ _ _. ⊤ };
+
+    // this connection was opened just now
+    ghost is_opened: { Self → P → Self.Service → Type 0 } = { λ _ _ _. ⊤ };
 
     fn alloc(&self) -> Global;
 
@@ -98,7 +115,8 @@ pub trait Outside<P>: Kinds {
         ensures { book_is self.now point result.now };
 
     /// Keeps what a service said, with the most connections that it allows. `Err` where no memory was found: then nothing has changed.
-    fn keep(&mut self, at: &P, point: Point, record: Record) -> Result<(), AllocError>;
+    fn keep(&mut self, at: &P, point: Point, said: Record) -> Result<(), AllocError>
+        ensures { IfOk result (λ _. keeps self.old self.new at.now point said) };
 
     /// Takes note of the tag of a service's answer (RFC 3507, section 4.7).
     fn note_tag(&mut self, point: Point, tag: &[u8]);
@@ -123,19 +141,23 @@ pub trait Outside<P>: Kinds {
 
     /// A fresh connection in place of a leased one that broke and is closed, where one may be opened. It is of the same service.
     fn reopen(&mut self, at: &P, lease: &mut Self::Lease) -> Result<Self::Service, LendFault>
-        ensures { point_of lease.new ≡ point_of lease.old };
+        ensures point { point_of lease.new ≡ point_of lease.old }
+        ensures opened { IfOk result (λ wire. is_opened self.new at.now wire) };
 
     /// Whether the leased connection was idle before, and was not replaced since.
     fn is_reused(lease: &Self::Lease) -> bool;
 
     /// Puts a connection back that may serve again.
-    fn put(&mut self, at: &P, connection: Self::Service, lease: Self::Lease);
+    fn put(&mut self, at: &P, connection: Reusable<Self::Service>, lease: Self::Lease)
+        ensures { puts self.old self.new at.now connection.wire lease };
 
     /// Gives up the lease of a connection that is closed.
-    fn give_up(&mut self, at: &P, lease: Self::Lease);
+    fn give_up(&mut self, at: &P, lease: Self::Lease)
+        ensures { gives_up self.old self.new at.now lease };
 
     /// Opens a connection to an origin.
-    fn dial(&mut self, at: &P, address: SocketAddrV4) -> Result<Self::Origin, Reason>;
+    fn dial(&mut self, at: &P, address: SocketAddrV4) -> Result<Self::Origin, Reason>
+        ensures { IfErr result (λ reason. lies_elsewhere reason ≡ true) };
 
     /// Whether the transaction of a message may move.
     fn may_pass(&mut self, at: &P) -> bool;
@@ -162,8 +184,15 @@ pub trait Outside<P>: Kinds {
     /// nothing went over its connection.
     fn blame_service(&mut self, at: &P, fault: Option<ClientFault>, is_fresh: bool);
 
-    /// The proxy refuses the request for this reason.
-    fn note_refusal(&mut self, at: &P, user: &Self::User, reason: Reason, is_asking: bool);
+    /// The proxy refuses a message for this reason. `None` where the message is gone.
+    fn note_refusal(
+        &mut self,
+        at: &P,
+        user: &Self::User,
+        message: Option<&Incoming>,
+        reason: Reason,
+        is_asking: bool,
+    );
 
     /// The transaction of a message is over.
     fn note_end(&mut self, at: &P, user: &Self::User, end: MessageEnd<'_>);

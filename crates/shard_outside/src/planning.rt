@@ -1,13 +1,10 @@
 //! What a message is offered to, by what its service said of its options.
 
-ghost use Rattle.std.specs.Prelude.{◌≡◌, ◌⊎◌, ◌↔◌, ℕ, None, Some, Err, is_some, IsTrue, IfSome, IfOk, IfErr, option_copied};
-ghost use Rattle.plan_rules.specs.declared.limits.Limits.{Limits as AnyLimits};
-ghost use Rattle.proxy_config.specs.declared.config.Config.{Config as AnyConfig};
-ghost use Rattle.proxy_rules.specs.Arrivals.{point_of};
+ghost use Rattle.std.specs.Prelude.{◌≡◌, ◌⊎◌, ◌↔◌, None, Some, Err, is_some, IsTrue, IfSome, IfOk, IfErr, option_copied, true};
 ghost use Rattle.shard_effects.specs.declared.reason.Reason.TheVariants.{NoMemory};
-ghost use Rattle.service_lines.specs.declared.book.PointBook.{PointBook as AnyBook};
 ghost use Rattle.shard_effects.specs.declared.answers.Unplanned.TheVariants.{Refused};
-ghost use Rattle.shard_outside.specs.Planning.{missing, grounds, heads_of, service_of, waits, GoesTo, GoesNowhere, IsOfferBy, IsStale, IsPlan, HasNoPlan, Plans};
+ghost use Rattle.shard_effects.specs.Reasons.{lies_elsewhere, unplanned_reason};
+ghost use Rattle.shard_outside.specs.Planning.{missing, grounds, heads_of, service_of, waits, GoesTo, GoesNowhere, IsOfferBy, IsStale, IsPlan, HasNoPlan, PlansBy};
 
 use crate::outside::Outside;
 use crate::slots::lay;
@@ -48,6 +45,7 @@ pub fn service_of(config: &Config, point: Point) -> Option<&ServicePoint>
 fn address_of(config: &Config, message: &Incoming) -> Result<Option<SocketAddrV4>, Reason>
     ensures goes { IfOk result (GoesTo config.now (heads_of message.now)) }
     ensures nowhere { IfErr result (GoesNowhere config.now (heads_of message.now)) }
+    ensures suits { IfErr result (λ reason. lies_elsewhere reason ≡ true) }
 {
     let Some(user) = message.user_head() else {
         return Err(Reason::NoOrigin);
@@ -72,6 +70,7 @@ fn offer_of(
 ) -> Result<Offer, Reason>
     ensures offer { IfOk result (IsOfferBy (option_copied service.entry) (option_copied said.entry) limits.now (heads_of message.now)) }
     ensures refused { IfErr result (λ reason. (reason ≡ Reason.NoMemory) ⊎ (heads_of message.now ≡ missing)) }
+    ensures suits { IfErr result (λ reason. lies_elsewhere reason ≡ true) }
 {
     let Some(user) = message.user_head() else {
         return Err(Reason::NoOrigin);
@@ -126,6 +125,7 @@ fn make_plan(
 ) -> Result<Box<Planned>, Unplanned>
     ensures planned { IfOk result (λ planned. IsPlan (grounds config.now limits.now book.now now asked) message.now planned.value) }
     ensures unplanned { IfErr result (HasNoPlan (grounds config.now limits.now book.now now asked) message.now) }
+    ensures suits { IfErr result (λ unplanned. lies_elsewhere (unplanned_reason unplanned) ≡ true) }
 {
     let address = match address_of(config, message) {
         Ok(address) => address,
@@ -174,12 +174,10 @@ pub fn keep_plan<P, O: Outside<P>>(
     asked: bool,
     plan: &mut Option<Box<Planned>>,
 ) -> Result<Marks, Unplanned>
-    ensures planned { IfSome message.now (λ m. (config : AnyConfig) × O.config_is out.now config
-        × (limits : AnyLimits) × O.limits_are out.now limits
-        × (book : AnyBook) × O.book_is out.now (point_of m.value.user) book
-        × (now : ℕ) × O.now_is out.now at.now now
-        × Plans (grounds config limits book now asked) m.value plan.old plan.new result) }
+    ensures planned { IfSome message.now (λ m. PlansBy (O.config_is out.now) (O.limits_are out.now) (O.book_is out.now) (O.now_is out.now at.now)
+        asked m.value plan.old plan.new result) }
     ensures none { message.now ≡ None → (result ≡ Err (Refused NoMemory)) × (plan.new ≡ plan.old) }
+    ensures suits { IfErr result (λ unplanned. lies_elsewhere (unplanned_reason unplanned) ≡ true) }
 {
     let Some(message) = message else {
         return Err(Unplanned::Refused(Reason::NoMemory));

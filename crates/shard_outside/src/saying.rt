@@ -1,7 +1,7 @@
 //! What the proxy itself says to a user that has a seat: a refusal, or that it is to send its body.
 
-ghost use Rattle.std.specs.Prelude.{◌≡◌, IfSome, is_some, true};
-ghost use Rattle.shard_outside.specs.Saying.{Says, left_at};
+ghost use Rattle.std.specs.Prelude.{◌≡◌, is_some, true};
+ghost use Rattle.shard_effects.specs.Saying.{Says, SaysOn, past_of};
 
 use adapt_bytes::behind;
 use shard_effects::Said;
@@ -29,22 +29,29 @@ fn say<W: Wire>(user: &mut W, text: &'static [u8], before: usize) -> Said
     }
 }
 
-/// Says a text to a user, of which so many bytes are out: one write at most, of what is left of it. A user whose connection has failed
-/// is gone, and no other.
+/// Says a text to a user, of which so many bytes are out: one write at most, of what is left of it; that is counted. A user whose
+/// connection has failed is gone, and no other.
 pub fn say_to<W: Wire + Drop>(user: &mut Option<W>, text: &'static [u8], out: &mut usize) -> Said
-    ensures says { IfSome user.old (λ old. IfSome user.new (λ new.
-        Says (W.past old) (W.past new) text.now out.old result × (out.new ≡ left_at out.old result))) }
+    ensures says { SaysOn (past_of W.past user.old) (past_of W.past user.new) text.now out.old out.new result }
     ensures kept { (result ≡ Said.Broken → ⊥) → is_some user.new ≡ true }
     ensures none { is_some user.new ≡ true → is_some user.old ≡ true }
 {
     let Some(wire) = user else {
         return Said::Broken;
     };
-    let said = say(wire, text, *out);
-    match said {
-        Said::Part(count) => *out = count,
-        Said::Broken => *user = None,
-        Said::Whole | Said::Nothing => {}
+    match say(wire, text, *out) {
+        Said::Whole => {
+            *out = text.len();
+            Said::Whole
+        }
+        Said::Part(count) => {
+            *out = count;
+            Said::Part(count)
+        }
+        Said::Nothing => Said::Nothing,
+        Said::Broken => {
+            *user = None;
+            Said::Broken
+        }
     }
-    said
 }

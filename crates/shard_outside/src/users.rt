@@ -2,7 +2,9 @@
 
 use crate::outside::Outside;
 use exchange_core::{Exchange, Phase};
+use proxy_rules::Incoming;
 use shard_effects::{Lingered, Reason};
+use std::boxed::Box;
 
 /// Takes note of a refusal, where one goes out.
 pub fn note_refused<P, O: Outside<P>>(
@@ -10,6 +12,7 @@ pub fn note_refused<P, O: Outside<P>>(
     out: &mut O,
     course: &Exchange,
     user: &Option<O::User>,
+    message: &Option<Box<Incoming>>,
     reason: Reason,
 ) {
     let course = course.course();
@@ -17,8 +20,12 @@ pub fn note_refused<P, O: Outside<P>>(
         return;
     }
     let is_asking = matches!(course.phase, Phase::Asking { .. } | Phase::InQueue { .. });
+    let message: Option<&Incoming> = match message {
+        Some(message) => Some(message),
+        None => None,
+    };
     if let Some(user) = user {
-        out.note_refusal(at, user, reason, is_asking);
+        out.note_refusal(at, user, message, reason, is_asking);
     }
 }
 

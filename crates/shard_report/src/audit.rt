@@ -34,6 +34,8 @@ pub enum ServeFault {
     Missing,
     /// No memory was found.
     NoMemory,
+    /// That it serves can't be said.
+    Unheard,
 }
 
 impl Display for ServeFault {
@@ -42,6 +44,7 @@ impl Display for ServeFault {
             ServeFault::System | ServeFault::Loop => "cannot listen",
             ServeFault::Missing => "audit missing",
             ServeFault::NoMemory => "out of memory",
+            ServeFault::Unheard => "write failed",
         })
     }
 }

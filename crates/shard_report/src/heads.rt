@@ -1,9 +1,9 @@
 //! What the log says of heads.
 
-ghost use Rattle.std.specs.Prelude.{◌≡◌, ◌<◌, ◌≤◌, IfSome, length};
-ghost use Rattle.shard_report.specs.Heads.{place_of, without_query};
+ghost use Rattle.std.specs.Prelude.{◌≡◌, ◌<◌, ◌≤◌, IfSome, length, drop};
+ghost use Rattle.shard_report.specs.Heads.{HasWords, empty_lines, place_of, without_query, word_length};
 
-use adapt_bytes::{front, is_blank, read_decimal, same_ascii, trim};
+use adapt_bytes::{behind, front, is_blank, read_decimal, same_ascii, trim};
 
 /// A media type without its parameters (RFC 9110, section 8.3.1).
 pub fn kind_of(value: &[u8]) -> &[u8] {
@@ -63,4 +63,79 @@ pub fn without_query(target: &[u8]) -> &[u8]
     ensures { result.now ≡ without_query target.now }
 {
     front(target, place_of(target, b'?') + 1)
+}
+
+/// How many bytes the word has with which a text begins.
+fn word_length(text: &[u8]) -> usize
+    ensures length { result ≡ word_length text.now }
+    ensures within { result ≤ length text.now }
+{
+    let mut at = 0;
+    for byte in text {
+        if *byte <= b' ' {
+            return at;
+        }
+        at += 1;
+    }
+    at
+}
+
+/// How many bytes of empty lines stand before a request line (RFC 9112, section 2.2).
+fn empty_lines(text: &[u8]) -> usize
+    ensures length { result ≡ empty_lines text.now }
+    ensures within { result ≤ length text.now }
+{
+    let mut at = 0;
+    for byte in text {
+        if *byte != b'\r' && *byte != b'\n' {
+            return at;
+        }
+        at += 1;
+    }
+    at
+}
+
+/// The two words of a line that begins this text. Both are empty until the line has ended.
+fn words_of(text: &[u8]) -> (&[u8], &[u8])
+    ensures { HasWords text.now result.0.now result.1.now }
+{
+    if place_of(text, b'\n') >= text.len() {
+        return (&[], &[]);
+    }
+    let size = word_length(text);
+    let rest = behind(text, size + 1);
+    (front(text, size), front(rest, word_length(rest)))
+}
+
+/// The method and the target of a request, of whose head this came, as they stand there: also of one that is refused. Empty lines before
+/// it are passed over. Both are empty until its first line has ended (RFC 9112, sections 2.2 and 3).
+pub fn request_line(head: &[u8]) -> (&[u8], &[u8])
+    ensures { HasWords (drop (empty_lines head.now) head.now) result.0.now result.1.now }
+{
+    words_of(behind(head, empty_lines(head)))
+}
+
+/// The parameter of X-Infection-Found with the name of what was found.
+const THREAT: &[u8] = b"threat=";
+
+/// The value of the parameter Threat, among parameters between semicolons; empty where there is none.
+fn threat_in(parameters: &[u8]) -> &[u8] {
+    for part in parameters.split(|byte| *byte == b';') {
+        let part = trim(part);
+        if same_ascii(front(part, THREAT.len()), THREAT) {
+            return trim(behind(part, THREAT.len()));
+        }
+    }
+    b""
+}
+
+/// The name of what a service found, of the values of its fields X-Infection-Found and X-Virus-ID: the parameter Threat of the first,
+/// or else the second. Empty where there is neither.
+pub fn what_was_found<'v>(infection: Option<&'v [u8]>, virus: Option<&'v [u8]>) -> &'v [u8] {
+    let threat = threat_in(infection.unwrap_or(b""));
+    if threat.is_empty() {
+        trim(virus.unwrap_or(b""))
+    } else {
+        threat
+    }
 }

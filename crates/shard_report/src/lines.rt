@@ -10,7 +10,7 @@ use std::alloc::{AllocError, Global};
 use std::mem;
 
 /// How many bytes of lines may wait, of one loop.
-pub const ROOM: usize = 1_048_576;
+pub const ROOM: usize = 4_194_304;
 
 /// Room for a line: the values from outside have three bytes for each of theirs at most.
 const LINE: usize = 8_192;

@@ -6,7 +6,7 @@ ghost use Rattle.exchange_report.specs.declared.why.Why.TheVariants.{UserGone};
 ghost use Rattle.shard_report.specs.Notes.{IsOpen};
 
 use adapt_bytes::front;
-use exchange_report::{Address, Entry, MAX_KIND, MAX_METHOD, MAX_TARGET, Verdict, Why};
+use exchange_report::{Address, Entry, MAX_FOUND, MAX_KIND, MAX_METHOD, MAX_TARGET, Verdict, Why};
 use std::alloc::{AllocError, Global};
 use std::net::SocketAddrV4;
 use trace_core::Point;
@@ -42,12 +42,13 @@ pub struct Note {
     pub blamed: Option<Why>,
 }
 
-/// Texts from outside: the method, the target and the answer's media type, one after another.
+/// Texts from outside: the method, the target and the answer's media type, one after another; and what a service found.
 #[derive(Drop)]
 struct Words {
     text: Vec<u8>,
     method: usize,
     target: usize,
+    found: Vec<u8>,
 }
 
 /// The notes of a loop, one for each key.
@@ -127,10 +128,17 @@ impl Words {
         let _ = self.text.extend_from_slice(front(kind, MAX_KIND));
     }
 
+    /// Notes what a service found.
+    fn find(&mut self, found: &[u8]) {
+        self.found.clear();
+        let _ = self.found.extend_from_slice(front(found, MAX_FOUND));
+    }
+
     fn clear(&mut self) {
         self.text.clear();
         self.method = 0;
         self.target = 0;
+        self.found.clear();
     }
 
     /// The method, the target and the media type.
@@ -157,6 +165,7 @@ impl Notes {
                     text: Vec::new(alloc),
                     method: 0,
                     target: 0,
+                    found: Vec::new(alloc),
                 })?;
             }
         }
@@ -235,6 +244,13 @@ impl Notes {
         }
     }
 
+    /// A service said that it found this in a message. It is noted where a log is kept.
+    pub fn find(&mut self, key: usize, found: &[u8]) {
+        if let Some(words) = self.words.get_mut(key) {
+            words.find(found);
+        }
+    }
+
     /// Closes an exchange that is open, and gives its note.
     pub fn close(&mut self, key: usize) -> Option<Note>
         ensures some { IsSome result ↔ IsOpen self.old.notes.items key }
@@ -250,9 +266,10 @@ impl Notes {
 
     /// What the log says of an exchange that ended at this moment, when so many bytes had gone to the user.
     pub fn entry(&self, key: usize, note: &Note, ended: u64, sent: u64) -> Entry<'_> {
-        let (method, target, kind) = match self.words.get(key) {
-            Some(words) => words.all(),
-            None => (b"".as_slice(), b"".as_slice(), b"".as_slice()),
+        let nothing: &[u8] = b"";
+        let ((method, target, kind), found) = match self.words.get(key) {
+            Some(words) => (words.all(), words.found.as_slice()),
+            None => ((nothing, nothing, nothing), nothing),
         };
         Entry {
             ended,
@@ -268,8 +285,7 @@ impl Notes {
             reqmod: note.reqmod,
             respmod: note.respmod,
             why: why_of(note),
-            // What services say that they found isn't read yet.
-            found: b"",
+            found,
             received: note.received,
         }
     }

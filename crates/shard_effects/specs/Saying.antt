@@ -1,5 +1,5 @@
 -- What goes out to a user of a text that the proxy itself says.
-use Rattle.std.specs.Prelude.{◌≡◌, ℕ, ◌+◌, ◌<◌, ◌≤◌, ⊤, List, length, drop, Option, Some, None}
+use Rattle.std.specs.Prelude.{◌≡◌, ℕ, ◌+◌, ◌<◌, ◌≤◌, ⊤, List, length, drop, codes, Option, Some, None}
 use Rattle.wire_kit.specs.declared.wire.Put.{Put}
 use Rattle.wire_kit.specs.declared.wire.Put.TheVariants as put
 use Rattle.wire_kit.specs.Past.{Past, Offers}
@@ -19,7 +19,23 @@ HasSaid text before _ _ = ⊥
 abbrev pub Says : (old new : Past → Type 0) → (text : List ℕ) → (before : ℕ) → Said → Type 0
 Says old new text before said = (answer : Option Put) × Offers old new (drop before text) answer × HasSaid text before answer said
 
--- how many bytes of a text are out after that that isn't out whole
-abbrev pub left_at : ℕ → Said → ℕ
-left_at before (Part out) = out
-left_at before _ = before
+-- how many bytes of a text are out after that
+abbrev pub out_after : (text : List ℕ) → (before : ℕ) → Said → ℕ
+out_after text before Whole = length text
+out_after text before (Part out) = out
+out_after text before _ = before
+
+-- what may have happened so far on a connection that may be gone
+abbrev pub past_of : {W : Type 0} → (W → Past → Type 0) → Option W → Past → Type 0
+past_of past None p = ⊥
+past_of past (Some wire) p = past wire p
+
+-- The user gets what is left of a text, in one write at most: it takes up where the call before ended. A user whose connection has
+-- failed is gone.
+pub record SaysOn (old new : Past → Type 0) (text : List ℕ) (before out : ℕ) (said : Said) : Type 0 where
+  pub says : (said ≡ Broken → ⊥) → Says old new text before said
+  pub out_is : out ≡ out_after text before said
+
+-- what tells a user to send its body (RFC 9110, section 15.2.1)
+abbrev pub interim_text : List ℕ
+interim_text = codes "HTTP/1.1 100 Continue\r\n\r\n"
