@@ -1,11 +1,11 @@
 -- How the course of an exchange leaves a message, and what its user is owed then.
-use Rattle.std.specs.Prelude.{◌≡◌, ℕ, Bool, true, false, not, ◌||◌, if◌then◌else◌, ⊤}
+use Rattle.std.specs.Prelude.{◌≡◌, ℕ, Bool, true, false, not, ◌||◌, if◌then◌else◌, ⊤, Option, None, Some}
 use Rattle.exchange_core.specs.declared.event.Event.{Event}
 use Rattle.exchange_core.specs.declared.event.Event.TheVariants.{Sent, Begun, Answered, UserLost, Stop, Failed}
 use Rattle.exchange_core.specs.declared.phase.Phase.{Phase}
 use Rattle.exchange_core.specs.declared.phase.Phase.TheVariants.{Idle, Head, Refusing, Closing, Gone}
 use Rattle.exchange_core.specs.declared.course.Course.{Course}
-use Rattle.exchange_core.specs.Course.{is_leased, is_mid_text}
+use Rattle.exchange_core.specs.Course.{is_leased, is_ready, is_mid_text}
 use Rattle.exchange_core.specs.May.{may_come, is_at_gate, is_moving, is_refusing, is_gone}
 use Rattle.exchange_core.specs.Dues.{status_of}
 use Rattle.shard_effects.specs.declared.ends.EndedBy.{EndedBy}
@@ -27,6 +27,15 @@ ends_message _ = false
 -- what is held is the same
 abbrev pub Holds : Course → Course → Type 0
 Holds old new = (is_leased new.connection ≡ is_leased old.connection) × (new.stake ≡ old.stake) × (new.origin ≡ old.origin)
+
+-- the service has said all, and its connection may serve again
+abbrev pub usable_in : Option Bool → Bool
+usable_in None = false
+usable_in (Some usable) = usable
+
+-- a connection that wasn't ready to serve is so now only where it may serve again
+abbrev pub IsReadiedBy : (usable : Bool) → Course → Course → Type 0
+IsReadiedBy usable old new = usable ≡ false → is_ready old.connection ≡ false → is_ready new.connection ≡ false
 
 -- the message goes on
 abbrev pub Stays : Course → Course → Type 0

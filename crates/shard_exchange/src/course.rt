@@ -2,14 +2,15 @@
 
 ghost use Rattle.std.specs.Prelude.{◌≡◌, ◌⊎◌, true, false};
 ghost use Rattle.exchange_core.specs.declared.event.RefusalCause.{RefusalCause as AnyCause};
-ghost use Rattle.exchange_core.specs.Course.{after, is_mid_text};
+ghost use Rattle.exchange_core.specs.declared.connection.Connection.{Connection as AnyConnection};
+ghost use Rattle.exchange_core.specs.Course.{after, connection_after, is_mid_text};
 ghost use Rattle.exchange_core.specs.Dues.{due_of, status_of};
 ghost use Rattle.exchange_core.specs.declared.due.Due.TheVariants as dues;
 ghost use Rattle.exchange_core.specs.declared.event.Event.TheVariants.{Failed, Begun, Stop};
 ghost use Rattle.exchange_core.specs.declared.event.RefusalCause.TheVariants.{Elsewhere};
 ghost use Rattle.exchange_core.specs.May.{may_come, is_gone, is_head, is_idle, is_refusing};
 ghost use Rattle.exchange_core.specs.Log.{Goes};
-ghost use Rattle.shard_exchange.specs.Ends.{moves, ends_message, Stays, Leaves, IsOwed, Halts};
+ghost use Rattle.shard_exchange.specs.Ends.{moves, ends_message, usable_in, Stays, Leaves, IsOwed, Halts, IsReadiedBy};
 
 use exchange_core::{Event, Exchange, Phase, RefusalCause};
 use shard_effects::{End, Report};
@@ -20,8 +21,10 @@ fn take_or_fail(course: &mut Exchange, event: Event)
     requires moves { moves course.old ≡ true }
     requires runs { course.old.stopping ≡ false }
     requires ends { ends_message event ≡ true }
+    requires line { (line : AnyConnection) → connection_after line event ≡ line }
     ensures goes { Goes course.old course.new }
     ensures leaves { Leaves course.old course.new }
+    ensures line { course.new.connection ≡ course.old.connection }
     ensures taken { may_come course.old event ≡ true → course.new ≡ after course.old event }
     ensures owed { may_come course.old event ≡ false → course.new ≡ after course.old (Failed Elsewhere) }
 {
@@ -37,6 +40,7 @@ fn tell_begun(course: &mut Exchange, has_answered: bool) -> bool
     requires moves { moves course.old ≡ true }
     requires runs { course.old.stopping ≡ false }
     ensures goes { Goes course.old course.new }
+    ensures line { course.new.connection ≡ course.old.connection }
     ensures stays { result ≡ true → Stays course.old course.new }
     ensures begun { result ≡ true → has_answered ≡ true → course.new.begun ≡ true }
     ensures same { has_answered ≡ false → (result ≡ true) × (course.new ≡ course.old) }
@@ -57,6 +61,7 @@ fn tell_end(course: &mut Exchange, end: End)
     requires runs { course.old.stopping ≡ false }
     ensures goes { Goes course.old course.new }
     ensures leaves { Leaves course.old course.new }
+    ensures line { course.new.connection ≡ course.old.connection }
     ensures lost { end ≡ End.Lost → is_gone course.new.phase ≡ true }
     ensures stops { end ≡ End.Stopped → course.new ≡ after course.old Stop }
     ensures owed { (why : AnyCause) → end ≡ End.Failed why → IsOwed course.old course.new (status_of why) }
@@ -77,10 +82,11 @@ fn tell_end(course: &mut Exchange, end: End)
     }
 }
 
-/// Tells the course that the service has said all, where it has.
+/// Tells the course that the service has said all, where it has, and whether its connection may serve again.
 fn tell_served(course: &mut Exchange, served: Option<bool>)
     requires moves { moves course.old ≡ true }
     ensures goes { Goes course.old course.new }
+    ensures readied { IsReadiedBy (usable_in served) course.old course.new }
     ensures stays { Stays course.old course.new }
     ensures begun { course.new.begun ≡ course.old.begun }
     ensures text { is_mid_text course.new ≡ is_mid_text course.old }
@@ -97,6 +103,7 @@ fn tell_cut(course: &mut Exchange, cuts: bool)
     requires { moves course.old ≡ false }
     ensures goes { Goes course.old course.new }
     ensures leaves { Leaves course.old course.new }
+    ensures line { course.new.connection ≡ course.old.connection }
     ensures gone { is_gone course.old.phase ≡ true → is_gone course.new.phase ≡ true }
     ensures stops { course.old.stopping ≡ true → course.new ≡ course.old }
     ensures same { cuts ≡ false → course.new ≡ course.old }
@@ -109,12 +116,13 @@ fn tell_cut(course: &mut Exchange, cuts: bool)
 
 /// Tells the course of a transaction that is over. A user to whom a byte of an answer went gets no refusal after it. One to whom none
 /// went gets the refusal of the cause by which its message failed, or of the stop. A further request is read only after an answer that
-/// keeps its connection.
+/// keeps its connection. The service's connection serves again only where the report says so.
 pub(crate) fn tell(course: &mut Exchange, report: Report)
     requires moves { moves course.old ≡ true }
     requires runs { course.old.stopping ≡ false }
     ensures goes { Goes course.old course.new }
     ensures leaves { Leaves course.old course.new }
+    ensures readied { IsReadiedBy (usable_in report.served) course.old course.new }
     ensures lost { report.end ≡ End.Lost → is_gone course.new.phase ≡ true }
     ensures stops { report.end ≡ End.Stopped → Halts course.old course.new false }
     ensures stopped { report.end ≡ End.Stopped → report.has_answered ≡ false → IsOwed course.old course.new 503 }

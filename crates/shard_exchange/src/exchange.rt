@@ -26,12 +26,13 @@ impl<H: InHand> Exchange<H> {
     ghost use Rattle.exchange_core.specs.declared.event.Event.TheVariants.{Failed};
     ghost use Rattle.exchange_core.specs.declared.event.RefusalCause.TheVariants.{Scarce};
     ghost use Rattle.exchange_core.specs.Log.{Goes};
-    ghost use Rattle.shard_effects.specs.Hand.{IsEmpty};
+    ghost use Rattle.shard_effects.specs.Hand.{IsFresh};
     ghost use Rattle.shard_exchange.specs.Ends.{is_stopped};
 
-    /// A user's connection before the first byte of its first request. Nothing of what the course counts is held for it.
+    /// A user's connection before the first byte of its first request. Nothing of what the course counts is held for it, and nothing is
+    /// said.
     pub fn begin(holdings: H) -> Exchange<H>
-        requires { IsEmpty (H.hand holdings) }
+        requires { IsFresh (H.hand holdings) }
         ensures { result.course ≡ start }
     {
         Exchange {
@@ -42,7 +43,7 @@ impl<H: InHand> Exchange<H> {
 
     /// The connection of a user whom nobody serves: it gets the refusal for want of room.
     pub fn turn_away(holdings: H) -> Exchange<H>
-        requires { IsEmpty (H.hand holdings) }
+        requires { IsFresh (H.hand holdings) }
         ensures { result.course ≡ after start (Failed Scarce) }
     {
         let mut exchange = Exchange::begin(holdings);

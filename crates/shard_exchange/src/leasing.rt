@@ -11,9 +11,9 @@ use trace_core::Point;
 impl<H: Holder> Exchange<H> {
     ghost use Rattle.exchange_core.specs.Course.{is_leased, is_mid_text};
     ghost use Rattle.exchange_core.specs.May.{is_refusing};
-    ghost use Rattle.shard_effects.specs.Reasons.{status_of};
+    ghost use Rattle.shard_effects.specs.Reasons.{cause_of, status_of};
     ghost use Rattle.shard_exchange.specs.Ends.{IsOwed};
-    ghost use Rattle.exchange_core.specs.Dues.{due_of};
+    ghost use Rattle.exchange_core.specs.Dues.{due_of, fails_of};
     ghost use Rattle.exchange_core.specs.Log.{Goes};
     ghost use Rattle.exchange_core.specs.declared.due.Due.TheVariants as dues;
     ghost use Rattle.shard_exchange.specs.Steps.{Heeds, GoesOn};
@@ -57,6 +57,7 @@ impl<H: Holder> Exchange<H> {
     where
         H: Effects<P>,
         requires due { due_of self.old.course ≡ dues.Await }
+        requires fits { fails_of dues.Await (cause_of reason) ≡ true }
         ensures goes { Goes self.old.course self.new.course }
         ensures owed { IsOwed self.old.course self.new.course (status_of reason) }
         ensures on { result ≡ Step.On }

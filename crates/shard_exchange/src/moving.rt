@@ -13,7 +13,7 @@ impl<H: Holder> Exchange<H> {
     ghost use Rattle.exchange_core.specs.Log.{Goes};
     ghost use Rattle.exchange_core.specs.May.{is_gone, is_refusing};
     ghost use Rattle.exchange_core.specs.declared.due.Due.TheVariants as dues;
-    ghost use Rattle.shard_exchange.specs.Ends.{moves, Halts, IsOwedBy};
+    ghost use Rattle.shard_exchange.specs.Ends.{moves, Halts, IsOwedBy, IsReadiedBy};
     ghost use Rattle.shard_exchange.specs.Steps.{Heeds, GoesOn};
 
     /// Starts the transaction of a message that has all that it needs. Where it can't begin, the message fails.
@@ -100,6 +100,8 @@ impl<H: Holder> Exchange<H> {
         requires { moves self.old.course ≡ true }
         ensures goes { Goes self.old.course self.new.course }
         ensures moves { moves self.new.course ≡ true }
+        ensures held { self.new.holdings ≡ self.old.holdings }
+        ensures line { self.new.course.connection ≡ self.old.course.connection }
         ensures none { result ≡ false → self.new.course ≡ self.old.course }
     {
         let begins = self.holdings.has_answered() && self.course.may(Event::Begun);
@@ -109,10 +111,11 @@ impl<H: Holder> Exchange<H> {
         begins
     }
 
-    /// Reports that the service has said all, whose connection is for others then. Says whether it has.
+    /// Reports that the service has said all, whose connection is for others then, where its exchange was whole. Says whether it has.
     fn note_service(&mut self) -> bool
         requires { moves self.old.course ≡ true }
         ensures goes { Goes self.old.course self.new.course }
+        ensures readied { IsReadiedBy (H.reusable self.old.holdings) self.old.course self.new.course }
         ensures none { result ≡ false → self.new.course ≡ self.old.course }
     {
         let Some(usable) = self.holdings.free_service() else {
@@ -129,6 +132,7 @@ impl<H: Holder> Exchange<H> {
     fn note_round(&mut self) -> bool
         requires { moves self.old.course ≡ true }
         ensures goes { Goes self.old.course self.new.course }
+        ensures readied { IsReadiedBy (H.reusable self.old.holdings) self.old.course self.new.course }
         ensures none { result ≡ false → self.new.course ≡ self.old.course }
     {
         let begins = self.note_answer();
@@ -137,7 +141,8 @@ impl<H: Holder> Exchange<H> {
     }
 
     /// Takes the transaction apart of a message that is over, or ends by this. What it stood over comes back. A user to whom a byte of an
-    /// answer went isn't refused after it; one to whom none went is refused for the deadline or the stop that ended it.
+    /// answer went isn't refused after it; one to whom none went is refused for the deadline or the stop that ended it. The service's
+    /// connection serves again only where its exchange was whole.
     pub(crate) fn settle<P, R: Wait>(&mut self, rt: &R, at: &P, out: &mut H::Outside, by: EndedBy)
     where
         H: Effects<P>,
@@ -145,6 +150,7 @@ impl<H: Holder> Exchange<H> {
         requires runs { self.old.course.stopping ≡ false }
         ensures goes { Goes self.old.course self.new.course }
         ensures over { moves self.new.course ≡ false }
+        ensures readied { IsReadiedBy (H.reusable self.old.holdings) self.old.course self.new.course }
         ensures lost { by ≡ EndedBy.User → is_gone self.new.course.phase ≡ true }
         ensures stops { by ≡ EndedBy.Stop → Halts self.old.course self.new.course false }
         ensures alone { H.answered self.old.holdings ≡ true → is_refusing self.new.course.phase ≡ false }

@@ -11,6 +11,7 @@ use trace_core::Point;
 impl<H: Holder> Exchange<H> {
     ghost use Rattle.exchange_core.specs.Dues.{due_of};
     ghost use Rattle.exchange_core.specs.declared.due.Due.TheVariants as dues;
+    ghost use Rattle.shard_exchange.specs.Outcomes.{IsPlanned, IsReserved};
     ghost use Rattle.shard_exchange.specs.Steps.{GoesOn};
 
     /// Plans the message, or finds that its service is to be asked for its options first.
@@ -18,6 +19,7 @@ impl<H: Holder> Exchange<H> {
     where
         H: Effects<P>,
         requires due { due_of self.old.course ≡ dues.Plan }
+        ensures planned { IsPlanned (H.plans self.old.holdings self.new.holdings out.old at.now) self.old.course self.new.course }
         ensures goes { GoesOn self.old.course self.new.course }
         ensures on { result ≡ Step.On }
     {
@@ -41,6 +43,7 @@ impl<H: Holder> Exchange<H> {
     where
         H: Effects<P>,
         requires due { due_of self.old.course ≡ dues.Reserve }
+        ensures reserved { IsReserved self.old.course self.new.course }
         ensures goes { GoesOn self.old.course self.new.course }
         ensures on { result ≡ Step.On }
     {
@@ -49,7 +52,7 @@ impl<H: Holder> Exchange<H> {
                 self.course.done(Event::Reserved);
                 Step::On
             }
-            Err(reason) => self.refuse(at, out, reason),
+            Err(want) => self.refuse(at, out, want),
         }
     }
 

@@ -14,6 +14,7 @@ impl<H: Holder> Exchange<H> {
     ghost use Rattle.exchange_core.specs.May.{may_come};
     ghost use Rattle.exchange_core.specs.declared.event.Event.TheVariants.{Renewed};
     ghost use Rattle.exchange_core.specs.declared.due.Due.TheVariants as dues;
+    ghost use Rattle.shard_exchange.specs.Outcomes.{IsHeard};
     ghost use Rattle.shard_exchange.specs.Steps.{Heeds, GoesOn};
 
     /// Begins to ask the service for its options.
@@ -39,6 +40,7 @@ impl<H: Holder> Exchange<H> {
     where
         H: Effects<P>,
         requires due { due_of self.old.course ≡ dues.Hear }
+        ensures heard { IsHeard (H.learns out.old out.new at.now) self.old.course self.new.course }
         ensures goes { Goes self.old.course self.new.course }
         ensures heeds { Heeds (H.is_late out.new at.now) self.new.course result }
     {
@@ -56,6 +58,7 @@ impl<H: Holder> Exchange<H> {
     where
         H: Effects<P>,
         requires due { due_of self.old.course ≡ dues.Hear }
+        ensures heard { IsHeard (H.learns out.old out.new at.now) self.old.course self.new.course }
         ensures goes { Goes self.old.course self.new.course }
         ensures on { result ≡ Step.On }
     {
@@ -74,6 +77,7 @@ impl<H: Holder> Exchange<H> {
     where
         H: Effects<P>,
         requires due { due_of self.old.course ≡ dues.Hear }
+        ensures asked { self.new.course.asked ≡ self.old.course.asked }
         ensures goes { Goes self.old.course self.new.course }
         ensures on { result ≡ Step.On }
     {
@@ -93,6 +97,7 @@ impl<H: Holder> Exchange<H> {
         H: Effects<P>,
         requires due { due_of self.old.course ≡ dues.Hear }
         requires may { may_come self.old.course Renewed ≡ true }
+        ensures asked { self.new.course.asked ≡ self.old.course.asked }
         ensures goes { Goes self.old.course self.new.course }
         ensures on { result ≡ Step.On }
     {

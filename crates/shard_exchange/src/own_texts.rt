@@ -1,6 +1,7 @@
 //! What the proxy itself says to a user: `100 Continue` (RFC 9110, section 10.1.1), and the refusal of a message that goes no further.
 
-ghost use Rattle.std.specs.Prelude.{◌≡◌, true, false};
+ghost use Rattle.std.specs.Prelude.{◌≡◌, ◌⊎◌, true, false};
+ghost use Rattle.exchange_core.specs.declared.event.RefusalCause.TheVariants as causes;
 ghost use Rattle.shard_effects.specs.Reasons as reasons;
 
 use crate::exchange::Exchange;
@@ -9,19 +10,26 @@ use shard_effects::{Effects, Holder, Lingered, Reason, Said, Step, refusal_cause
 
 impl<H: Holder> Exchange<H> {
     ghost use Rattle.exchange_core.specs.Course.{after};
-    ghost use Rattle.exchange_core.specs.declared.event.Event.TheVariants.{HalfTold, Late, Told};
-    ghost use Rattle.exchange_core.specs.Dues.{due_of, comes_of, is_wait, is_for_message, is_for_user};
+    ghost use Rattle.exchange_core.specs.declared.event.Event.TheVariants.{Failed, HalfTold, Late, Told};
+    ghost use Rattle.exchange_core.specs.Dues.{due_of, comes_of, fails_of, is_wait, is_for_message, is_for_user};
     ghost use Rattle.exchange_core.specs.Log.{Goes};
+    ghost use Rattle.exchange_core.specs.May.{is_gone};
     ghost use Rattle.exchange_core.specs.declared.due.Due.TheVariants as dues;
+    ghost use Rattle.shard_effects.specs.Hand.{Keeps};
     ghost use Rattle.shard_exchange.specs.Ends.{IsOwed};
+    ghost use Rattle.shard_exchange.specs.Outcomes.{SaysRefusal};
     ghost use Rattle.shard_exchange.specs.Steps.{Heeds, is_moved};
 
-    /// Has a message that doesn't move go no further: its user is refused, unless a part of another text is out.
+    /// Has a message that doesn't move go no further, for a reason of which what is due may fail: its user is refused, unless a part of
+    /// another text is out.
     pub(crate) fn refuse<P>(&mut self, at: &P, out: &mut H::Outside, reason: Reason) -> Step
     where
         H: Effects<P>,
         requires message { is_for_message (due_of self.old.course) ≡ true }
+        requires fits { fails_of (due_of self.old.course) (reasons.cause_of reason) ≡ true }
         requires still { is_moved (due_of self.old.course) ≡ false }
+        ensures course { self.new.course ≡ after self.old.course (Failed (reasons.cause_of reason)) }
+        ensures held { self.new.holdings ≡ self.old.holdings }
         ensures goes { Goes self.old.course self.new.course }
         ensures left { is_for_message (due_of self.new.course) ≡ false }
         ensures owed { IsOwed self.old.course self.new.course (reasons.status_of reason) }
@@ -37,6 +45,8 @@ impl<H: Holder> Exchange<H> {
         requires user { is_for_user (due_of self.old.course) ≡ true }
         requires still { is_moved (due_of self.old.course) ≡ false }
         ensures goes { Goes self.old.course self.new.course }
+        ensures gone { is_gone self.new.course.phase ≡ true }
+        ensures held { Keeps (H.hand self.old.holdings) (H.hand self.new.holdings) }
         ensures left { is_for_message (due_of self.new.course) ≡ false }
         ensures on { result ≡ Step.On }
     {
@@ -53,6 +63,8 @@ impl<H: Holder> Exchange<H> {
         requires still { is_moved (due_of self.old.course) ≡ false }
         ensures goes { Goes self.old.course self.new.course }
         ensures late { H.is_late out.now at.now ≡ true → self.new.course ≡ after self.old.course Late }
+        ensures leads { (self.new.course ≡ self.old.course) ⊎ (self.new.course ≡ after self.old.course Late) }
+        ensures held { self.new.holdings ≡ self.old.holdings }
         ensures heeds { Heeds (H.is_late out.now at.now) self.new.course result }
     {
         if H::is_late(at, out) {
@@ -69,7 +81,9 @@ impl<H: Holder> Exchange<H> {
         H: Effects<P>,
         requires waits { is_wait (due_of self.old.course) ≡ true }
         requires message { is_for_message (due_of self.old.course) ≡ true }
+        requires fits { fails_of (due_of self.old.course) causes.Deadline ≡ true }
         requires still { is_moved (due_of self.old.course) ≡ false }
+        ensures asked { self.new.course.asked ≡ self.old.course.asked }
         ensures goes { Goes self.old.course self.new.course }
         ensures late { H.is_late out.old at.now ≡ true → IsOwed self.old.course self.new.course 504 }
         ensures heeds { Heeds (H.is_late out.new at.now) self.new.course result }
@@ -81,11 +95,12 @@ impl<H: Holder> Exchange<H> {
         }
     }
 
-    /// Writes the refusal of this status.
+    /// Writes what is left of the refusal of this status.
     pub(crate) fn write_refusal<P>(&mut self, at: &P, out: &mut H::Outside, status: u16) -> Step
     where
         H: Effects<P>,
         requires due { due_of self.old.course ≡ dues.Refuse status }
+        ensures says { SaysRefusal (H.user_past self.old.holdings) (H.user_past self.new.holdings) (H.hand self.old.holdings) (H.hand self.new.holdings) status self.new.course.phase }
         ensures goes { Goes self.old.course self.new.course }
         ensures heeds { Heeds (H.is_late out.new at.now) self.new.course result }
     {

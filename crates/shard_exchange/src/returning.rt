@@ -23,8 +23,7 @@ impl<H: Holder> Exchange<H> {
         ensures goes { GoesOn self.old.course self.new.course }
         ensures on { result ≡ Step.On }
     {
-        let is_ready = self.course.course().connection.is_ready();
-        let kept = self.holdings.give_back(at, out, is_ready);
+        let kept = self.holdings.give_back(at, out, &self.course);
         self.course.done(Event::Returned { kept });
         Step::On
     }

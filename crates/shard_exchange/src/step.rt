@@ -11,6 +11,7 @@ use std::sync::Wait;
 impl<H: Holder> Exchange<H> {
     ghost use Rattle.exchange_core.specs.Dues.{due_of, is_over, is_wait};
     ghost use Rattle.exchange_core.specs.Log.{Goes};
+    ghost use Rattle.shard_exchange.specs.Outcomes.{Does};
     ghost use Rattle.shard_exchange.specs.Steps.{Heeds, IsDone, GoesOn};
 
     /// Does a task, and says how far that came. An exchange that only closes isn't stopped: it goes on with that.
@@ -24,6 +25,8 @@ impl<H: Holder> Exchange<H> {
         ensures waits { task ≡ Task.Step → result ≡ Step.Waits → is_wait (due_of self.new.course) ≡ true }
         ensures over { result ≡ Step.Over → is_over self.new.course ≡ true }
         ensures lost { task ≡ Task.Lose → is_over self.new.course ≡ true }
+        ensures does { task ≡ Task.Step → Does (H.plans self.old.holdings self.new.holdings out.old at.now) (H.learns out.old out.new at.now)
+            (H.user_past self.old.holdings) (H.user_past self.new.holdings) (H.hand self.old.holdings) (H.hand self.new.holdings) self.old.course self.new.course (due_of self.old.course) }
         ensures stops { task ≡ Task.Halt → is_closing self.old.course.phase ≡ false → Halts self.old.course self.new.course (H.has_begun self.old.holdings) }
     {
         let course = self.course.course();
@@ -48,6 +51,8 @@ impl<H: Holder> Exchange<H> {
         ensures late { result ≡ Step.Waits → H.is_late out.new at.now ≡ false }
         ensures waits { result ≡ Step.Waits → is_wait (due_of self.new.course) ≡ true }
         ensures over { result ≡ Step.Over ↔ is_over self.new.course ≡ true }
+        ensures does { Does (H.plans self.old.holdings self.new.holdings out.old at.now) (H.learns out.old out.new at.now)
+            (H.user_past self.old.holdings) (H.user_past self.new.holdings) (H.hand self.old.holdings) (H.hand self.new.holdings) self.old.course self.new.course (due_of self.old.course) }
     {
         let step = self.do_due(rt, at, out);
         if self.course.course().is_over() {
@@ -63,6 +68,8 @@ impl<H: Holder> Exchange<H> {
         H: Effects<P>,
         ensures goes { GoesOn self.old.course self.new.course }
         ensures heeds { Heeds (H.is_late out.new at.now) self.new.course result }
+        ensures does { Does (H.plans self.old.holdings self.new.holdings out.old at.now) (H.learns out.old out.new at.now)
+            (H.user_past self.old.holdings) (H.user_past self.new.holdings) (H.hand self.old.holdings) (H.hand self.new.holdings) self.old.course self.new.course (due_of self.old.course) }
     {
         match self.course.due() {
             Due::ReadRequest => self.read_request(at, out),
