@@ -1,8 +1,12 @@
 //! Connections to services and origins, as the exchanges of a thread use them.
 
-ghost use Rattle.std.specs.Prelude.{◌≡◌, IfOk};
+ghost use Rattle.std.specs.Prelude.{◌≡◌, Option, Some, IfOk, IfErr, true};
+ghost use Rattle.std.specs.declared.net.socket_addr.SocketAddrV4.{SocketAddrV4 as AnyAddress};
+ghost use Rattle.shard_effects.specs.Reasons.{lies_elsewhere};
+ghost use Rattle.proxy_config.specs.declared.config.Config.{Config as AnyConfig};
 ghost use Rattle.trace_core.specs.declared.history.Point.{Point as AnyPoint};
-ghost use Rattle.service_lines.specs.Lending.{point_of, IsOf};
+ghost use Rattle.service_lines.specs.Lending.{point_of, IsOf, Leads};
+ghost use Rattle.shard_desk.specs.Places.{place_at};
 
 use crate::pools::{Berth, Port, dial, dial_late, pools_of};
 use crate::shared::Shares;
@@ -29,7 +33,8 @@ type Lent<Q, A> = Result<(ServiceWire, Leased<Q, A>), LendFault>;
 fn lent_of<Q: Ledger, A: Ledger>(
     lent: Result<LeasedConnection<ServiceWire, Q, A>, LendFault>,
 ) -> Lent<Q, A>
-    ensures { (point : AnyPoint) → IsOf point lent → IfOk result (λ lent. point_of lent.1 ≡ point) }
+    ensures point { (point : AnyPoint) → IsOf point lent → IfOk result (λ lent. point_of lent.1 ≡ point) }
+    ensures leads { (place : Option AnyAddress) → Leads (λ wire. wire.stream.to ≡ place) lent → IfOk result (λ lent. lent.0.stream.to ≡ place) }
 {
     match lent {
         Ok(LeasedConnection { wire, lease }) => Ok((wire, lease)),
@@ -38,7 +43,9 @@ fn lent_of<Q: Ledger, A: Ledger>(
 }
 
 /// The address of a point's service.
-fn address_of(config: &Config, point: Point) -> Option<SocketAddrV4> {
+fn address_of(config: &Config, point: Point) -> Option<SocketAddrV4>
+    ensures { result ≡ place_at config.now point }
+{
     match service_of(config, point) {
         Some(service) => Some(service.address),
         None => None,
@@ -52,7 +59,10 @@ pub(crate) fn open_origin<R: Dial, G>(
     at: &Spot<'_, R, G>,
     address: SocketAddrV4,
     when: DialTime,
-) -> Result<OriginWire, Reason> {
+) -> Result<OriginWire, Reason>
+    ensures leads { IfOk result (λ wire. wire.stream.to ≡ Some address) }
+    ensures elsewhere { IfErr result (λ reason. lies_elsewhere reason ≡ true) }
+{
     let opened = match when {
         DialTime::First => dial(at.rt, seats, at.registry, at.key, address),
         DialTime::Late => dial_late(at.rt, seats, at.registry, at.key, address),
@@ -79,16 +89,15 @@ fn berth_of<'r, 'a, R, G>(
     }
 }
 
-/// The seat of an exchange that may dial its service. The seats of its thread are in it, and come back after the call.
+/// The seat of an exchange that may dial. The seats of its thread are in it, and come back after the call.
 fn port_of<'r, 'a, R: Dial, G>(
     seats: &mut Seats,
     at: &Spot<'r, R, G>,
     room: &'a Arc<Room>,
-    address: Option<SocketAddrV4>,
 ) -> Port<'r, 'a, R> {
     let rt = at.rt;
     let berth = berth_of(seats, at, room);
-    Port { rt, berth, address }
+    Port { rt, berth }
 }
 
 /// The exchange of this key as one that waits.
@@ -106,11 +115,12 @@ pub(crate) fn lend_now<S: Shares, R: Wait + Dial, G>(
     at: &Spot<'_, R, G>,
     point: Point,
 ) -> Lent<S::Requests, S::Responses>
-    ensures { IfOk result (λ lent. point_of lent.1 ≡ point) }
+    ensures point { IfOk result (λ lent. point_of lent.1 ≡ point) }
+    ensures leads { IfOk result (λ lent. (config : AnyConfig) × S.config_is shared.now config × (lent.0.stream.to ≡ place_at config point)) }
 {
-    let address = address_of(shared.config(), point);
-    let mut port = port_of(seats, at, shared.room(), address);
-    let lent = pools_of(shared).lend(at.rt, &mut port, point, at.now);
+    let place = address_of(shared.config(), point);
+    let mut port = port_of(seats, at, shared.room());
+    let lent = pools_of(shared).lend(at.rt, &mut port, point, place, at.now);
     *seats = port.berth.seats;
     lent_of(lent)
 }
@@ -122,12 +132,13 @@ pub(crate) fn lend_waiting<S: Shares, R: Wait + Dial, G>(
     at: &Spot<'_, R, G>,
     point: Point,
 ) -> Lent<S::Requests, S::Responses>
-    ensures { IfOk result (λ lent. point_of lent.1 ≡ point) }
+    ensures point { IfOk result (λ lent. point_of lent.1 ≡ point) }
+    ensures leads { IfOk result (λ lent. (config : AnyConfig) × S.config_is shared.now config × (lent.0.stream.to ≡ place_at config point)) }
 {
     let waiter = waiter_of(shared, at.key);
-    let address = address_of(shared.config(), point);
-    let mut port = port_of(seats, at, shared.room(), address);
-    let lent = pools_of(shared).lend_in_turn(at.rt, &mut port, point, waiter, at.now);
+    let place = address_of(shared.config(), point);
+    let mut port = port_of(seats, at, shared.room());
+    let lent = pools_of(shared).lend_in_turn(at.rt, &mut port, point, place, waiter, at.now);
     *seats = port.berth.seats;
     lent_of(lent)
 }
@@ -139,11 +150,12 @@ pub(crate) fn lend_anew<S: Shares, R: Wait + Dial, G>(
     at: &Spot<'_, R, G>,
     lease: &mut Leased<S::Requests, S::Responses>,
 ) -> Result<ServiceWire, LendFault>
-    ensures { point_of lease.new ≡ point_of lease.old }
+    ensures point { point_of lease.new ≡ point_of lease.old }
+    ensures leads { IfOk result (λ wire. (config : AnyConfig) × S.config_is shared.now config × (wire.stream.to ≡ place_at config (point_of lease.new))) }
 {
-    let address = address_of(shared.config(), lease.point());
-    let mut port = port_of(seats, at, shared.room(), address);
-    let wire = pools_of(shared).reopen(at.rt, &mut port, lease);
+    let place = address_of(shared.config(), lease.point());
+    let mut port = port_of(seats, at, shared.room());
+    let wire = pools_of(shared).reopen(at.rt, &mut port, place, lease);
     *seats = port.berth.seats;
     wire
 }
@@ -176,5 +188,8 @@ pub(crate) fn keep_record<S: Shares, R: Wait, G>(
         return Ok(());
     };
     let maximum = pool_maximum(Some(&record), service);
-    pools_of(shared).keep(at.rt, alloc, point, maximum, book, record)
+    match pools_of(shared).keep(at.rt, alloc, point, maximum, book, record) {
+        Ok(_) => Ok(()),
+        Err(fault) => Err(fault),
+    }
 }

@@ -83,6 +83,13 @@ impl<S: Shares> Desk<S> {
         }
     }
 
+    /// Wakes the administrator's loop, whose inbox is the last one: it writes the lines that wait.
+    fn have_lines_written(&self) {
+        if let Some(office) = self.shared.inboxes().last() {
+            office.wake();
+        }
+    }
+
     /// Has the services asked again before the next message is planned, where the administrator wants that.
     pub(crate) fn heed_refresh(&mut self) {
         let number = self.shared.number();
@@ -121,7 +128,7 @@ impl<S: Shares> Seating for Desk<S> {
     fn report<R: Wait + Clock>(&mut self, rt: &R, key: usize) {
         let taken = self.seats.taken(key);
         let number = self.shared.number();
-        self.reporter.report(
+        let is_half_full = self.reporter.report(
             rt,
             self.shared.tally(),
             self.shared.log(),
@@ -129,6 +136,9 @@ impl<S: Shares> Seating for Desk<S> {
             key,
             taken,
         );
+        if is_half_full {
+            self.have_lines_written();
+        }
     }
 
     fn close_idle<R: Wait>(&mut self, rt: &R) -> Option<bool> {
@@ -138,6 +148,10 @@ impl<S: Shares> Seating for Desk<S> {
         } else {
             None
         }
+    }
+
+    fn has_ended_elsewhere(&self) -> bool {
+        !self.seats.have_ended() && self.shared.room().has_ended()
     }
 
     fn lacks<R: Wait>(&self, rt: &R, point: Point) -> bool {

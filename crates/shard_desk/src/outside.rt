@@ -1,6 +1,6 @@
 //! The surroundings of an exchange over sockets.
 
-ghost use Rattle.std.specs.Prelude.{◌≡◌, ◌||◌};
+ghost use Rattle.std.specs.Prelude.{◌≡◌, ◌||◌, ⊤};
 ghost use Rattle.shard_work.specs.Seats.{is_late, is_overdue};
 ghost use Rattle.service_lines.specs.Lending.{point_of};
 ghost use Rattle.shard_desk.specs.Books.{book_at};
@@ -20,7 +20,7 @@ use proxy_config::Config;
 use proxy_rules::Incoming;
 use service_lines::{Leased, LendFault, PointBook};
 use shard_effects::{Lingered, Reason};
-use shard_outside::{Kinds, MessageEnd, Outside};
+use shard_outside::{Kinds, MessageEnd, Outside, Reusable};
 use shard_work::Spot;
 use socket_wire::{Dial, OriginWire, ServiceWire, UserWire};
 use span_bank::Bank;
@@ -182,10 +182,13 @@ impl<'r, S: Shares, R: Wait + Dial + Clock, G: Gate> Outside<Spot<'r, R, G>> for
     fn put(
         &mut self,
         at: &Spot<'r, R, G>,
-        connection: ServiceWire,
+        connection: Reusable<ServiceWire>,
         lease: Leased<S::Requests, S::Responses>,
-    ) {
+    )
+        ensures { ⊤ }
+    {
         self.seats.lease(at.key, None);
+        let connection = connection.into_wire();
         put_back(&self.shared, &mut self.seats, at, connection, lease);
     }
 
@@ -247,12 +250,20 @@ impl<'r, S: Shares, R: Wait + Dial + Clock, G: Gate> Outside<Spot<'r, R, G>> for
         &mut self,
         at: &Spot<'r, R, G>,
         user: &UserWire,
+        message: Option<&Incoming>,
         reason: Reason,
         is_asking: bool,
     ) {
         let (read, _) = user.counts();
         self.reporter.read(self.shared.tally(), at.key, read);
         let taken = self.seats.taken(at.key);
+        if !self.reporter.is_open(at.key)
+            && let Some(message) = message
+        {
+            let has_query = self.shared.config().log_query;
+            self.reporter
+                .request(at.rt, at.key, taken, message, has_query);
+        }
         self.reporter
             .refusal(self.shared.tally(), at.key, taken, reason, is_asking);
     }

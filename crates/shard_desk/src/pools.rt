@@ -1,18 +1,16 @@
 //! Connections to services over sockets: how they lie idle, and what their lending asks of a thread's loop.
 
-ghost use Rattle.std.specs.Prelude.{◌≡◌, ⊤, Err, IfSome};
+ghost use Rattle.std.specs.Prelude.{◌≡◌, ⊤, true, Some, Ok, Err, IfOk, IfSome};
 
 use crate::shared::Shares;
 use event_loop::{IdlePermit, Inbox, Room};
 use mio::Registry;
-use mio::net::TcpStream;
 use service_lines::{Connector, Edge, Keeper, LendFault, Waiting};
 use shard_work::Seats;
-use socket_wire::{Dial, Readiness, Role, ServiceWire, SocketWire, Unread};
+use socket_wire::{Called, Dial, Readiness, Role, ServiceWire, SocketWire, Stream, Unread};
 use std::io;
-use std::net::{SocketAddr, SocketAddrV4};
+use std::net::SocketAddrV4;
 use std::sync::Arc;
-use trace_core::Point;
 
 /// A connection to a service that no transaction uses, with its readiness, its permit among the descriptors, and the moment since which it
 /// lies idle, in seconds.
@@ -111,9 +109,10 @@ fn wire_of<P: Role>(
     registry: &Registry,
     key: usize,
     ready: Readiness,
-    opened: io::Result<TcpStream>,
+    opened: io::Result<Stream<P>>,
 ) -> Result<SocketWire<P>, LendFault>
-    ensures { result ≡ Err LendFault.Busy → ⊥ }
+    ensures free { result ≡ Err LendFault.Busy → ⊥ }
+    ensures stream { IfOk result (λ wire. opened ≡ Ok wire.stream) }
 {
     match opened {
         Ok(stream) => match seats.wire(registry, key, ready, stream) {
@@ -125,37 +124,33 @@ fn wire_of<P: Role>(
     }
 }
 
-/// A connection that is opened now, to a peer of the role `P`, for the exchange under this key. The faults are as above.
-pub(crate) fn dial<P: Role, R: Dial>(
+/// A connection that is opened now, to a peer of the role `P` at this address, for the exchange under this key. The faults are as above.
+pub(crate) fn dial<P: Role + Called, R: Dial>(
     rt: &R,
     seats: &mut Seats,
     registry: &Registry,
     key: usize,
     address: SocketAddrV4,
 ) -> Result<SocketWire<P>, LendFault>
-    ensures { result ≡ Err LendFault.Busy → ⊥ }
+    ensures free { result ≡ Err LendFault.Busy → ⊥ }
+    ensures leads { IfOk result (λ wire. wire.stream.to ≡ Some address) }
 {
-    let opened = rt.dial(SocketAddr::V4(address));
+    let opened = rt.dial(address);
     wire_of(seats, registry, key, Readiness::dialled(), opened)
 }
 
 /// A connection that is opened at its first write. The faults are as above.
-pub(crate) fn dial_late<P: Role, R: Dial>(
+pub(crate) fn dial_late<P: Role + Called, R: Dial>(
     rt: &R,
     seats: &mut Seats,
     registry: &Registry,
     key: usize,
     address: SocketAddrV4,
-) -> Result<SocketWire<P>, LendFault> {
-    let made = wire_of(seats, registry, key, Readiness::undialled(), rt.socket());
-    match made {
-        Ok(wire) => {
-            let mut wire = wire;
-            wire.dial_late(address);
-            Ok(wire)
-        }
-        Err(fault) => Err(fault),
-    }
+) -> Result<SocketWire<P>, LendFault>
+    ensures { IfOk result (λ wire. wire.stream.to ≡ Some address) }
+{
+    let opened = rt.dial_late(address);
+    wire_of(seats, registry, key, Readiness::undialled(), opened)
 }
 
 /// The seat of an exchange, from which its service's connection is taken: the seats of its thread are lent to it meanwhile.
@@ -176,7 +171,7 @@ fn lay_idle(
     used: ServiceWire,
     now: u64,
 ) -> Option<Spare>
-    ensures { IfSome result (λ idle. idle.since ≡ now) }
+    ensures { IfSome result (λ idle. (idle.since ≡ now) × (idle.wire ≡ used)) }
 {
     let mut wire = used;
     let is_out = wire.deregister(registry).is_ok();
@@ -203,6 +198,8 @@ impl<'r, 'a> Keeper<Loops<'a>> for Berth<'r, 'a> {
 
     ghost past = { λ keeper p. ⊤ };
 
+    ghost is_line = { λ idle used. idle.wire ≡ used };
+
     fn may_rest(&mut self, used: &ServiceWire) -> bool {
         is_quiet(used)
     }
@@ -223,14 +220,21 @@ impl<'r, 'a> Keeper<Loops<'a>> for Berth<'r, 'a> {
 pub(crate) struct Port<'r, 'a, R> {
     pub rt: &'r R,
     pub berth: Berth<'r, 'a>,
-    /// The address of its service, if there is one.
-    pub address: Option<SocketAddrV4>,
+}
+
+/// Whether a connection leads to this address.
+fn leads_to(wire: &ServiceWire, place: Option<SocketAddrV4>) -> bool
+    ensures { result ≡ true → wire.now.stream.to ≡ place }
+{
+    wire.address() == place
 }
 
 impl<'r, 'a, R: Dial> Keeper<Loops<'a>> for Port<'r, 'a, R> {
     type Used = ServiceWire;
 
     ghost past = { λ keeper p. ⊤ };
+
+    ghost is_line = { λ idle used. idle.wire ≡ used };
 
     fn may_rest(&mut self, used: &ServiceWire) -> bool {
         is_quiet(used)
@@ -246,18 +250,25 @@ impl<'r, 'a, R: Dial> Keeper<Loops<'a>> for Port<'r, 'a, R> {
 }
 
 impl<'r, 'a, R: Dial> Connector<Loops<'a>> for Port<'r, 'a, R> {
-    fn open(&mut self, _point: Point) -> Result<ServiceWire, LendFault> {
+    /// The address of a service, if it has one.
+    type Place = Option<SocketAddrV4>;
+
+    ghost leads = { λ place used. used.stream.to ≡ place };
+
+    ghost idle_leads = { λ place idle. idle.wire.stream.to ≡ place };
+
+    fn open(&mut self, place: Option<SocketAddrV4>) -> Result<ServiceWire, LendFault> {
         let rt = self.rt;
         let registry = self.berth.registry;
         let key = self.berth.key;
-        match self.address {
+        match place {
             Some(address) => dial(rt, &mut self.berth.seats, registry, key, address),
             None => Err(LendFault::Unreached),
         }
     }
 
-    fn is_fit(&mut self, idle: &Spare) -> bool {
-        idle.wire.unread() == Unread::Nothing
+    fn is_fit(&mut self, place: Option<SocketAddrV4>, idle: &Spare) -> bool {
+        leads_to(&idle.wire, place) && idle.wire.unread() == Unread::Nothing
     }
 
     fn resume(&mut self, idle: Spare) -> Result<ServiceWire, LendFault> {

@@ -10,7 +10,8 @@ use shard_effects::Reason;
 use shard_outside::MessageEnd;
 use shard_report::{
     Bound, Class, Count, Evidence, Log, Note, Notes, Tally, address_of, elapsed_of, failed_status,
-    failed_word, kind_in, kind_of, moment, status_in, status_of, verdict_of, why_of, without_query,
+    failed_word, kind_in, kind_of, moment, request_line, status_in, status_of, verdict_of,
+    what_was_found, why_of, without_query,
 };
 use std::alloc::{AllocError, Global};
 use std::net::{SocketAddr, SocketAddrV4};
@@ -51,8 +52,7 @@ impl Reporter {
         self.notes.refuse(key, Why::NoSeat, 503);
     }
 
-    /// A request's head was read, when its user had taken so many bytes. `has_query`: targets are noted
-    /// with their query.
+    /// A request's head was read, or is refused, when its user had taken so many bytes. `has_query`: targets are noted with their query.
     pub fn request<R: Clock>(
         &mut self,
         rt: &R,
@@ -63,7 +63,7 @@ impl Reporter {
     ) {
         let (method, target) = match request.user_head() {
             Some(head) => (head.method(), head.target()),
-            None => (b"".as_slice(), b"".as_slice()),
+            None => request_line(request.raw()),
         };
         let target = if has_query {
             target
@@ -71,6 +71,11 @@ impl Reporter {
             without_query(target)
         };
         self.notes.begin(key, moment(rt), taken, method, target);
+    }
+
+    /// Whether an exchange goes on under this key.
+    pub fn is_open(&self, key: usize) -> bool {
+        self.notes.is_open(key)
     }
 
     /// The head of the origin's response was read.
@@ -137,6 +142,7 @@ impl Reporter {
             service_fault,
             service_is_fresh,
             next_is_fresh,
+            found,
             adapted_head,
             has_answered,
         } = end;
@@ -146,6 +152,10 @@ impl Reporter {
             to_user: seen.plan.point == Point::Respmod || seen.modified && is_answer(adapted_head),
         };
         self.message(tally, key, &seen, has_answered);
+        if let Some(found) = found {
+            let name = what_was_found(found.infection, found.virus);
+            self.notes.find(key, name);
+        }
         if seen.plan.point == Point::Reqmod {
             self.sent(key, seen.received, next_is_fresh);
         }
@@ -235,7 +245,7 @@ impl Reporter {
     }
 
     /// An exchange that is open is over, when its user had taken so many bytes: it is counted, and its line added to the lines of this
-    /// thread's number.
+    /// thread's number. True where the lines of this thread wait for the administrator's loop to write them: half of their room is full.
     pub fn report<R: Wait + Clock>(
         &mut self,
         rt: &R,
@@ -244,9 +254,9 @@ impl Reporter {
         number: usize,
         key: usize,
         taken: u64,
-    ) {
+    ) -> bool {
         let Some(note) = self.notes.close(key) else {
-            return;
+            return false;
         };
         let mut note = note;
         if why_of(&note) == Why::UserGone && !note.answered {
@@ -256,10 +266,11 @@ impl Reporter {
         let sent = taken.saturating_sub(note.taken);
         let now = moment(rt);
         count(tally, &note, sent, elapsed_of(&note, now));
-        if log.is_kept() {
-            let entry = self.notes.entry(key, &note, now, sent);
-            log.add(rt, number, &entry);
+        if !log.is_kept() {
+            return false;
         }
+        let entry = self.notes.entry(key, &note, now, sent);
+        log.add(rt, number, &entry)
     }
 }
 

@@ -1,4 +1,10 @@
+use Rattle.std.proofs.Common.{◌∙◌}
+use Rattle.std.proofs.lemmas.Result.{IfOk-weaker}
 use Rattle.shard_desk.proofs.connections.lend_waiting.Goals as goal
 
-pub returns : goal.returns
-returns g c = c.lent_of.ensures c.args.point c.lend_in_turn-lent.ensures.point
+pub returns-clause-point : goal.returns-clause-point
+returns-clause-point g c = c.lent_of.ensures.point c.args.point c.lend_in_turn-lent.ensures.point
+
+pub returns-clause-leads : goal.returns-clause-leads
+returns-clause-leads g c = IfOk-weaker c.lent_of.result _ _ (λ lent leads. (c.config.result.now, c.config.ensures, leads ∙ c.address_of-place.ensures))
+    (c.lent_of.ensures.leads c.address_of-place.result c.lend_in_turn-lent.ensures.leads)
