@@ -1,1 +1,5 @@
+pub mod Begun
+pub mod Ended
+pub mod Lines
+pub mod Rounds
 pub mod Told

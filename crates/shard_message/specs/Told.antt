@@ -1,8 +1,9 @@
 -- What a transaction of the proxy's own sides says to the exchange that it belongs to.
-use Rattle.std.specs.Prelude.{Bool, false, not, Option, None, Some}
+use Rattle.std.specs.Prelude.{Bool, true, false, not, ◌==◌, Option, None, Some}
 use Rattle.trace_core.specs.declared.history.Point.{Point}
 use Rattle.adapt_turn.specs.declared.ends.ServiceEnd.{ServiceEnd}
 use Rattle.adapt_turn.specs.Refusals.{user_untouched}
+use Rattle.http_side.specs.Heads.{RequestParts}
 use Rattle.icap_client.specs.Turns.{is_reusable}
 use Rattle.proxy_rules.specs.Running.{OwnEnds}
 
@@ -17,3 +18,8 @@ may_serve_again ends = reusable_by is_reusable ends.service
 -- a byte of an answer went to the user
 abbrev pub has_answered : {E A W C H G : Type 0} → Point → OwnEnds E A W C H G → Bool
 has_answered point ends = not (user_untouched point (not ends.next.touched) (not ends.back.touched))
+
+-- a request of HTTP/1.0
+abbrev pub is_old_in : Option RequestParts → Bool
+is_old_in None = false
+is_old_in (Some head) = head.minor == 0

@@ -1,6 +1,7 @@
 //! A leased connection on which a service is asked for its options.
 
-ghost use Rattle.std.specs.Prelude.{◌≡◌, is_some};
+ghost use Rattle.std.specs.Prelude.{◌≡◌, is_some, IfErr, true};
+ghost use Rattle.shard_effects.specs.Reasons.{lies_elsewhere};
 
 use crate::connection::{Connection, lay_wire};
 use icap_client::OptionsSide;
@@ -42,7 +43,9 @@ fn reopen<P, O: Outside<P>>(
     at: &P,
     out: &mut O,
     connection: &mut Connection<O>,
-) -> Result<O::Service, Reason> {
+) -> Result<O::Service, Reason>
+    ensures { IfErr result (λ reason. lies_elsewhere reason ≡ true) }
+{
     connection.wire = None;
     match out.reopen(at, &mut connection.lease) {
         Ok(wire) => Ok(wire),
@@ -56,7 +59,8 @@ fn renew<P, O: Outside<P>>(
     out: &mut O,
     connection: &mut Option<Connection<O>>,
 ) -> Result<(), Reason>
-    ensures { is_some connection.new ≡ is_some connection.old }
+    ensures leased { is_some connection.new ≡ is_some connection.old }
+    ensures suits { IfErr result (λ reason. lies_elsewhere reason ≡ true) }
 {
     let opened = match connection {
         Some(connection) => reopen(at, out, connection),
@@ -79,7 +83,8 @@ pub fn begin_anew<P, O: Outside<P>>(
     asking: &mut Option<Box<OptionsSide>>,
     leased: &mut Option<Connection<O>>,
 ) -> Result<(), Reason>
-    ensures { is_some leased.new ≡ is_some leased.old }
+    ensures leased { is_some leased.new ≡ is_some leased.old }
+    ensures suits { IfErr result (λ reason. lies_elsewhere reason ≡ true) }
 {
     match renew(at, out, leased) {
         Ok(()) => begin_asking(out, point, asking),

@@ -1,6 +1,7 @@
 //! A leased connection to a service.
 
 ghost use Rattle.std.specs.Prelude.{◌≡◌, is_some};
+ghost use Rattle.shard_message.specs.Lines.{line_in, HasLine};
 
 use shard_outside::Kinds;
 
@@ -14,7 +15,8 @@ pub struct Connection<O: Kinds> {
 
 /// Takes the connection from its lease.
 pub(crate) fn take_wire<O: Kinds>(connection: &mut Option<Connection<O>>) -> Option<O::Service>
-    ensures { is_some connection.new ≡ is_some connection.old }
+    ensures leased { is_some connection.new ≡ is_some connection.old }
+    ensures taken { result ≡ line_in (λ leased. leased.wire) connection.old }
 {
     match connection {
         Some(connection) => connection.wire.take(),
@@ -24,7 +26,8 @@ pub(crate) fn take_wire<O: Kinds>(connection: &mut Option<Connection<O>>) -> Opt
 
 /// Puts a connection beside its lease. Without one it is closed.
 pub fn lay_wire<O: Kinds>(connection: &mut Option<Connection<O>>, wire: O::Service)
-    ensures { is_some connection.new ≡ is_some connection.old }
+    ensures leased { is_some connection.new ≡ is_some connection.old }
+    ensures laid { HasLine (λ leased. leased.wire) connection.new wire }
 {
     if let Some(connection) = connection {
         connection.wire = Some(wire);

@@ -1,7 +1,8 @@
 //! How messages end.
 
-ghost use Rattle.std.specs.Prelude.{◌≡◌, false, IfSome};
-ghost use Rattle.shard_effects.specs.Ends.{EndsBy};
+ghost use Rattle.std.specs.Prelude.{◌≡◌, ◌&&◌, IfSome};
+ghost use Rattle.shard_effects.specs.Ends.{EndsBy, IfItself};
+ghost use Rattle.shard_message.specs.Ended.{IsEndOf, is_cut};
 
 use adapt_turn::Outcome;
 use exchange_core::RefusalCause;
@@ -37,7 +38,8 @@ pub(crate) enum Sequel<M> {
 
 /// How a message ended.
 fn end_of<M>(by: EndedBy, point: Point, sequel: &Sequel<M>) -> End
-    ensures { EndsBy by result }
+    ensures by { EndsBy by result }
+    ensures itself { IfItself by (IsEndOf point sequel.now result) }
 {
     match by {
         EndedBy::Stop => End::Stopped,
@@ -71,8 +73,9 @@ pub(crate) fn report_of<M>(
     sequel: &Sequel<M>,
 ) -> Report
     ensures ends { EndsBy by result.end }
+    ensures itself { IfItself by (IsEndOf point sequel.now result.end) }
     ensures answered { result.has_answered ≡ has_answered }
-    ensures cuts { has_answered ≡ false → result.cuts ≡ false }
+    ensures cuts { result.cuts ≡ has_answered && is_cut sequel.now }
     ensures served { IfSome result.served (λ usable. usable ≡ is_reusable) }
 {
     let (is_whole, is_old) = match sequel {

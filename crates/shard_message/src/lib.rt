@@ -14,7 +14,8 @@ mod turns;
 
 pub use asking::{begin_anew, hear_on, is_fresh};
 pub use connection::{Connection, lay_wire};
-pub use moving::{Connections, Moving, OnItsWay, Remains, take_connections};
+pub use moving::{Connections, Moves, Moving, OnItsWay, Remains, take_connections};
 pub use room::{Room, dial_for, make_room};
 pub use settled::Settled;
 pub use start::pace_of;
+pub use turns::Turning;

@@ -1,8 +1,11 @@
 //! Messages that move.
 
-ghost use Rattle.std.specs.Prelude.{◌≡◌, is_some, None, true, false, Bool, IfSome};
+ghost use Rattle.std.specs.Prelude.{◌≡◌, ◌&&◌, is_some, None, Some, true, false, Bool, Option, IfSome, IfOk, IfErr};
 ghost use Rattle.shard_message.specs.Told.{has_answered, may_serve_again};
-ghost use Rattle.shard_effects.specs.Ends.{EndsBy};
+ghost use Rattle.shard_effects.specs.Ends.{EndsBy, IfItself};
+ghost use Rattle.shard_effects.specs.declared.ends.End.{End as AnyEnd};
+ghost use Rattle.shard_message.specs.Begun.{Beginning, beginning};
+ghost use Rattle.shard_message.specs.Lines.{HasLine, line_for};
 
 use crate::connection::{Connection, lay_wire, take_wire};
 use crate::room::Room;
@@ -50,9 +53,25 @@ pub trait OnItsWay {
 
     // the connection to its service may carry another request
     ghost reusable: { Self → Bool };
+
+    // what its course is told where nothing else ends it: by how its transaction ended, or by the stop where that is open
+    ghost ends: { Self → AnyEnd → Type 0 };
+
+    // by whether a byte of an answer went to the user: its connection is cut, where the message failed and the user, of HTTP/1.0, may
+    // take the end of the connection for the end of the answer
+    ghost cut_is: { Self → (answered cut : Bool) → Type 0 };
 }
 
 impl<O: Kinds> OnItsWay for Moving<O> {
+    ghost use Rattle.std.specs.Prelude.{◌≡◌, ◌&&◌, ⊤};
+    ghost use Rattle.adapt_hold.specs.Holding.{shows};
+    ghost use Rattle.adapt_sides.specs.Turns.Gift.{nothing};
+    ghost use Rattle.adapt_turn.specs.declared.turn.Outcome.TheVariants.{Done};
+    ghost use Rattle.http_relay.specs.Giving.{gift_of};
+    ghost use Rattle.http_relay.specs.Reading.{request_of};
+    ghost use Rattle.proxy_rules.specs.Connections.{CarriesOn};
+    ghost use Rattle.shard_message.specs.Ended.{EndsAs, IfAsked, ended_as, fails};
+    ghost use Rattle.shard_message.specs.Told.{is_old_in};
     ghost use Rattle.shard_message.specs.declared.moving.Moving.TheVariants.{Request, Response};
 
     ghost answered = { λ moving. elim moving [
@@ -63,6 +82,37 @@ impl<O: Kinds> OnItsWay for Moving<O> {
     ghost reusable = { λ moving. elim moving [
       | Request tx ↦ may_serve_again tx.value.tx.ends
       | Response tx ↦ may_serve_again tx.value.tx.ends
+    ] };
+
+    ghost ends = { λ moving end. elim moving [
+      | Request tx ↦ EndsAs tx.value.tx.hold.history.plan.point (ended_as (shows tx.value.tx.hold.history).closed tx.value.tx.outcome)
+          (gift_of tx.value.tx.ends.back.stage ≡ nothing) (CarriesOn Done tx.value.tx.ends.maker.closes tx.value.tx.ends.source) end
+      | Response tx ↦ EndsAs tx.value.tx.hold.history.plan.point (ended_as (shows tx.value.tx.hold.history).closed tx.value.tx.outcome)
+          ⊥ (IfAsked (CarriesOn Done tx.value.tx.ends.maker.closes) tx.value.tx.ends.maker.user) end
+    ] };
+
+    ghost cut_is = { λ moving answered cut. elim moving [
+      | Request tx ↦ cut ≡ answered && (fails (ended_as (shows tx.value.tx.hold.history).closed tx.value.tx.outcome) && is_old_in (request_of tx.value.tx.ends.source.head))
+      | Response tx ↦ ⊤
+    ] };
+}
+
+/// How a message begins to move.
+pub trait Moves<O: Kinds> {
+    // it began with just this, over these connections: a request from the user to the origin, a response from the origin to the user
+    ghost begins: { Beginning → O.User → Option O.Service → O.Origin → Self → Type 0 };
+}
+
+impl<O: Kinds> Moves<O> for Moving<O> {
+    ghost use Rattle.std.specs.Prelude.{◌≡◌};
+    ghost use Rattle.trace_core.specs.declared.history.Point.TheVariants.{Reqmod, Respmod};
+    ghost use Rattle.proxy_rules.specs.Arrivals.{point_of};
+    ghost use Rattle.shard_message.specs.Begun.{BeginsWith};
+    ghost use Rattle.shard_message.specs.declared.moving.Moving.TheVariants.{Request, Response};
+
+    ghost begins = { λ b user service origin moving. elim moving [
+      | Request tx ↦ (point_of b.message.user ≡ Reqmod) × BeginsWith b user service origin tx.value.tx.hold.history tx.value.tx.pace tx.value.tx.ends
+      | Response tx ↦ (point_of b.message.user ≡ Respmod) × BeginsWith b origin service user tx.value.tx.hold.history tx.value.tx.pace tx.value.tx.ends
     ] };
 }
 
@@ -84,7 +134,8 @@ impl<O: Kinds> Connections<O> {
         origin: &mut Option<O::Origin>,
     )
         ensures leased { is_some leased.new ≡ is_some leased.old }
-        ensures opened { is_some origin.new ≡ true }
+        ensures back { (user.new ≡ Some self.user) × (origin.new ≡ Some self.origin) }
+        ensures line { IfSome self.service (λ wire. HasLine (λ line. line.wire) leased.new wire) }
     {
         let Connections {
             user: back,
@@ -108,8 +159,9 @@ pub fn take_connections<O: Kinds>(
 ) -> Option<Connections<O>>
     requires { is_some origin.old ≡ true }
     ensures leased { is_some leased.new ≡ is_some leased.old }
-    ensures taken { is_some result ≡ true → origin.new ≡ None }
-    ensures left { is_some result ≡ false → origin.new ≡ origin.old }
+    ensures taken { IfSome result (λ taken. (user.old ≡ Some taken.user) × (origin.old ≡ Some taken.origin) × (taken.service ≡ line_for (λ line. line.wire) is_offered leased.old)) }
+    ensures none { IfSome result (λ taken. (user.new ≡ None) × (origin.new ≡ None)) }
+    ensures left { result ≡ None → (user.old ≡ None) × (origin.new ≡ origin.old) × (leased.new ≡ leased.old) }
 {
     let Some(user) = user.take() else {
         return None;
@@ -144,6 +196,8 @@ impl<O: Kinds> Moving<O> {
     ) -> Result<Moving<O>, Remains<O>>
     where
         O: Outside<P>,
+        ensures begins { IfOk result (λ moving. ⟦<Self as Moves<O>>⟧.begins (beginning room.planned message.value pace last) connections.user connections.service connections.origin moving) }
+        ensures back { IfErr result (λ remains. (remains.room.planned ≡ None) × (remains.room.limits ≡ room.limits)) }
     {
         let Connections {
             user,
@@ -230,7 +284,9 @@ impl<O: Kinds> Moving<O> {
         O: Outside<P>,
         ensures ends { EndsBy by result.report.end }
         ensures answered { result.report.has_answered ≡ ⟦<Self as OnItsWay>⟧.answered self }
+        ensures told { IfItself by (⟦<Self as OnItsWay>⟧.ends self result.report.end) }
         ensures cuts { result.report.has_answered ≡ false → result.report.cuts ≡ false }
+        ensures cut { ⟦<Self as OnItsWay>⟧.cut_is self result.report.has_answered result.report.cuts }
         ensures served { IfSome result.report.served (λ usable. usable ≡ ⟦<Self as OnItsWay>⟧.reusable self) }
     {
         match self {
@@ -255,7 +311,9 @@ impl<O: Kinds> Moving<O> {
 }
 
 /// What a request stood over.
-fn request_remains<O: Kinds>(room: Room<O::Ledgers>, way: Way<RequestWires<O>>) -> Remains<O> {
+fn request_remains<O: Kinds>(room: Room<O::Ledgers>, way: Way<RequestWires<O>>) -> Remains<O>
+    ensures { (result.room ≡ room) × (result.connections ≡ record { user = way.source; service = way.service; origin = way.next }) }
+{
     let Way {
         source: user,
         service,
@@ -270,7 +328,9 @@ fn request_remains<O: Kinds>(room: Room<O::Ledgers>, way: Way<RequestWires<O>>) 
 }
 
 /// What a response stood over.
-fn response_remains<O: Kinds>(room: Room<O::Ledgers>, way: Way<ResponseWires<O>>) -> Remains<O> {
+fn response_remains<O: Kinds>(room: Room<O::Ledgers>, way: Way<ResponseWires<O>>) -> Remains<O>
+    ensures { (result.room ≡ room) × (result.connections ≡ record { user = way.next; service = way.service; origin = way.source }) }
+{
     let Way {
         source: origin,
         service,

@@ -1,9 +1,11 @@
 //! A reservation for a message.
 
-ghost use Rattle.std.specs.Prelude.{◌≡◌, ◌≤◌};
+ghost use Rattle.std.specs.Prelude.{◌≡◌, ◌≤◌, IfErr, None, true};
 ghost use Rattle.std.specs.Option.{ForSome};
 ghost use Rattle.span_bank.specs.declared.limits.TheConstants.{MAX_CAPACITY};
+ghost use Rattle.exchange_core.specs.declared.event.RefusalCause.TheVariants.{Scarce};
 ghost use Rattle.plan_rules.specs.Claims.{claim_of};
+ghost use Rattle.shard_effects.specs.Reasons.{cause_of, lies_elsewhere};
 
 use plan_rules::{Limits, claim};
 use shard_effects::{Reason, open_reason};
@@ -40,6 +42,7 @@ impl<B: Ledgers> Room<B> {
 /// A reservation whose message is gone.
 pub(crate) fn room_of<B: Ledgers>(stake: Stake<B>, limits: Limits) -> Room<B>
     requires { (stake.held ≡ 0) × (stake.pages ≡ 0) }
+    ensures { (result.planned ≡ None) × (result.limits ≡ limits) }
 {
     Room {
         stake,
@@ -54,7 +57,9 @@ pub fn make_room<B: Ledgers, R: Wait>(
     bank: &Bank<B>,
     limits: Limits,
     planned: &mut Option<Box<Planned>>,
-) -> Result<Room<B>, Reason> {
+) -> Result<Room<B>, Reason>
+    ensures { IfErr result (λ reason. cause_of reason ≡ Scarce) }
+{
     let Some(planned) = planned.take() else {
         return Err(Reason::NoMemory);
     };
@@ -77,7 +82,9 @@ pub fn dial_for<P, O: Outside<P>>(
     at: &P,
     out: &mut O,
     room: &Option<Room<O::Ledgers>>,
-) -> Result<O::Origin, Reason> {
+) -> Result<O::Origin, Reason>
+    ensures { IfErr result (λ reason. lies_elsewhere reason ≡ true) }
+{
     let address = match room {
         Some(
             Room {

@@ -1,8 +1,11 @@
 //! Transactions taken apart: what they stood over, and what comes of their messages.
 
-ghost use Rattle.std.specs.Prelude.{◌≡◌, false, IfSome, not};
-ghost use Rattle.shard_effects.specs.Ends.{EndsBy};
+ghost use Rattle.std.specs.Prelude.{◌≡◌, ◌&&◌, false, true, IfSome, not};
+ghost use Rattle.shard_effects.specs.Ends.{EndsBy, IfItself};
+ghost use Rattle.adapt_hold.specs.Holding.{shows};
+ghost use Rattle.adapt_sides.specs.Turns.Gift.{nothing};
 ghost use Rattle.adapt_turn.specs.Refusals.{user_untouched};
+ghost use Rattle.shard_message.specs.Ended.{EndsAs, IfAsked, IsEndOf, IsSequel, ended_as, fails, is_cut, old_where_asked};
 ghost use Rattle.shard_message.specs.Told.{reusable_by};
 
 use crate::ended::{Sequel, message_of, outcome_by, report_of};
@@ -12,6 +15,7 @@ use crate::sides::{Asked, MadeHead, Served};
 use crate::taken::{parts_of, wire_of};
 use adapt_sides::{ClientFault, Hop};
 use adapt_turn::{EndTypes, Ends, Outcome, ServiceEnd, Tx, TxParts};
+use icap_client::Found;
 use plan_rules::Limits;
 use shard_effects::{End, EndedBy, Reason, Report};
 use shard_outside::{Kinds, MessageEnd, Outside};
@@ -50,7 +54,9 @@ fn answered<S: Asked>(
     request: S,
     outcome: Outcome,
     closes: bool,
-) -> Sequel<S::Message> {
+) -> Sequel<S::Message>
+    ensures { IsSequel outcome ⊥ (S.carries_on Outcome.Done closes request) (S.is_old request) result }
+{
     match outcome {
         Outcome::Fail(cause) => Sequel::Failed {
             cause,
@@ -65,13 +71,47 @@ fn answered<S: Asked>(
 }
 
 /// What comes of a message whose request is lost: no further one of its user's connection.
-fn unasked<M>(outcome: Outcome) -> Sequel<M> {
+fn unasked<M>(outcome: Outcome) -> Sequel<M>
+    ensures { IsSequel outcome ⊥ ⊥ true result }
+{
     match outcome {
         Outcome::Fail(cause) => Sequel::Failed {
             cause,
             is_old: true,
         },
         Outcome::Done => Sequel::Answered(None),
+    }
+}
+
+/// What comes of a request: the origin has it, unless an answer went back.
+fn after_request<S: Asked, K: Hop>(
+    alloc: Global,
+    request: S,
+    back: &K,
+    outcome: Outcome,
+    closes: bool,
+) -> Sequel<S::Message>
+    ensures { IsSequel outcome (K.gift back.now ≡ nothing) (S.carries_on Outcome.Done closes request) (S.is_old request) result }
+{
+    if outcome == Outcome::Done && back.is_idle() {
+        Sequel::Sent(boxed(alloc, request.response(alloc)))
+    } else {
+        answered(alloc, request, outcome, closes)
+    }
+}
+
+/// What comes of a response, by the side of the user whose request it answers.
+fn after_response<S: Asked>(
+    alloc: Global,
+    request: Option<S>,
+    outcome: Outcome,
+    closes: bool,
+) -> Sequel<S::Message>
+    ensures { IsSequel outcome ⊥ (IfAsked (S.carries_on Outcome.Done closes) request) (old_where_asked S.is_old request) result }
+{
+    match request {
+        Some(request) => answered(alloc, request, outcome, closes),
+        None => unasked(outcome),
     }
 }
 
@@ -121,6 +161,14 @@ fn adapted_head<V: Served, W>(service: &Option<ServiceEnd<V, W>>) -> Option<&[u8
     }
 }
 
+/// What a service said that it found in the message, where there was one.
+fn found_by<V: Served, W>(service: &Option<ServiceEnd<V, W>>) -> Option<Found<'_>> {
+    match service {
+        Some(line) => Some(line.side.found()),
+        None => None,
+    }
+}
+
 /// Has the surroundings take note of what became of a message, and of the tag of its service's answer.
 fn give_account<P, O: Outside<P>, V: Served>(
     at: &P,
@@ -137,6 +185,7 @@ fn give_account<P, O: Outside<P>, V: Served>(
         service_fault: fault_of(service),
         service_is_fresh: is_service_fresh(service),
         next_is_fresh: account.next_is_fresh,
+        found: found_by(service),
         adapted_head,
         has_answered: account.has_answered,
     };
@@ -155,7 +204,7 @@ fn warn<P, O: Outside<P>>(at: &P, out: &mut O, user: &O::User, report: Report) {
         O::cut(user);
     }
     if report.end == (End::Sent { has_memory: false }) {
-        out.note_refusal(at, user, Reason::NoMemory, false);
+        out.note_refusal(at, user, None, Reason::NoMemory, false);
     }
 }
 
@@ -170,8 +219,9 @@ fn report_on<P, O: Outside<P>, V: Served, M>(
     by: EndedBy,
 ) -> Report
     ensures ends { EndsBy by result.end }
+    ensures itself { IfItself by (IsEndOf account.seen.plan.point sequel.now result.end) }
     ensures answered { result.has_answered ≡ account.has_answered }
-    ensures cuts { account.has_answered ≡ false → result.cuts ≡ false }
+    ensures cuts { result.cuts ≡ account.has_answered && is_cut sequel.now }
     ensures served { IfSome result.served (λ usable. usable ≡ reusable_by V.reusable service.now) }
 {
     give_account(at, out, user, service, account);
@@ -226,7 +276,10 @@ where
     E::Maker: MadeHead<E::Reader>,
     ensures ends { EndsBy by result.report.end }
     ensures answered { result.report.has_answered ≡ not (user_untouched tx.hold.history.plan.point (E.Writer.untouched tx.ends.next) (E.Writer.untouched tx.ends.back)) }
+    ensures told { IfItself by (EndsAs tx.hold.history.plan.point (ended_as (shows tx.hold.history).closed tx.outcome) (E.Writer.gift tx.ends.back ≡ nothing)
+        (E.Reader.carries_on Outcome.Done (E.Maker.closes tx.ends.maker) tx.ends.source) result.report.end) }
     ensures cuts { result.report.has_answered ≡ false → result.report.cuts ≡ false }
+    ensures cut { result.report.cuts ≡ result.report.has_answered && (fails (ended_as (shows tx.hold.history).closed tx.outcome) && E.Reader.is_old tx.ends.source) }
     ensures served { IfSome result.report.served (λ usable. usable ≡ reusable_by E.Client.reusable tx.ends.service) }
 {
     let has_answered = tx.has_answered();
@@ -251,11 +304,7 @@ where
         has_answered,
         next_is_fresh: is_fresh(&origin),
     };
-    let sequel = if outcome == Outcome::Done && back.is_idle() {
-        Sequel::Sent(boxed(out.alloc(), source.response(out.alloc())))
-    } else {
-        answered(out.alloc(), source, outcome, maker.closes())
-    };
+    let sequel = after_request(out.alloc(), source, &back, outcome, maker.closes());
     let report = report_on(at, out, &user, &service, account, &sequel, by);
     let connections = Connections {
         user,
@@ -285,7 +334,10 @@ where
     E::Maker: MadeHead<E::Reader>,
     ensures ends { EndsBy by result.report.end }
     ensures answered { result.report.has_answered ≡ not (user_untouched tx.hold.history.plan.point (E.Writer.untouched tx.ends.next) (E.Writer.untouched tx.ends.back)) }
+    ensures told { IfItself by (EndsAs tx.hold.history.plan.point (ended_as (shows tx.hold.history).closed tx.outcome) ⊥
+        (IfAsked (E.Reader.carries_on Outcome.Done (E.Maker.closes tx.ends.maker)) (E.Maker.asked tx.ends.maker)) result.report.end) }
     ensures cuts { result.report.has_answered ≡ false → result.report.cuts ≡ false }
+    ensures cut { (shows tx.hold.history).closed ≡ true → result.report.cuts ≡ result.report.has_answered && (fails tx.outcome && old_where_asked E.Reader.is_old (E.Maker.asked tx.ends.maker)) }
     ensures served { IfSome result.report.served (λ usable. usable ≡ reusable_by E.Client.reusable tx.ends.service) }
 {
     let has_answered = tx.has_answered();
@@ -311,10 +363,7 @@ where
         next_is_fresh: is_fresh(&user),
     };
     let closes = maker.closes();
-    let sequel = match maker.into_asked() {
-        Some(request) => answered(out.alloc(), request, outcome, closes),
-        None => unasked(outcome),
-    };
+    let sequel = after_response(out.alloc(), maker.into_asked(), outcome, closes);
     let report = report_on(at, out, &user, &service, account, &sequel, by);
     let connections = Connections {
         user,

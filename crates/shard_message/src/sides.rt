@@ -2,10 +2,13 @@
 //!
 //! The functions that take a transaction apart are generic in its sides, so that a proof sees each of them as one value.
 
+ghost use Rattle.std.specs.Prelude.{◌≡◌, ◌↔◌, Bool, Option, IsTrue};
+ghost use Rattle.adapt_turn.specs.declared.turn.Outcome.{Outcome as AnyOutcome};
+
 use adapt_sides::{ClientFault, Service, Source};
 use adapt_turn::Outcome;
 use http_relay::SourceSide;
-use icap_client::ServiceSide;
+use icap_client::{Found, ServiceSide};
 use proxy_rules::{HeadMaker, Incoming, keeps_user};
 use std::alloc::Global;
 
@@ -14,6 +17,9 @@ pub(crate) trait Served: Service + Drop {
     /// The tag of its answer (RFC 3507, section 4.7).
     fn tag(&self) -> Option<&[u8]>;
 
+    /// What it said that it found in the message.
+    fn found(&self) -> Found<'_>;
+
     /// Why it failed.
     fn fault(&self) -> Option<ClientFault>;
 }
@@ -21,6 +27,10 @@ pub(crate) trait Served: Service + Drop {
 impl Served for ServiceSide {
     fn tag(&self) -> Option<&[u8]> {
         ServiceSide::tag(self)
+    }
+
+    fn found(&self) -> Found<'_> {
+        ServiceSide::found(self)
     }
 
     fn fault(&self) -> Option<ClientFault> {
@@ -33,11 +43,19 @@ pub(crate) trait Asked: Source + Drop {
     /// The message that comes after it: the user's next request, or the response to this one.
     type Message: Drop;
 
+    // the user's connection carries a further request after an answer with this outcome, whose head said or not that it closes
+    ghost carries_on: { AnyOutcome → Bool → Self → Type 0 };
+
+    // the request is of HTTP/1.0
+    ghost is_old: { Self → Bool };
+
     /// Whether the request is of HTTP/1.0.
-    fn is_old(&self) -> bool;
+    fn is_old(&self) -> bool
+        ensures { result ≡ is_old self.now };
 
     /// Whether the user's connection carries a further request after an answer.
-    fn keeps(&self, outcome: Outcome, closes: bool) -> bool;
+    fn keeps(&self, outcome: Outcome, closes: bool) -> bool
+        ensures { IsTrue result ↔ carries_on outcome closes self.now };
 
     /// The user's next request, before its first byte but for what was read already.
     fn next_request(self) -> Option<Self::Message>;
@@ -47,7 +65,15 @@ pub(crate) trait Asked: Source + Drop {
 }
 
 impl Asked for SourceSide {
+    ghost use Rattle.http_relay.specs.Reading.{request_of};
+    ghost use Rattle.proxy_rules.specs.Connections.{CarriesOn};
+    ghost use Rattle.shard_message.specs.Told.{is_old_in};
+
     type Message = Incoming;
+
+    ghost carries_on = { CarriesOn };
+
+    ghost is_old = { λ user. is_old_in (request_of user.head) };
 
     fn is_old(&self) -> bool {
         match self.request_head() {
@@ -71,14 +97,26 @@ impl Asked for SourceSide {
 
 /// What made the head that went on.
 pub(crate) trait MadeHead<S>: Drop {
+    // the user's connection ends after the answer
+    ghost closes: { Self → Bool };
+
+    // the side of the user whose request a response answers
+    ghost asked: { Self → Option S };
+
     /// Whether the user's connection ends after the answer.
-    fn closes(&self) -> bool;
+    fn closes(&self) -> bool
+        ensures { result ≡ closes self.now };
 
     /// The side of the user whose request a response answers.
-    fn into_asked(self) -> Option<S>;
+    fn into_asked(self) -> Option<S>
+        ensures { result ≡ asked self };
 }
 
 impl MadeHead<SourceSide> for HeadMaker {
+    ghost closes = { λ maker. maker.closes };
+
+    ghost asked = { λ maker. maker.user };
+
     fn closes(&self) -> bool {
         HeadMaker::closes(self)
     }

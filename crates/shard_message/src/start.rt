@@ -1,5 +1,8 @@
 //! The start of a message's transaction.
 
+ghost use Rattle.std.specs.Prelude.{◌≡◌, None, IfOk, IfErr};
+ghost use Rattle.shard_message.specs.Begun.{BeginsWith, IsPaceOf, beginning};
+
 use crate::room::{Room, room_of};
 use crate::taken::left_of;
 use exchange_core::Course;
@@ -13,7 +16,9 @@ use std::sync::Wait;
 
 /// The pace of a transaction that begins at this course. Its deadline is a second later than the configured one, since moments are whole
 /// seconds: so it never comes early.
-pub fn pace_of<P, O: Outside<P>>(at: &P, out: &O, course: Course) -> Pace {
+pub fn pace_of<P, O: Outside<P>>(at: &P, out: &O, course: Course) -> Pace
+    ensures { IsPaceOf (O.now_is out.now at.now) (O.config_is out.now) course result }
+{
     let deadline = out.config().deadline.saturating_add(1);
     Pace::new(deadline, out.now(at), course.connection.is_reused())
 }
@@ -29,7 +34,10 @@ pub(crate) fn set_out<B: Ledgers, W: Wires, R: Wait>(
     way: Way<W>,
     pace: Pace,
     last: bool,
-) -> Result<Box<Running<B, W>>, (Room<B>, Way<W>)> {
+) -> Result<Box<Running<B, W>>, (Room<B>, Way<W>)>
+    ensures begins { IfOk result (λ tx. BeginsWith (beginning room.planned message.value pace last) way.source way.service way.next tx.value.tx.hold.history tx.value.tx.pace tx.value.tx.ends) }
+    ensures back { IfErr result (λ back. (back.0.planned ≡ None) × (back.0.limits ≡ room.limits)) }
+{
     let Room {
         stake,
         planned,

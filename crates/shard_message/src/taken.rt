@@ -1,6 +1,9 @@
 //! Transactions taken apart.
 
-ghost use Rattle.std.specs.Prelude.{◌≡◌};
+ghost use Rattle.std.specs.Prelude.{◌≡◌, true, None};
+ghost use Rattle.adapt_hold.specs.Holding.{shows};
+ghost use Rattle.adapt_turn.specs.ChosenHead.{wire_of};
+ghost use Rattle.shard_message.specs.Ended.{ended_as};
 
 use crate::room::{Room, room_of};
 use adapt_turn::{EndTypes, Ends, ServiceEnd, Tx, TxParts};
@@ -17,6 +20,10 @@ pub(crate) fn parts_of<B: Ledgers, E: EndTypes, R: Wait>(
 ) -> TxParts<B, E>
     ensures empty { (result.stake.held ≡ 0) × (result.stake.pages ≡ 0) }
     ensures service { result.ends.service ≡ tx.ends.service }
+    ensures ends { (shows tx.hold.history).closed ≡ true → result.ends ≡ tx.ends }
+    ensures outcome { result.outcome ≡ ended_as (shows tx.hold.history).closed tx.outcome }
+    ensures plan { result.seen.plan ≡ tx.hold.history.plan }
+    ensures kept { (result.ends.source ≡ tx.ends.source) × (result.ends.source_wire ≡ tx.ends.source_wire) × (result.ends.next_wire ≡ tx.ends.next_wire) }
 {
     let mut tx = tx;
     tx.halt(rt, bank);
@@ -27,7 +34,9 @@ pub(crate) fn parts_of<B: Ledgers, E: EndTypes, R: Wait>(
 }
 
 /// The connection of a service's side that has ended. None where it was given up before.
-pub(crate) fn wire_of<V: Drop, W>(service: Option<ServiceEnd<V, W>>) -> Option<W> {
+pub(crate) fn wire_of<V: Drop, W>(service: Option<ServiceEnd<V, W>>) -> Option<W>
+    ensures { result ≡ wire_of service }
+{
     match service {
         Some(line) => {
             let ServiceEnd { side: _, wire } = line;
@@ -48,6 +57,8 @@ where
     E::Reader: Drop,
     E::Client: Drop,
     E::Writer: Drop,
+    ensures room { (result.0.planned ≡ None) × (result.0.limits ≡ limits) }
+    ensures wires { (result.1.source ≡ tx.ends.source_wire) × (result.1.service ≡ wire_of tx.ends.service) × (result.1.next ≡ tx.ends.next_wire) }
 {
     let TxParts {
         stake,
