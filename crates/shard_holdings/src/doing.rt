@@ -1,6 +1,8 @@
 //! What is done with the surroundings.
 
-ghost use Rattle.std.specs.Prelude.{◌≡◌, is_some, true, false};
+ghost use Rattle.std.specs.Prelude.{◌≡◌, is_some, true, false, IfSome};
+ghost use Rattle.shard_outside.specs.Learning.{IsLearned};
+ghost use Rattle.shard_outside.specs.Planning.{PlansBy};
 
 use crate::holdings::Holdings;
 use adapt_sides::ClientFault;
@@ -13,8 +15,8 @@ use shard_message::{
     take_connections,
 };
 use shard_outside::{
-    Outside, begin_asking, clear, finish_user, is_reusable, keep, keep_plan, lay, leave_queue,
-    linger_on, note_refused, note_stopped, put_in, take_out,
+    Outside, Reusable, begin_asking, clear, finish_user, is_reusable, keep, keep_plan, lay,
+    leave_queue, linger_on, note_refused, note_stopped, put_in, take_out,
 };
 use span_bank::Pages;
 use std::sync::Wait;
@@ -37,6 +39,15 @@ fn take_in<P, O: Outside<P>>(
 
 impl<P, O: Outside<P>> Effects<P> for Holdings<O> {
     ghost is_late = { λ out at. O.is_late out at };
+
+    ghost plans = { λ old new out at asked result. IfSome old.message (λ message.
+        PlansBy (O.config_is out) (O.limits_are out) (O.book_is out) (O.now_is out at) asked message.value old.planned new.planned result) };
+
+    ghost learns = { λ old new at point answer. IsLearned (O.config_is old) (O.now_is old at) (O.keeps old new at point) point answer };
+
+    ghost puts = { λ held old new at. IfSome held.connection (λ leased. IfSome leased.wire (λ wire. O.puts old new at wire leased.lease)) };
+
+    ghost gives_up = { λ held old new at. IfSome held.connection (λ leased. O.gives_up old new at leased.lease) };
 
     fn is_late(at: &P, out: &O) -> bool {
         out.is_late(at)
@@ -182,11 +193,11 @@ impl<P, O: Outside<P>> Effects<P> for Holdings<O> {
         report
     }
 
-    fn give_back(&mut self, at: &P, out: &mut O, is_ready: bool) -> bool {
+    fn give_back(&mut self, at: &P, out: &mut O, course: &Exchange) -> bool {
         let Connection { wire, lease } = take_out(&mut self.connection);
         match wire {
-            Some(wire) if is_ready => {
-                out.put(at, wire, lease);
+            Some(wire) if course.course().connection.is_ready() => {
+                out.put(at, Reusable::new(wire, course), lease);
                 true
             }
             wire => {
@@ -225,7 +236,7 @@ impl<P, O: Outside<P>> Effects<P> for Holdings<O> {
     }
 
     fn note_refusal(&self, at: &P, out: &mut O, course: &Exchange, reason: Reason) {
-        note_refused(at, out, course, &self.user, reason);
+        note_refused(at, out, course, &self.user, &self.message, reason);
     }
 
     fn note_stop(at: &P, out: &mut O, course: &Exchange) {

@@ -1,7 +1,9 @@
 //! What is done over what is held alone.
 
-ghost use Rattle.std.specs.Prelude.{is_some, false, None, Some};
+ghost use Rattle.std.specs.Prelude.{is_some, false, None, Some, ⊤};
 ghost use Rattle.shard_effects.specs.Hand.{hand_of};
+ghost use Rattle.shard_effects.specs.Saying.{past_of};
+ghost use Rattle.shard_outside.specs.Usable.{usable_by};
 ghost use Rattle.shard_holdings.specs.Message.{has_come};
 
 use crate::holdings::Holdings;
@@ -14,7 +16,7 @@ use shard_message::{Moving, OnItsWay, hear_on, lay_wire};
 use shard_outside::{Kinds, clear, fault_of, say_to, turn_on};
 
 impl<O: Kinds> InHand for Holdings<O> {
-    ghost hand = { λ held. hand_of (is_some held.connection) (is_some held.room) (is_some held.origin) (is_some held.tx) };
+    ghost hand = { λ held. hand_of (is_some held.connection) (is_some held.room) (is_some held.origin) (is_some held.tx) held.told held.refused };
 }
 
 impl<O: Kinds> Holder for Holdings<O> {
@@ -28,6 +30,20 @@ impl<O: Kinds> Holder for Holdings<O> {
     ghost reusable = { λ held. elim held.tx [
       | None ↦ false
       | Some tx ↦ ⟦<Moving<O> as OnItsWay>⟧.reusable tx
+    ] };
+
+    ghost user_past = { λ held. past_of O.User.past held.user };
+
+    ghost usable_after = { λ held answer. usable_by (λ side. side.value.raw) held.asking answer };
+
+    ghost ends = { λ held end. elim held.tx [
+      | None ↦ ⊤
+      | Some tx ↦ ⟦<Moving<O> as OnItsWay>⟧.ends tx end
+    ] };
+
+    ghost cut_is = { λ held answered cut. elim held.tx [
+      | None ↦ ⊤
+      | Some tx ↦ ⟦<Moving<O> as OnItsWay>⟧.cut_is tx answered cut
     ] };
 
     ghost has_begun = { λ held. has_come held.message };
@@ -60,11 +76,7 @@ impl<O: Kinds> Holder for Holdings<O> {
     }
 
     fn tell(&mut self, _course: &Exchange) -> Said {
-        let said = say_to(&mut self.user, interim_continue(), &mut self.told);
-        if said == Said::Whole {
-            self.told = 0;
-        }
-        said
+        say_to(&mut self.user, interim_continue(), &mut self.told)
     }
 
     fn refuse(&mut self, _course: &Exchange, status: u16) -> Said {

@@ -55,7 +55,8 @@ pub struct Held<O: Kinds> {
 impl<O: Kinds> Holdings<O> {
     /// The user's connection, and the message whose head is to be read.
     pub fn new(user: O::User, message: Option<Box<Incoming>>) -> Holdings<O>
-        ensures { (result.connection ≡ None) × (result.room ≡ None) × (result.origin ≡ None) × (result.tx ≡ None) }
+        ensures none { (result.connection ≡ None) × (result.room ≡ None) × (result.origin ≡ None) × (result.tx ≡ None) }
+        ensures silent { (result.told ≡ 0) × (result.refused ≡ 0) }
     {
         Holdings {
             user: Some(user),
@@ -109,6 +110,7 @@ impl<O: Kinds> Holdings<O> {
         requires { (is_some self.old.room ≡ false) × (is_some self.old.tx ≡ false) }
         ensures leased { is_some self.new.connection ≡ is_some self.old.connection }
         ensures back { (is_some self.new.room ≡ true) × (is_some self.new.origin ≡ true) × (self.new.tx ≡ None) }
+        ensures said { (self.new.told ≡ self.old.told) × (self.new.refused ≡ self.old.refused) }
     {
         let Remains { room, connections } = remains;
         put_in(&mut self.room, room);

@@ -86,6 +86,12 @@ impl<'a, S: Shares, F: Append> Office<'a, S, F> {
         }
     }
 
+    /// The counters. A connection that its service has closed, or that is too old, isn't idle any more.
+    fn say_stats<R: Wait>(&self, rt: &R, now: u64) -> Result<Vec<u8>, AllocError> {
+        pools_of(&self.shared).tidy(rt, now);
+        stats_text(self.alloc, self.tallies, &self.figures(rt, now))
+    }
+
     /// Has each loop ask the services for their options again, before its next message is planned.
     fn refresh(&self) -> Result<Vec<u8>, AllocError> {
         for inbox in self.shared.inboxes() {
@@ -172,7 +178,7 @@ impl<'a, S: Shares + Drop, F: Append> Work for Office<'a, S, F> {
         match request {
             Request::Book => self.say_book(rt),
             Request::Capacity(n) => self.set_capacity(rt, n),
-            Request::Stats => stats_text(self.alloc, self.tallies, &self.figures(rt, now)),
+            Request::Stats => self.say_stats(rt, now),
             Request::Reopen => self.reopen(rt),
             Request::Refresh => self.refresh(),
             Request::Drain | Request::Stop | Request::Bad => b"bad\n".to_vec(self.alloc),

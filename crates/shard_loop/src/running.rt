@@ -16,6 +16,7 @@ use socket_wire::Dial;
 use span_bank::{Bank, Blanks, Ledgers};
 use std::alloc::Global;
 use std::fs::File;
+use std::io::Write;
 use std::marker::Brand;
 use std::net::Net;
 use std::sync::ledger::{Blank, Ledger};
@@ -50,18 +51,27 @@ fn make_pool<L: Ledger>(
     }
 }
 
+/// Says that users are served from now on.
+fn say_listening<O: Write>(output: &mut O) -> Result<(), ServeFault> {
+    if output.write_all(b"listening\n").is_err() || output.flush().is_err() {
+        return Err(ServeFault::Unheard);
+    }
+    Ok(())
+}
+
 /// Runs the proxy on these ports until the administrator stops it or one of its loops fails, and audits its budget and its
-/// pools. Lines are added to the log's file, if there is one. The budget and each pool have ledgers of their own.
+/// pools. Once the memory of both is there, `listening` is written to the output. Lines are added to the log's file, if there is one. The
+/// budget and each pool have ledgers of their own.
 ///
 /// ```
 /// let users = TcpListener::bind(rt, SocketAddr::V4(config.listen))?;
 /// let admin = TcpListener::bind(rt, SocketAddr::V4(config.admin))?;
 /// let admin = AdminPorts { admin, metrics: None };
 /// // No log is kept. It returns once the administrator has said `stop`.
-/// let stopped = serve(rt, alloc, &config, users, admin, None, &OpenGate)?;
+/// let stopped = serve(rt, alloc, &config, users, admin, None, &OpenGate, &mut output)?;
 /// assert_eq!(rt; stopped.fault, None);
 /// ```
-pub fn serve<G: Gate + Sync, R: Threads + Wait + Net + Dial + Append + Clock + Sync>(
+pub fn serve<G: Gate + Sync, O: Write, R: Threads + Wait + Net + Dial + Append + Clock + Sync>(
     rt: &R,
     alloc: Global,
     config: &Config,
@@ -69,8 +79,9 @@ pub fn serve<G: Gate + Sync, R: Threads + Wait + Net + Dial + Append + Clock + S
     admin: AdminPorts,
     log: Option<File>,
     gate: &G,
+    output: &mut O,
 ) -> Result<Stopped, ServeFault> {
-    serve_with::<Brand, Brand, Brand, Brand, Brand, Brand, G, R>(
+    serve_with::<Brand, Brand, Brand, Brand, Brand, Brand, G, O, R>(
         rt,
         alloc,
         config,
@@ -78,6 +89,7 @@ pub fn serve<G: Gate + Sync, R: Threads + Wait + Net + Dial + Append + Clock + S
         admin,
         log,
         gate,
+        output,
         Blanks::new(config.rows + 1),
         Blank::new(LEDGER_PARTS),
         Blank::new(LEDGER_PARTS),
@@ -95,6 +107,7 @@ fn serve_with<
     Q: Ledger + Send + Sync,
     A: Ledger + Send + Sync,
     G: Gate + Sync,
+    O: Write,
     R: Threads + Wait + Net + Dial + Append + Clock + Sync,
 >(
     rt: &R,
@@ -104,6 +117,7 @@ fn serve_with<
     admin: AdminPorts,
     log: Option<File>,
     gate: &'x G,
+    output: &mut O,
     blanks: Blanks,
     reqmod: Blank,
     respmod: Blank,
@@ -130,6 +144,7 @@ fn serve_with<
     };
     let request: Pool<Spare, Q> = make_pool(alloc, reqmod, &config.reqmod, journal)?;
     let response: Pool<Spare, A> = make_pool(alloc, respmod, &config.respmod, journal)?;
+    say_listening(output)?;
     serve_on(
         rt,
         alloc,

@@ -115,8 +115,8 @@ fn watch<R, G>(seats: &mut Seats, at: &Spot<'_, R, G>, phase: Phase) {
     seats.await_connections(at.key, at.now, moves, moves || asks);
 }
 
-/// A step of an exchange in this phase. Its seat is touched where it went on, and something moved; but what the proxy itself says at the end is written, and
-/// the connection closed after it, within one deadline.
+/// A step of an exchange in this phase. Its seat is touched where it went on, and something moved; but what the proxy itself says at
+/// the end is written, and the connection closed after it, within one deadline.
 fn take_step<E: Exchanges, R: Wait + Dial + Clock, G: Gate>(
     exchanges: &mut E,
     at: &Spot<'_, R, G>,

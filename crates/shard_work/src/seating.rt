@@ -25,6 +25,9 @@ pub trait Seating {
     /// don't.
     fn close_idle<R: Wait>(&mut self, rt: &R) -> Option<bool>;
 
+    /// Whether users of other threads alone have ended their bytes: they are spared before one of this thread.
+    fn has_ended_elsewhere(&self) -> bool;
+
     /// Whether no connection to the service of a point is free.
     fn lacks<R: Wait>(&self, rt: &R, point: Point) -> bool;
 

@@ -1,13 +1,12 @@
 //! Users' connections by their keys: their readiness, when they last moved, and which can best be spared.
 
-ghost use Rattle.std.specs.Prelude.{◌≡◌, ◌/◌, IfSome};
+ghost use Rattle.std.specs.Prelude.{◌≡◌, ◌/◌, IfSome, IfOk, IfErr};
 
 use crate::terms::{Awaited, Terms};
 use event_loop::{Spared, Stay, Told, UserPermit, is_young, spared_of, youth_of};
-use mio::net::TcpStream;
 use mio::{Registry, Token};
 use slab::Slab;
-use socket_wire::{MAX_KEY, Peer, Readiness, Role, SocketWire, token_of};
+use socket_wire::{MAX_KEY, Peer, Readiness, Role, SocketWire, Stream, token_of};
 use std::alloc::{AllocError, Global};
 use std::mem;
 use std::sync::Arc;
@@ -83,7 +82,7 @@ pub struct Seats {
     refused: usize,
     /// How many stays have begun.
     stays: u64,
-    /// How many users have ended their bytes.
+    /// How many users that are served have ended their bytes.
     ended: usize,
     /// The user that has to give way to one that was driven.
     in_way: Option<usize>,
@@ -198,8 +197,7 @@ impl Seats {
         };
         if seat.purpose == Purpose::Refusal {
             self.refused = self.refused.saturating_sub(1);
-        }
-        if has_ended(&seat) {
+        } else if has_ended(&seat) {
             self.ended = self.ended.saturating_sub(1);
         }
     }
@@ -425,6 +423,19 @@ impl Seats {
         }
     }
 
+    /// Whether a user that is served has ended its bytes.
+    pub fn have_ended(&self) -> bool {
+        self.ended > 0
+    }
+
+    /// A user that is served has ended its bytes.
+    fn end(&mut self, key: usize) {
+        self.ended = self.ended.saturating_add(1);
+        if let Some(seat) = self.all.get_mut(key) {
+            seat.permit.end();
+        }
+    }
+
     /// Takes note of an event. False if it says nothing new.
     pub fn note(&mut self, key: usize, peer: Peer, told: Told) -> bool {
         let Some(seat) = self.all.get(key) else {
@@ -436,17 +447,17 @@ impl Seats {
             Peer::Origin => &seat.origin,
             Peer::Service => &seat.service,
         };
-        match ready {
+        let is_news = match ready {
             Some(ready) => {
                 let gone = told.failed && ready.fail();
-                let is_news = ready.note(told.readable, told.writable, told.closed) || gone;
-                if !had_ended && has_ended(seat) {
-                    self.ended = self.ended.saturating_add(1);
-                }
-                is_news
+                ready.note(told.readable, told.writable, told.closed) || gone
             }
             None => false,
+        };
+        if !had_ended && has_ended(seat) && seat.purpose == Purpose::Requests {
+            self.end(key);
         }
+        is_news
     }
 
     /// Keeps the readiness of a connection, in place of that of another one.
@@ -471,8 +482,10 @@ impl Seats {
         registry: &Registry,
         key: usize,
         ready: Readiness,
-        stream: TcpStream,
-    ) -> Result<SocketWire<P>, TcpStream> {
+        stream: Stream<P>,
+    ) -> Result<SocketWire<P>, Stream<P>>
+        ensures { IfOk result (λ wire. wire.stream ≡ stream) }
+    {
         let Ok(ready) = Arc::new(self.alloc, ready) else {
             return Err(stream);
         };
@@ -493,7 +506,10 @@ impl Seats {
         key: usize,
         wire: SocketWire<P>,
         ready: Arc<Readiness>,
-    ) -> Result<SocketWire<P>, SocketWire<P>> {
+    ) -> Result<SocketWire<P>, SocketWire<P>>
+        ensures ok { IfOk result (λ enlisted. enlisted ≡ wire) }
+        ensures err { IfErr result (λ refused. refused ≡ wire) }
+    {
         let mut wire = wire;
         if key > MAX_KEY
             || wire

@@ -11,12 +11,10 @@ use crate::spot::Spot;
 use event_loop::{Admitted, Driven, Handed, Request, Slots, Told, Work};
 use http_side::own_refusal;
 use mio::Registry;
-use mio::net::TcpStream;
 use shard_exchange::{Step, Task};
-use socket_wire::{Dial, Peer, Readiness};
+use socket_wire::{Calls, Dial, Peer, Readiness, Stream, User};
 use std::alloc::{AllocError, Global};
 use std::boxed::Box;
-use std::io::Write;
 use std::sync::Wait;
 use std::time::Clock;
 use wire_kit::Gate;
@@ -44,9 +42,9 @@ pub struct Shard<'a, E: Exchanges, G> {
 
 /// Says to a user for whom there isn't even a seat to spare, or no memory, that it be back later, where that costs nothing. It has no
 /// line of the log.
-pub fn turn_away(stream: TcpStream) {
+pub fn turn_away(stream: Stream<User>) {
     let mut stream = stream;
-    let _ = stream.write(own_refusal(503));
+    let _ = stream.offer(own_refusal(503));
 }
 
 impl<'a, E: Exchanges + Drop, G: Gate> Shard<'a, E, G> {
@@ -172,8 +170,9 @@ impl<'a, E: Exchanges + Drop, G: Gate> Shard<'a, E, G> {
         }
     }
 
-    /// The key of the user that can best be spared. One whose request has just come isn't.
-    fn best_spared(&mut self, millis: u64) -> Option<usize> {
+    /// The key of the user that can best be spared, of all or of those that have ended and idle ones. One whose request has just come
+    /// isn't.
+    fn best_spared(&mut self, only_idle: bool, millis: u64) -> Option<usize> {
         let youth = self.exchanges.users().seats().youth(millis);
         let mut best = None;
         for key in 0..self.slots.count() {
@@ -182,6 +181,7 @@ impl<'a, E: Exchanges + Drop, G: Gate> Shard<'a, E, G> {
                 .users()
                 .seats()
                 .better(key, millis, youth, best)
+                && (!only_idle || better.is_idle())
             {
                 if self.is_wanted(key) {
                     self.exchanges.users_mut().seats_mut().await_head(key);
@@ -196,14 +196,16 @@ impl<'a, E: Exchanges + Drop, G: Gate> Shard<'a, E, G> {
         }
     }
 
-    /// Closes the connection of the user that can best be spared. False if there is no such user.
+    /// Closes the connection of the user that can best be spared, of all or of those that have ended and idle ones. False if there is
+    /// no such user.
     fn spare_user<R: Wait + Dial + Clock>(
         &mut self,
         rt: &R,
         registry: &Registry,
+        only_idle: bool,
         millis: u64,
     ) -> bool {
-        let Some(key) = self.best_spared(millis) else {
+        let Some(key) = self.best_spared(only_idle, millis) else {
             return false;
         };
         let gate = self.gate;
@@ -218,14 +220,17 @@ impl<'a, E: Exchanges + Drop, G: Gate> Shard<'a, E, G> {
         true
     }
 
-    /// Whether there is a seat for a further user. Where none is free, the user that can best be spared leaves its own.
+    /// Whether there is a seat for a further user. Where none is free, the user that can best be spared leaves its own: in the first
+    /// round one that has ended its side, or is idle, since another thread may have a seat.
     fn has_seat<R: Wait + Dial + Clock>(
         &mut self,
         rt: &R,
         registry: &Registry,
+        is_first_round: bool,
         millis: u64,
     ) -> bool {
-        self.exchanges.users().seats().has_room() || self.spare_user(rt, registry, millis)
+        self.exchanges.users().seats().has_room()
+            || self.spare_user(rt, registry, is_first_round, millis)
     }
 
     /// Whether no byte of a request was read on the connection under this key, but some have come that no event has reported yet.
@@ -245,7 +250,7 @@ impl<'a, E: Exchanges + Drop, G: Gate> Work for Shard<'a, E, G> {
         user: Handed,
         millis: u64,
     ) -> Admitted {
-        if !self.has_seat(rt, registry, millis) && user.may_go_on() {
+        if !self.has_seat(rt, registry, user.is_first_round(), millis) && user.may_go_on() {
             return Admitted::Full(user);
         }
         let Handed {
@@ -261,10 +266,11 @@ impl<'a, E: Exchanges + Drop, G: Gate> Work for Shard<'a, E, G> {
             .seats_mut()
             .take(number, permit, millis)
         else {
-            turn_away(stream);
+            turn_away(Stream::accepted(stream));
             return Admitted::Closed;
         };
         self.exchanges.users_mut().enter(key, purpose, &stream);
+        let stream: Stream<User> = Stream::accepted(stream);
         let ready = Readiness::new();
         let begun = match self
             .exchanges
@@ -297,7 +303,8 @@ impl<'a, E: Exchanges + Drop, G: Gate> Work for Shard<'a, E, G> {
         Admitted::Seated(key)
     }
 
-    /// Idle connections to services go first, where they keep the user out.
+    /// Idle connections to services go first, where they keep the user out, and then users that have ended their side, of whichever
+    /// thread.
     fn make_room<R: Wait + Dial + Clock>(
         &mut self,
         rt: &R,
@@ -306,7 +313,8 @@ impl<'a, E: Exchanges + Drop, G: Gate> Work for Shard<'a, E, G> {
     ) -> bool {
         match self.exchanges.users_mut().close_idle(rt) {
             Some(has_room) => has_room,
-            None => self.spare_user(rt, registry, millis),
+            None if self.exchanges.users().has_ended_elsewhere() => false,
+            None => self.spare_user(rt, registry, false, millis),
         }
     }
 
