@@ -3,8 +3,8 @@ use Rattle.std.specs.Prelude.{ℕ, List, ◌++◌, codes}
 use Rattle.adapt_bytes.specs.Numeral.{numeral}
 use Rattle.shard_report.specs.declared.audit.StopAudit.{StopAudit}
 use Rattle.shard_report.specs.declared.audit.ServeFault.{ServeFault}
-use Rattle.shard_report.specs.declared.audit.ServeFault.TheVariants.{System, Loop, Missing, NoMemory}
-use Rattle.proxy_commands.specs.declared.error.Error.TheVariants.{NoMemory as WithoutMemory}
+use Rattle.shard_report.specs.declared.audit.ServeFault.TheVariants.{System, Loop, Missing, NoMemory, Unheard}
+use Rattle.proxy_commands.specs.declared.error.Error.TheVariants.{NoMemory as WithoutMemory, WriteFailed}
 use Rattle.proxy_commands.specs.declared.serve_error.ServeError.{ServeError}
 use Rattle.proxy_commands.specs.declared.serve_error.ServeError.TheVariants.{Ended, CannotListen, AuditMissing}
 
@@ -18,3 +18,4 @@ serve_error_of System = CannotListen
 serve_error_of Loop = CannotListen
 serve_error_of Missing = AuditMissing
 serve_error_of NoMemory = Ended WithoutMemory
+serve_error_of Unheard = Ended WriteFailed

@@ -2,7 +2,7 @@
 
 use crate::descriptors::{descriptors, limit_in};
 use crate::keys::value_of_key;
-use crate::memory::{is_given, memory, memory_in};
+use crate::memory::{memory, memory_in};
 use crate::run::read_input;
 use crate::serve::{configuration_of, say};
 use crate::serve_error::{ServeError, put_error};
@@ -177,13 +177,10 @@ pub fn check_from<I: Read + Drop, O: Write, E: Write, R: Files + AllocGlobal>(
     check_with(rt.alloc(), reader, output, errors, machine)
 }
 
-/// Whether the machine has the memory for a configuration's pages, as far as it says how much it has, and gives it now.
+/// Whether the machine has the memory for a configuration's pages, as far as it says how much it has.
 pub fn has_room<R: Files + AllocGlobal>(rt: &R, config: &Config) -> bool {
-    let needed = memory(config);
-    if let Some(total) = memory_in(&text_of(rt, MEMORY))
-        && total < needed
-    {
-        return false;
+    match memory_in(&text_of(rt, MEMORY)) {
+        Some(total) => memory(config) <= total,
+        None => true,
     }
-    is_given(rt.alloc(), needed)
 }

@@ -17,6 +17,7 @@ pub fn error_of(fault: ServeFault) -> ServeError
         ServeFault::System | ServeFault::Loop => ServeError::CannotListen,
         ServeFault::Missing => ServeError::AuditMissing,
         ServeFault::NoMemory => ServeError::Ended(Error::NoMemory),
+        ServeFault::Unheard => ServeError::Ended(Error::WriteFailed),
     }
 }
 

@@ -5,7 +5,6 @@ ghost use Rattle.proxy_commands.specs.Memory.{memory_of};
 
 use crate::descriptors::number_after;
 use proxy_config::Config;
-use std::alloc::Global;
 
 /// The bytes of the pages that a transaction may fill in part: four of them.
 const OF_A_ROW: u64 = 16_384;
@@ -23,16 +22,4 @@ pub fn memory(config: &Config) -> u64
 /// The bytes that the machine has, by `/proc/meminfo`; `None` if that gives no number.
 pub fn memory_in(text: &[u8]) -> Option<u64> {
     number_after(text, TOTAL)?.checked_mul(1_024)
-}
-
-/// The words of a page of 4,096 bytes.
-const WORDS: usize = 512;
-
-/// Whether the system gives so many bytes: each page of them is written once, and all are given back.
-pub fn is_given(alloc: Global, bytes: u64) -> bool {
-    let count = (bytes / 4_096) as usize;
-    let Ok(mut pages) = Vec::with_capacity(alloc, count) else {
-        return false;
-    };
-    pages.resize(count, [1u64; WORDS]).is_ok() && pages.iter().all(|page| page[0] == 1)
 }

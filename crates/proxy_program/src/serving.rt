@@ -94,16 +94,17 @@ fn log_fault(alloc: Global) -> ServeError {
     }
 }
 
-/// Serves until the administrator says `stop` or the system fails a loop, and audits.
-fn serve_ports<R: Threads + Wait + Net + Dial + Append + Clock + Sync>(
+/// Says that it listens once it has its memory, serves until the administrator says `stop` or the system fails a loop, and audits.
+fn serve_ports<O: Write, R: Threads + Wait + Net + Dial + Append + Clock + Sync>(
     rt: &R,
     alloc: Global,
     config: &Config,
     users: TcpListener,
     admin: AdminPorts,
     log: Option<File>,
+    output: &mut O,
 ) -> Result<Stopped, ServeError> {
-    match serve(rt, alloc, config, users, admin, log, &OpenGate) {
+    match serve(rt, alloc, config, users, admin, log, &OpenGate, output) {
         Ok(stopped) => Ok(stopped),
         Err(fault) => Err(error_of(fault)),
     }
@@ -122,7 +123,7 @@ fn say_end<O: Write>(alloc: Global, output: &mut O, stopped: Stopped) -> Result<
 }
 
 /// Reads the configuration, looks whether the machine has the memory for its pages, opens the log, listens, at the users' port that was
-/// handed over if one was, says so, serves until the administrator says `stop`, and says what was still out.
+/// handed over if one was, touches the pages, says that it listens, serves until the administrator says `stop`, and says what was still out.
 pub fn serve_from<
     I: Read + Drop,
     O: Write,
@@ -141,7 +142,6 @@ pub fn serve_from<
     let log = open_log(rt, alloc, &config)?;
     let users = listen_for_users(rt, alloc, handed, config.listen)?;
     let admin = listen_for_administrator(rt, alloc, &config)?;
-    say(output, b"listening\n")?;
-    let stopped = serve_ports(rt, alloc, &config, users, admin, log)?;
+    let stopped = serve_ports(rt, alloc, &config, users, admin, log, output)?;
     say_end(alloc, output, stopped)
 }
