@@ -8,7 +8,7 @@ use event_loop::{
 use mio::net::TcpListener;
 use mio::{Registry, Token};
 use slab::Slab;
-use socket_wire::{Dial, MAX_KEY, Peer, Readiness, SocketWire, UserWire, token_of};
+use socket_wire::{Dial, MAX_KEY, Peer, Readiness, SocketWire, Stream, UserWire, token_of};
 use std::alloc::{AllocError, Global};
 use std::net::{Ipv4Addr, SocketAddr, TcpStream as Client};
 use std::sync::{Arc, Mutex, Wait};
@@ -41,7 +41,7 @@ fn take_in(echo: &mut Echo, registry: &Registry, user: Handed) -> Result<usize, 
         tried: _,
     } = user;
     let ready = Arc::new(echo.alloc, Readiness::new())?;
-    let mut wire = SocketWire::new(stream, ready.clone()?);
+    let mut wire = SocketWire::new(Stream::accepted(stream), ready.clone()?);
     echo.all.reserve(1)?;
     let key = echo.all.vacant_key();
     if key > MAX_KEY

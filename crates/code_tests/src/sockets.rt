@@ -1,8 +1,8 @@
 //! The wire of a socket, over loopback: what it reads, takes and counts, step by step.
 
-use mio::net::{TcpListener, TcpStream};
+use mio::net::TcpListener;
 use mio::{Events, Interest, Poll, Token};
-use socket_wire::{OriginWire, Readiness, SocketWire, UserWire};
+use socket_wire::{Dial, Origin, OriginWire, Readiness, SocketWire, Stream, User, UserWire};
 use std::alloc::Global;
 use std::io;
 use std::net::{Ipv4Addr, SocketAddr};
@@ -109,12 +109,15 @@ fn wait(alloc: Global, poll: &mut Poll) -> io::Result<()> {
 }
 
 /// Both ends of a connection over loopback.
-fn connection(rt: &HostRuntime, poll: &mut Poll) -> io::Result<(TcpStream, TcpStream)> {
+fn connection(rt: &HostRuntime, poll: &mut Poll) -> io::Result<(Stream<Origin>, Stream<User>)> {
     let listener = listening(rt, poll)?;
-    let ours = TcpStream::connect(rt, listener.local_addr()?)?;
+    let SocketAddr::V4(address) = listener.local_addr()? else {
+        return Err(io::Error::other("not over IPv4"));
+    };
+    let ours = rt.dial(address)?;
     wait(rt.alloc(), poll)?;
     let (theirs, _) = listener.accept()?;
-    Ok((ours, theirs))
+    Ok((ours, Stream::accepted(theirs)))
 }
 
 /// Five bytes and an end go over, and the first deed that isn't answered as it should be.

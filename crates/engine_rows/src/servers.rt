@@ -271,7 +271,7 @@ pub fn put_served(
 ) -> Result<(), NoMemory> {
     let text = scene.get(b"input");
     let given = scene.number_or(b"given", values, text.len());
-    let reader = Broken {
+    let mut reader = Broken {
         bytes: &text[..given.min(text.len())],
         ends: values.e != Answer::Fault,
     };
@@ -279,6 +279,6 @@ pub fn put_served(
         room: scene.number_or(b"room", values, 1_000_000),
         taken: Vec::new(alloc),
     };
-    let ended = serve(alloc, settings(alloc)?, reader, &mut writer);
+    let ended = serve(alloc, settings(alloc)?, &mut reader, &mut writer);
     put_end(scene, values, &writer.taken, ended, out)
 }

@@ -4,6 +4,7 @@ use super::apart::three_apart;
 use super::player::{Stage, Step, take_all};
 use super::shards::{many_users, one_connection};
 use crate::streams::gets;
+use icapd_commands::{Settings, Shared, serve_sockets};
 use mio::net::TcpListener as Listener;
 use proxy_commands::read_configuration;
 use proxy_config::Config;
@@ -30,8 +31,8 @@ pub enum Scene {
     HeldBack(&'static [Step]),
     /// The service takes one connection: a second user is refused, the first one served, and then a third one.
     OneConnection,
-    /// More users than the budget has room for, all at once.
-    ManyUsers,
+    /// Requests and responses are adapted by `icapd`: of a user alone, and then of more than the budget has room for, all at once.
+    ByIcapd,
     /// The worked exchange, with a user, an origin and a service in a thread each.
     Apart,
 }
@@ -77,19 +78,37 @@ fn make_others(rt: &HostRuntime) -> io::Result<Others> {
     })
 }
 
+/// Starts `icapd` with a thread of its own, which serves as long as the tests run. Answers its port.
+fn start_icapd<R: Threads + Wait + Clock + Copy + Send + 'static>(
+    rt: R,
+    host: &HostRuntime,
+    alloc: Global,
+) -> io::Result<u16> {
+    let Some(settings) = Settings::new(b"adapt-1".to_vec(alloc)?, 64, 3600, 1024) else {
+        return Err(io::Error::from(ErrorKind::InvalidInput));
+    };
+    let shared = Shared::new(alloc, settings, 60)?;
+    let listener = TcpListener::bind(host, local())?;
+    let port = listener.local_addr()?.port();
+    if thread::spawn(&rt, move || serve_sockets(rt, alloc, &listener, &shared)).is_err() {
+        return Err(io::Error::from(ErrorKind::WouldBlock));
+    }
+    Ok(port)
+}
+
 /// A configuration with the origin's name, and the service of each message that is adapted. The addresses that it listens on
 /// aren't used.
 fn configuration(alloc: Global, others: &Others, scene: Scene, more: &str) -> io::Result<Config> {
     let origin = others.origin.local_addr()?.port();
     let service = others.port;
     let requests = match scene {
-        Scene::AllAdapted(_) => format!(in alloc;
+        Scene::AllAdapted(_) | Scene::ByIcapd => format!(in alloc;
             "[reqmod]\nhost = \"127.0.0.1\"\nport = {service}\npath = \"/reqmod/stamp\"\n"
         )?,
         _ => String::new(alloc),
     };
     let responses = match scene {
-        Scene::Forwarded(_) | Scene::ManyUsers => String::new(alloc),
+        Scene::Forwarded(_) => String::new(alloc),
         _ => format!(in alloc;
             "[respmod]\nhost = \"127.0.0.1\"\nport = {service}\npath = \"/respmod/upper\"\n"
         )?,
@@ -152,7 +171,7 @@ fn play<R: Threads + Sync>(
         | Scene::AllAdapted(steps)
         | Scene::HeldBack(steps) => take_all(host, alloc, &mut stage, steps),
         Scene::OneConnection => one_connection(host, alloc, ports, others),
-        Scene::ManyUsers => many_users(rt, host, alloc, ports, others),
+        Scene::ByIcapd => many_users(rt, host, alloc, ports, others),
         Scene::Apart => three_apart(rt, host, alloc, ports, others),
     }
 }
@@ -176,7 +195,8 @@ fn run_proxy<
     let (users, admin) = listeners.take()?;
     let metrics = None;
     let admin = AdminPorts { admin, metrics };
-    serve(rt, alloc, config, users, admin, None, gate).ok()
+    let mut said = Vec::new(alloc);
+    serve(rt, alloc, config, users, admin, None, gate, &mut said).ok()
 }
 
 /// Runs the proxy with these lines of a configuration while a scene is played, and stops it. Whether all went as it should,
@@ -188,10 +208,16 @@ pub fn goes_well<
         + Dial
         + Append
         + Clock
-        + Sync,
+        + Copy
+        + Send
+        + Sync
+        + 'static,
 >(rt: &R, host: &HostRuntime, scene: Scene, more: &str) -> io::Result<bool> {
     let alloc = host.alloc();
-    let others = make_others(host)?;
+    let mut others = make_others(host)?;
+    if matches!(scene, Scene::ByIcapd) {
+        others.port = start_icapd(*rt, host, alloc)?;
+    }
     let config = configuration(alloc, &others, scene, more)?;
     let (made, ports) = listeners(host)?;
     let gate = HoldGate::new();

@@ -380,8 +380,8 @@ pub const SHARDED_ONES: &[Named] = &[
         "allow_limit = 0\n",
     ),
     (
-        "many users share a small budget",
-        Scene::ManyUsers,
-        "shards = 4\ncapacity = 20000\n",
+        "icapd adapts what many users ask, who share a small budget",
+        Scene::ByIcapd,
+        "allow_limit = 0\nshards = 4\ncapacity = 20000\n",
     ),
 ];

@@ -4,7 +4,7 @@ use super::loopback::{Others, Ports};
 use super::player::Peer::{Origin, Service, User};
 use super::player::{Deed, Peer, TRIES, does_all, meet};
 use super::scenes::{ADAPTS, ANSWERS, ASKS, IS_REFUSED, SAYS_ONE_CONNECTION};
-use super::texts::{ADAPTED, FORWARDED, HEAD_END, REQUEST, RESPONSE, UNAVAILABLE};
+use super::texts::{ADAPTED, HEAD_END, REQUEST, RESPONSE, STAMPED_TO_ORIGIN, UNAVAILABLE};
 use crate::streams::{gets, hears, say, until};
 use std::alloc::Global;
 use std::io;
@@ -105,14 +105,17 @@ pub fn one_connection(
     Ok(right && third_user(rt, alloc, ports, others, &line)?)
 }
 
-/// The origin answers all requests until an empty one comes.
+/// The origin answers all requests that `icapd` has stamped, until an empty one comes.
 fn answers_all(alloc: Global, others: &Others) -> io::Result<()> {
     for _ in 0..2 * USERS {
         let (stream, _) = others.origin.accept()?;
-        if until(alloc, &stream, HEAD_END)?.as_slice() == HEAD_END {
+        let request = until(alloc, &stream, HEAD_END)?;
+        if request.as_slice() == HEAD_END {
             break;
         }
-        let _ = say(&stream, RESPONSE);
+        if request.as_slice() == STAMPED_TO_ORIGIN {
+            let _ = say(&stream, RESPONSE);
+        }
     }
     Ok(())
 }
@@ -123,21 +126,26 @@ fn ends(rt: &HostRuntime, others: &Others) -> io::Result<()> {
     say(&stream, HEAD_END)
 }
 
+/// A user asks.
+fn ask(rt: &HostRuntime, ports: Ports) -> io::Result<TcpStream> {
+    let user = TcpStream::connect(rt, ports.users)?;
+    say(&user, REQUEST)?;
+    Ok(user)
+}
+
 /// All users ask at once.
 fn all_ask(rt: &HostRuntime, alloc: Global, ports: Ports) -> io::Result<Vec<TcpStream>> {
     let mut users = Vec::new(alloc);
     for _ in 0..USERS {
-        let user = TcpStream::connect(rt, ports.users)?;
-        say(&user, REQUEST)?;
-        users.push(user)?;
+        users.push(ask(rt, ports)?)?;
     }
     Ok(users)
 }
 
-/// Whether a user gets the whole message or a refusal; `None` if it gets something else.
+/// Whether a user gets the whole adapted message or a refusal; `None` if it gets something else.
 fn gets_all(alloc: Global, user: &TcpStream) -> io::Result<Option<bool>> {
-    let answer = until(alloc, user, b"abcdef")?;
-    if answer.as_slice() == FORWARDED {
+    let answer = until(alloc, user, b"ABCDEF")?;
+    if answer.as_slice() == ADAPTED {
         Ok(Some(true))
     } else if answer.as_slice() == UNAVAILABLE {
         Ok(Some(false))
@@ -146,8 +154,11 @@ fn gets_all(alloc: Global, user: &TcpStream) -> io::Result<Option<bool>> {
     }
 }
 
-/// Whether some users get the whole message, and all others the refusal.
+/// Whether a user alone gets the whole adapted message, and then some of many, and all others the refusal.
 fn are_served(rt: &HostRuntime, alloc: Global, ports: Ports) -> io::Result<bool> {
+    if !gets(&ask(rt, ports)?, ADAPTED)? {
+        return Ok(false);
+    }
     let users = all_ask(rt, alloc, ports)?;
     let mut some = false;
     for user in &users {
@@ -159,7 +170,7 @@ fn are_served(rt: &HostRuntime, alloc: Global, ports: Ports) -> io::Result<bool>
     Ok(some)
 }
 
-/// Some users get the whole message, and all others the refusal.
+/// A user alone gets the whole adapted message, and then some of many, and all others the refusal.
 pub fn many_users<R: Threads + Sync>(
     rt: &R,
     host: &HostRuntime,

@@ -5,6 +5,10 @@ pub const REQUEST: &[u8] = b"GET http://o.test/a.txt HTTP/1.1\r\nHost: o.test\r\
 pub const TO_ORIGIN: &[u8] =
     b"GET /a.txt HTTP/1.1\r\nHost: o.test\r\nConnection: close\r\nVia: 1.1 adaptproxy\r\n\r\n";
 
+/// What the origin gets of it if `icapd` has stamped it.
+pub const STAMPED_TO_ORIGIN: &[u8] = b"GET /a.txt HTTP/1.1\r\nHost: o.test\r\nX-Adapted: stamp\r\n\
+Connection: close\r\nVia: 1.1 adaptproxy\r\n\r\n";
+
 pub const RESPONSE_HEAD: &[u8] = b"HTTP/1.1 200 OK\r\nContent-Length: 6\r\n\r\n";
 
 pub const RESPONSE: &[u8] = b"HTTP/1.1 200 OK\r\nContent-Length: 6\r\n\r\nabcdef";

@@ -1,9 +1,9 @@
 //! The surroundings of an exchange, in memory.
 
-ghost use Rattle.std.specs.Prelude.{◌≡◌, IfOk};
+ghost use Rattle.std.specs.Prelude.{◌≡◌, IfOk, ⊤};
 
 use crate::exchanges::services::{NOW, book_of};
-use crate::exchanges::words::{either, key_of};
+use crate::exchanges::words::{ORIGINS, SERVICES, either, end_name, key_of};
 use crate::stage::{Peer, Stage, TalkWire, first_word};
 use adapt_sides::ClientFault;
 use options_book::Record;
@@ -12,7 +12,8 @@ use proxy_config::Config;
 use proxy_rules::{Incoming, limits_of};
 use service_lines::{LendFault, PointBook};
 use shard_effects::{Lingered, Reason};
-use shard_outside::{Kinds, MessageEnd, Outside};
+use shard_outside::{Kinds, MessageEnd, Outside, Reusable};
+use shard_report::{request_line, what_was_found};
 use span_bank::{Bank, Ledgers};
 use std::alloc::{AllocError, Global};
 use std::net::SocketAddrV4;
@@ -60,27 +61,11 @@ pub struct Memory<'a, B: Ledgers> {
     dials: &'a [u8],
 }
 
-/// The keys of what services do, by the number of their connection.
-const SERVICES: [&[u8]; 4] = [b"service", b"service 2", b"service 3", b"service 4"];
-
-/// The keys of what origins do.
-const ORIGINS: [&[u8]; 4] = [b"origin", b"origin 2", b"origin 3", b"origin 4"];
-
 /// The right to a connection of a point's service.
 fn lease_of(point: Point, reused: bool) -> Lease
     ensures { result.point ≡ point }
 {
     Lease { point, reused }
-}
-
-/// What the end of a message is called.
-fn end_name(end: &MessageEnd<'_>) -> &'static [u8] {
-    match (end.seen.plan.point, end.has_answered) {
-        (Point::Reqmod, false) => b"the request ends:",
-        (Point::Reqmod, true) => b"the request ends, answered:",
-        (Point::Respmod, false) => b"the response ends:",
-        (Point::Respmod, true) => b"the response ends, answered:",
-    }
 }
 
 impl<'a, B: Ledgers> Memory<'a, B> {
@@ -290,7 +275,10 @@ impl<'a, B: Ledgers> Outside<Moment> for Memory<'a, B> {
         lease.reused
     }
 
-    fn put(&mut self, _at: &Moment, connection: TalkWire<'a>, lease: Lease) {
+    fn put(&mut self, _at: &Moment, connection: Reusable<TalkWire<'a>>, lease: Lease)
+        ensures { ⊤ }
+    {
+        let connection = connection.into_wire();
         let Lease { point, reused: _ } = lease;
         connection.note(b"puts back");
         let _ = match point {
@@ -374,11 +362,18 @@ impl<'a, B: Ledgers> Outside<Moment> for Memory<'a, B> {
         &mut self,
         _at: &Moment,
         _user: &TalkWire<'a>,
+        message: Option<&Incoming>,
         reason: Reason,
         is_asking: bool,
     ) {
         let what = either(is_asking, b"refuses, asking:", b"refuses:");
         self.stage.note_shown(what, &reason);
+        if let Some(message) = message {
+            let (method, target) = request_line(message.raw());
+            if !method.is_empty() {
+                self.stage.note_all(&[b"of ", method, b" ", target, b"\n"]);
+            }
+        }
     }
 
     fn note_end(&mut self, _at: &Moment, _user: &TalkWire<'a>, end: MessageEnd<'_>) {
@@ -386,6 +381,15 @@ impl<'a, B: Ledgers> Outside<Moment> for Memory<'a, B> {
         match end.outcome {
             Some(outcome) => self.stage.note_shown(name, &outcome),
             None => self.stage.note(b"the user was gone"),
+        }
+        if end.seen.plan.point == Point::Reqmod && end.next_is_fresh {
+            self.stage.note(b"nothing went to the origin");
+        }
+        if let Some(found) = end.found {
+            let name = what_was_found(found.infection, found.virus);
+            if !name.is_empty() {
+                self.stage.note_all(&[b"found ", name, b"\n"]);
+            }
         }
     }
 

@@ -1,6 +1,6 @@
 //! A row's exchange, step by step, and what happens to it from outside.
 
-ghost use Rattle.shard_effects.specs.Hand.{IsEmpty};
+ghost use Rattle.shard_effects.specs.Hand.{IsFresh};
 
 use crate::exchanges::memory::Moment;
 use crate::stage::{Peer, Stage, first_word, name_of};
@@ -71,7 +71,7 @@ fn play_held<H: Effects<Moment>, R: Wait>(
     holdings: H,
     memory: H::Outside,
 ) -> Played<H>
-    requires { IsEmpty (H.hand holdings) }
+    requires { IsFresh (H.hand holdings) }
 {
     let exchange = Exchange::begin(holdings);
     let mut play = Play::new(stage, scene, values, LiveExchange { exchange, memory });

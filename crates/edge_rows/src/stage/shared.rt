@@ -204,6 +204,15 @@ impl Stage {
         }
     }
 
+    /// Something happened, which these texts tell together.
+    pub fn note_all(&self, texts: &[&[u8]]) {
+        if self.notes()
+            && let Ok(mut happenings) = self.happenings.try_borrow_mut()
+        {
+            self.keep(put_all(&mut happenings, texts));
+        }
+    }
+
     /// Something happened with a connection.
     pub(crate) fn note_peer(&self, what: &[u8], peer: Peer) {
         if self.notes()
