@@ -1,5 +1,6 @@
 """What the cases of tools/try_serve share: their list, the programs, requests, and what a refusal is."""
 import collections
+import contextlib
 import os
 import shutil
 import subprocess
@@ -157,6 +158,39 @@ def comes(what, true, patience=PATIENCE / 4):
         if time.time() > end:
             raise AssertionError("%s doesn't come" % what)
         time.sleep(0.01)
+
+
+@contextlib.contextmanager
+def ahead():
+    """What is begun within, threads and programs, goes before all else that the machine does, where that is allowed."""
+    try:
+        os.sched_setscheduler(0, os.SCHED_FIFO, os.sched_param(5))
+    except PermissionError:
+        pass
+    try:
+        yield
+    finally:
+        os.sched_setscheduler(0, os.SCHED_OTHER, os.sched_param(0))
+
+
+class Oversleeping:
+    """How much later than it asks for a thread of this machine runs on, at most: what a busy machine adds to each wait."""
+
+    def __init__(self):
+        self.most, self.ends = 0, False
+        self.thread = threading.Thread(target=self.run, daemon=True)
+        self.thread.start()
+
+    def run(self):
+        while not self.ends:
+            before = time.time()
+            time.sleep(0.02)
+            self.most = max(self.most, time.time() - before - 0.02)
+
+    def end(self):
+        self.ends = True
+        self.thread.join()
+        return self.most
 
 
 def statuses_of(proxy, users, paths):

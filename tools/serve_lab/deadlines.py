@@ -5,7 +5,7 @@ import threading
 import time
 
 from serve_lab.cases import IDLE, at_once, case, get, refusal, same
-from serve_lab.loopback import Reader, Server, User, body_of
+from serve_lab.loopback import Icap, Reader, Server, User, ask, body_of
 
 BLOCKED = b"ICAP/1.0 200 OK\r\nMethods: REQMOD, RESPMOD\r\nISTag: \"t-1\"\r\nConnection: close\r\nEncapsulated: null-body=0\r\n\r\n"
 
@@ -117,8 +117,8 @@ class Full:
 
 @case
 def a_connection_that_nobody_takes_fails_early(bench):
-    """An origin's, a service's that is asked for its options, and a service's for a message: 504 after `connect_deadline`. Who has taken
-    a connection has the whole `deadline`."""
+    """An origin's, a service's that is asked for its options, a service's for a message, and one for a retry: 504 after
+    `connect_deadline`. Who has taken a connection has the whole `deadline`."""
     origin = bench.origin()
 
     def late(conn, _number):
@@ -145,6 +145,14 @@ def a_connection_that_nobody_takes_fails_early(bench):
         return scanner.no_modification(conn, reader, head, count)
     scanner = bench.icap(decides_late)
 
+    def breaks(conn, _head):
+        """Says its options, takes a message, and ends where the next one comes."""
+        reader = Reader(conn)
+        conn.sendall(BLOCKED.replace(b"Connection: close\r\n", b""))
+        Icap.rest(reader, reader.head())
+        conn.sendall(Icap.NO_MODIFICATION)
+        reader.head()
+
     def asks(number):
         if number == 0:
             refused("an origin", proxy, get("/").replace(b"o.test", b"full.test"))
@@ -164,12 +172,17 @@ def a_connection_that_nobody_takes_fails_early(bench):
             one = bench.proxy(origin, times + 'dial = "late"\n', [("reqmod", scanner.port, "/reqmod/x")], hosts)
             proxies.append(one)
             refused("an origin that is dialled late", one, get("/").replace(b"o.test", b"full.test"), 2.5)
+        elif number == 8:
+            one = bench.proxy(origin, times + "shards = 1\n", [("respmod", bench.keep(Full(breaks)).port, "/x")])
+            proxies.append(one)
+            same("the first message", ask(one.port, get("/bytes/3")).body, body_of(3))
+            refused("a retry", one, get("/bytes/3"))
         else:
             point = ("reqmod", "respmod")[number % 2]
             service = bench.keep(Full((lambda conn, _head: conn.sendall(BLOCKED)) if number > 4 else None))
             one = bench.proxy(origin, times, [(point, service.port, "/x")])
             proxies.append(one)
             refused("a service at %s, %d" % (point, number), one, get("/bytes/3"))
-    at_once(8, asks)
+    at_once(9, asks)
     for one in proxies:
         same("audit", one.stop(), IDLE)

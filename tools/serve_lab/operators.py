@@ -293,7 +293,7 @@ class Log:
         with open(self.path, "rb") as text:
             return text.read()
 
-    def next(self, count=1, patience=5.0):
+    def next(self, count=1, patience=PATIENCE):
         """The next lines, each as the groups of LINE; just so many."""
         end = time.time() + patience
         while True:
@@ -351,7 +351,9 @@ def a_refused_head_has_a_line_of_its_own(bench):
     """A further request on a connection: its line repeats nothing of the request before it."""
     log = bench.keep(Log())
     proxy = bench.proxy(bench.origin(), log.key)
-    for text, status, why in ((b"what\r\n\r\n", 400, "bad-request"), (b"CONNECT o.test:443 HTTP/1.1\r\nHost: o.test\r\n\r\n", 501, "not-served")):
+    for text, status, why, method, target in (
+            (b"what\r\n\r\n", 400, "bad-request", "what", "-"), (b"\0\r\n\r\n", 400, "bad-request", "-", "-"),
+            (b"CONNECT o.test:443 HTTP/1.1\r\nHost: o.test\r\n\r\n", 501, "not-served", "CONNECT", "o.test:443")):
         user = User(proxy.port)
         user.ask(get("/bytes/3000?secret=1"))
         same("the request before", told(log.next()[0])[1], 200)
@@ -359,8 +361,8 @@ def a_refused_head_has_a_line_of_its_own(bench):
         user.reader.to_end()
         user.close()
         row = log.next()[0]
-        same("refused", told(row), ("DENIED", status, "-", "-", "NONE", "-", "-", why))
-        same("elapsed", int(row[1]), 0)
+        same("refused", told(row), ("DENIED", status, method, target, "NONE", "-", "-", why))
+        same("elapsed", int(row[1]) < 1000, True)
     same("audit", proxy.stop(), IDLE)
 
 
@@ -509,13 +511,14 @@ def a_line_says_that_a_user_has_gone(bench):
 
 @case
 def a_line_says_who_let_a_deadline_pass(bench):
-    """A user that takes nothing of a long answer, and an origin that takes nothing of a long request."""
+    """A user that takes nothing of a long answer, and an origin that takes nothing of a long request. Nobody else may be late for as
+    long, on a busy machine."""
     origin = bench.origin()
     log = bench.keep(Log())
     previews = bench.icap(options=(b"Preview: 4", b"Transfer-Preview: *"))
     for what, services in (("not offered", []), ("204", [("respmod", previews.port, "/respmod")]),
                            ("200", [("respmod", bench.icap().port, "/respmod")])):
-        proxy = bench.proxy(origin, log.key + "deadline = 1\n", services)
+        proxy = bench.proxy(origin, log.key + "deadline = 3\n", services)
         user = User(proxy.port, narrow=True)
         user.send(get("/bytes/20000000"))
         row = told(log.next()[0])
@@ -530,7 +533,7 @@ def a_line_says_who_let_a_deadline_pass(bench):
         for _ in range(8):
             conn.sendall(b"%x\r\n%s\r\n" % (len(page), page))
         conn.sendall(b"0\r\n\r\n")
-    proxy = bench.proxy(origin, log.key + "deadline = 1\n", [("reqmod", bench.icap(blocks).port, "/reqmod")])
+    proxy = bench.proxy(origin, log.key + "deadline = 3\n", [("reqmod", bench.icap(blocks).port, "/reqmod")])
     user = User(proxy.port, narrow=True)
     user.send(get("/bytes/3"))
     row = told(log.next()[0])
@@ -540,8 +543,8 @@ def a_line_says_who_let_a_deadline_pass(bench):
 
     def deaf(conn, _number):
         Reader(conn).head()
-        time.sleep(5)
-    proxy = bench.proxy(bench.keep(Server(deaf)), log.key + "deadline = 1\n")
+        time.sleep(PATIENCE)
+    proxy = bench.proxy(bench.keep(Server(deaf)), log.key + "deadline = 3\n")
     user = User(proxy.port)
     try:
         user.send(post("/upload", body_of(20000000)))

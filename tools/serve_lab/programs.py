@@ -1,12 +1,15 @@
 """The proxy's own addresses, the commands beside `serve`, and how icapd gives its connections away."""
 import os
+import re
+import shutil
 import socket
 import subprocess
+import tempfile
 import threading
 import time
 
 from serve_lab.cases import ADAPTPROXY, ICAPD, IDLE, case, get, is_refused, same
-from serve_lab.loopback import Program, Reader, User, ask, free_port
+from serve_lab.loopback import TOP, Program, Reader, User, ask, free_port
 
 
 @case
@@ -128,7 +131,8 @@ def more_memory_than_the_machine_has_ends_it_before_it_listens(bench):
 
 @case
 def twenty_thousand_hosts_are_read_at_once(bench):
-    """The processor time of 20,000 hosts is no more than eight times that of 5,000: a quadratic reading takes sixteen."""
+    """The processor time of 20,000 hosts is no more than eight times that of 5,000: a quadratic reading takes sixteen. Of a program
+    without checks at run time it is less than a second."""
     def seconds(count):
         text = LEAST + "[hosts]\n" + "".join('"h%d.test" = "127.0.0.1:80"\n' % (n * 7919 % count) for n in range(count))
         before = os.times()
@@ -137,7 +141,37 @@ def twenty_thousand_hosts_are_read_at_once(bench):
         after = os.times()
         return after.children_user + after.children_system - before.children_user - before.children_system
     few, many = seconds(5000), seconds(20000)
+    print("      %.2f s of processor time" % many)
     same("in proportion", many < 8 * few + 0.2, True)
+    same("within a second", many < 1 or ADAPTPROXY.endswith(".checked"), True)
+
+
+def both_configurations():
+    """The two columns of the configuration in docs/FROM-SQUID.md: Squid's, and ours."""
+    with open(os.path.join(TOP, "docs", "FROM-SQUID.md")) as page:
+        lines = re.search(r"^```text\n(# squid.conf .*?)^```", page.read(), re.M | re.S).group(1).splitlines()
+    at = lines[0].index("# proxy.toml")
+    ours = ["" if line[at - 1:at].strip() else line[at:] for line in lines]
+    return ["\n".join(texts) + "\n" for texts in ([line.removesuffix(own) for line, own in zip(lines, ours)], ours)]
+
+
+@case
+def the_page_for_squid_has_a_configuration_for_both(bench):
+    """`check` takes ours, and Squid its own where it is installed. The page has what administrators of Squid look for."""
+    squids, ours = both_configurations()
+    same("ours", run(ADAPTPROXY, "check", ours), (b"ok\n", b"", 0))
+    for word in ("wait = ", "dial = ", "deadline = ", "connect_deadline = ", "head_deadline = ", "options_ttl = ", "log_query = "):
+        same(word, "\n" + word in ours, True)
+    with open(os.path.join(TOP, "docs", "FROM-SQUID.md")) as page:
+        text = page.read()
+    for word in ("proxy_protocol_access", "client_ip_max_connections", "strip_query_terms", "error_directory", "umask"):
+        same(word, "`" + word in text, True)
+    if shutil.which("squid"):
+        with tempfile.NamedTemporaryFile("w", suffix=".conf") as file:
+            file.write(squids)
+            file.flush()
+            ended = subprocess.run(["squid", "-k", "parse", "-f", file.name], stdout=subprocess.PIPE, stderr=subprocess.STDOUT)
+        same("Squid's", (ended.returncode, b"ERROR" in ended.stdout), (0, False))
 
 
 @case
@@ -164,12 +198,12 @@ def tell_says_a_line_to_the_admin_port(bench):
 
 @case
 def programs_say_what_they_are(bench):
+    kit = subprocess.run(["rt", "version"], stdout=subprocess.PIPE, check=True).stdout.strip()
     for program, name in ((ADAPTPROXY, b"adaptproxy"), (ICAPD, b"icapd")):
         out, errors, status = run(program, "--help")
         same("help", (all(line.startswith(name + b" ") for line in out.splitlines()), errors, status), (True, b"", 0))
         out, errors, status = run(program, "--version")
-        same("version", (out.startswith(name + b" 0."), b"(rattle-kit-13b logic dac8208d650f15bf)\n" in out, errors, status),
-             (True, True, b"", 0))
+        same("version", (out.startswith(name + b" 0."), out.endswith(b"(" + kit + b")\n"), errors, status), (True, True, b"", 0))
         for word in ("help", "-h", "--Help", "Check", ""):
             same(word, run(program, word), (b"", name + b": usage\n", 2))
 

@@ -10,6 +10,7 @@ import zipfile
 
 from serve_lab.cases import IDLE, case, comes, get, needs, needs_tools, post, post_chunked, same
 from serve_lab.loopback import Reader, Server, User, body_of, fields_of, free_port, read_body
+from serve_lab.operators import Log
 
 # The test file that every scanner takes for a virus, in two halves: so this file isn't one.
 EICAR = rb"X5O!P%@AP[4\PZX54(P^)7CC)7}$EICAR" + rb"-STANDARD-ANTIVIRUS-TEST-FILE!$H+H*"
@@ -117,13 +118,16 @@ def c_icap_with_clamav_blocks_a_virus_with_its_page(bench):
     origin = bench.keep(Server(serve))
     for preview, more in (("on", ""), ("off", "virus_scan.TransferComplete *\nvirus_scan.TransferPreview none")):
         port = scanner.c_icap(more)
-        proxy = bench.proxy(origin, "", [("reqmod", port, "/virus_scan"), ("respmod", port, "/virus_scan")])
+        log = bench.keep(Log())
+        proxy = bench.proxy(origin, log.key, [("reqmod", port, "/virus_scan"), ("respmod", port, "/virus_scan")])
         user = User(proxy.port)
         for path, body in files.items():
             asked = [("down", get(path)), ("up", post(path, body)), ("up in chunks", post_chunked(path, body, 5000))]
             for way, request in asked:
                 what = "%s %s, preview %s" % (path, way, preview)
                 answer = user.ask(request)
+                found = log.next()[0][13]
+                same(what, "Eicar-Test-Signature" in found, path.endswith("virus"))
                 if path.endswith("virus"):
                     same(what, (answer.status, b"VIRUS FOUND" in answer.body, b"Eicar-Test-Signature" in answer.body), (403, True, True))
                 else:

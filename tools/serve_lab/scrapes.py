@@ -11,7 +11,7 @@ import urllib.parse
 import urllib.request
 
 from serve_lab.cases import IDLE, case, comes, get, needs_tools, post, same
-from serve_lab.loopback import TOP, Icap, Reader, Server, User, ask, body_of, free_port
+from serve_lab.loopback import TOP, Closed, Icap, Reader, Server, User, ask, body_of, free_port
 from serve_lab.operators import stats, stats_text
 
 
@@ -152,11 +152,13 @@ def prometheus_fires_the_documented_alerts(bench):
     ends = threading.Event()
 
     def asks(proxy):
+        """One that is refused comes again after a while: a crowd that doesn't would have most of the exchanges, and quick ones."""
         while not ends.is_set():
             try:
-                ask(proxy.port, get("/bytes/3"))
-            except OSError:
+                refused = ask(proxy.port, get("/bytes/3")).status == 503
+            except (Closed, OSError):
                 return
+            time.sleep(0.2 if refused else 0)
     users = [threading.Thread(target=asks, args=(proxy,), daemon=True) for proxy in proxies for _ in range(3)]
     with tempfile.TemporaryDirectory() as folder:
         path = os.path.join(folder, "rules.yml")

@@ -9,8 +9,8 @@ import sys
 import threading
 import time
 
-from serve_lab.cases import (ADAPTPROXY, IDLE, at_once, case, comes, get, is_refused, needs, needs_tools, post, refusal, same, settled,
-                             statuses_of)
+from serve_lab.cases import (ADAPTPROXY, IDLE, Oversleeping, ahead, at_once, case, comes, get, is_refused, needs, needs_tools, post,
+                             refusal, same, settled, statuses_of)
 from serve_lab.loopback import PATIENCE, TOP, Closed, Icap, Program, Reader, Server, User, ask, body_of, free_port
 
 
@@ -235,6 +235,34 @@ def descriptors_are_taken_from_users_that_have_ended_first(bench):
 
 
 @case
+def descriptors_are_taken_from_users_that_have_ended_in_another_thread(bench):
+    """One thread has idle users alone, and the other those that have ended: none of the first goes while one of these is there."""
+    origin = bench.origin()
+    proxy = bench.proxy(origin, "shards = 2\nrows = 512\ndeadline = 600", descriptors=100)
+    idle, ended, further = [], [], []
+    for number in range(20):
+        user = User(proxy.port)
+        if number % 2:
+            same("kept", user.ask(get("/bytes/3")).body, b"the")
+            idle.append(user)
+        else:
+            heads = len(origin.heads)
+            user.send(get("/mute"))
+            comes("an exchange", lambda: len(origin.heads) > heads)
+            user.sock.shutdown(socket.SHUT_WR)
+            ended.append(user)
+    for _ in range(10):
+        further.append(User(proxy.port))
+        same("a further one", further[-1].ask(get("/bytes/5")).body, body_of(5))
+    same("some have gone", sum(is_open(user) for user in ended) < 10, True)
+    same("idle ones stay", sum(is_open(user) for user in idle), 10)
+    origin.release.set()
+    for user in idle + ended + further:
+        user.close()
+    same("audit", proxy.stop(), IDLE)
+
+
+@case
 def connections_to_a_service_are_taken_from_users_that_have_ended(bench):
     """Sixteen users have the connections to a service that hears them and says nothing, and close theirs."""
     def reply(conn, reader, head, count):
@@ -294,6 +322,27 @@ def a_user_goes_to_a_thread_that_has_a_seat(bench):
     origin.release.set()
     for user in busy:
         user.reader.to_end()
+    same("audit", proxy.stop(), IDLE)
+
+
+@case
+def no_head_is_cut_where_another_thread_has_a_seat(bench):
+    """Both threads get every second user: those of one send the beginning of a head, and those of the other go."""
+    proxy = bench.proxy(bench.origin(), "shards = 2\nrows = 4\ndeadline = 600")
+    slow = []
+    for number in range(8):
+        user = User(proxy.port)
+        if number % 2:
+            user.close()
+        else:
+            user.send(get("/bytes/3")[:10])
+            slow.append(user)
+        time.sleep(0.05)
+    time.sleep(0.4)
+    same("served", [ask(proxy.port, get("/bytes/5")).status for _ in range(4)], [200] * 4)
+    same("heads stay", [is_open(user) for user in slow], [True] * 4)
+    for user in slow:
+        user.close()
     same("audit", proxy.stop(), IDLE)
 
 
@@ -471,6 +520,10 @@ def interim_responses_without_end_are_refused(bench):
         while path == b"/drip":
             conn.sendall(b"HTTP/1.1 100 Continue\r\n\r\n")
             time.sleep(0.3)
+        while path == b"/halves":
+            for half in (b"HTTP/1.1 100 Con", b"tinue\r\n\r\n"):
+                conn.sendall(half)
+                time.sleep(0.3)
         if path.startswith(b"/few/"):
             conn.sendall(b"HTTP/1.1 103 Hints\r\nLink: x\r\n\r\n" * int(path[5:]))
         conn.sendall(b"HTTP/1.1 200 OK\r\nContent-Length: 5\r\n\r\nhello")
@@ -484,10 +537,11 @@ def interim_responses_without_end_are_refused(bench):
         same("others wait %.3f s" % wait, wait < 0.1 * PATIENCE / 20, True)
     same("as many as are read", ask(proxy.port, get("/few/32")).body, b"hello")
     same("one more", ask(proxy.port, get("/few/33")).status, 502)
-    start = time.time()
-    same("the deadline", ask(proxy.port, get("/drip")).status, 504)
-    took = time.time() - start
-    same("after %.1f s" % took, 3 <= took < 3 + PATIENCE / 5, True)
+    for path in ("/drip", "/halves"):
+        start = time.time()
+        same("the deadline", ask(proxy.port, get(path)).status, 504)
+        took = time.time() - start
+        same("%s: after %.1f s" % (path, took), 3 <= took < 3 + PATIENCE / 5, True)
     same("audit", proxy.stop(), IDLE)
 
 
@@ -515,30 +569,35 @@ class Downloads:
 
 @case
 def framing_counts_as_work(bench):
-    """Others wait no more than twice as long beside four downloads in chunks of one byte, or with padded sizes, as beside ordinary
-    ones."""
-    kinds = {b"/ordinary": b"1000\r\n" + b"a" * 4096 + b"\r\n", b"/single": b"1\r\na\r\n", b"/padded": b"0" * 249 + b"1\r\na\r\n"}
+    """Others wait no more than twice as long beside downloads in small chunks, or with long size lines, as beside as many ordinary ones:
+    the medians of rounds that alternate. They are sixteen, since beside four a busy machine's own waits are as long, and all go
+    before what else it does."""
+    kinds = {"/ordinary": b"1000\r\n" + b"a" * 4096 + b"\r\n", "/single": b"1\r\na\r\n", "/sixteen": b"10\r\n" + b"a" * 16 + b"\r\n",
+             "/padded": b"0" * 249 + b"1\r\na\r\n", "/extended": b"1;x=\"" + b";" * 244 + b"\"\r\na\r\n"}
 
     def exchange(conn, _number):
-        path = Reader(conn).head().split(b" ")[1]
+        path = Reader(conn).head().decode().split(" ")[1]
         if path in kinds:
             conn.sendall(b"HTTP/1.1 200 OK\r\nTransfer-Encoding: chunked\r\n\r\n")
             piece = kinds[path] * (65536 // len(kinds[path]))
             while True:
                 conn.sendall(piece)
         conn.sendall(b"HTTP/1.1 200 OK\r\nContent-Length: 5\r\n\r\nhello")
-    proxy = bench.proxy(bench.keep(Server(exchange)), "shards = 1")
-    waits = {}
-    for path in kinds:
-        downloads = Downloads(proxy, path.decode(), 4)
-        time.sleep(0.5)
-        waits[path] = wait_of_others(proxy)
-        downloads.end()
-        settled(proxy)
-        print("      others wait %.0f ms beside %s" % (1000 * waits[path], path.decode()))
-    for path in kinds:
-        same("%r: %.3f s, beside ordinary ones %.3f" % (path, waits[path], waits[b"/ordinary"]),
-             waits[path] <= 2 * PATIENCE / 20 * waits[b"/ordinary"], True)
+    waits = {path: [] for path in kinds}
+    with ahead():
+        proxy = bench.proxy(bench.keep(Server(exchange)), "shards = 1")
+        for _ in range(3):
+            for path in kinds:
+                downloads = Downloads(proxy, path, 16)
+                time.sleep(0.2)
+                waits[path].append(wait_of_others(proxy, 0.5))
+                downloads.end()
+                settled(proxy)
+    medians = {path: sorted(each)[1] for path, each in waits.items()}
+    print("      others wait " + ", ".join("%.1f ms beside %s" % (1000 * wait, path) for path, wait in medians.items()))
+    for path, wait in medians.items():
+        same("%s: %.4f s, beside ordinary ones %.4f" % (path, wait, medians["/ordinary"]),
+             wait <= 2 * PATIENCE / 20 * medians["/ordinary"], True)
     same("audit", proxy.stop(), IDLE)
 
 
@@ -671,20 +730,6 @@ def a_head_that_goes_on_is_not_cut(bench):
     same("audit", proxy.stop(), IDLE)
 
 
-class Oversleeping:
-    """How much later than it asks for a thread of this machine runs on, at most."""
-
-    def __init__(self):
-        self.most, self.ends = 0, False
-        threading.Thread(target=self.run, daemon=True).start()
-
-    def run(self):
-        while not self.ends:
-            before = time.time()
-            time.sleep(0.02)
-            self.most = max(self.most, time.time() - before - 0.02)
-
-
 @case
 def deadlines_come_never_early(bench):
     def exchange(conn, _number):
@@ -708,9 +753,9 @@ def deadlines_come_never_early(bench):
         same("a head", user.reader.to_end(), b"")
         late.append(time.time() - before)
     at_once(15, one)
-    others.ends = True
-    print("      deadlines of 1 s came after %.2f to %.2f s; a sleep came up to %.2f s late" % (min(late), max(late), others.most))
-    same("never early, and a second late at most", (min(late) >= 1, max(late) < 2.2 + 3 * others.most), (True, True))
+    most = others.end()
+    print("      deadlines of 1 s came after %.2f to %.2f s; a sleep came up to %.2f s late" % (min(late), max(late), most))
+    same("never early, and a second late at most", (min(late) >= 1, max(late) < 2.2 + 3 * most), (True, True))
     same("audit", proxy.stop(), IDLE)
 
 
@@ -769,16 +814,19 @@ def a_page_cant_speak_to_the_administrator(bench):
 
 @case
 def want_of_ports_is_want_of_room(bench):
-    if os.environ.get("SCENE") != "ports":
+    """With a late dial it is found only at the first byte for the origin, which can't be reached then."""
+    dial = os.environ.get("SCENE", "")
+    if dial not in ("first", "late"):
         needs("root", os.geteuid() == 0)
         needs_tools("unshare", "ip")
-        scene = ("ip link set lo up && sysctl -qw net.ipv4.ip_local_port_range='40000 40029' && SCENE=ports exec %s %s %s"
-                 % (sys.executable, os.path.join(TOP, "tools", "try_serve"), "want_of_ports_is_want_of_room"))
-        run = subprocess.run(["unshare", "-n", "sh", "-c", scene], stdout=subprocess.PIPE, check=False)
-        same("the scene", (run.returncode, run.stdout.decode()[-300:] if run.returncode else ""), (0, ""))
+        for dial in ("first", "late"):
+            scene = ("ip link set lo up && sysctl -qw net.ipv4.ip_local_port_range='40000 40029' && SCENE=%s exec %s %s %s"
+                     % (dial, sys.executable, os.path.join(TOP, "tools", "try_serve"), "want_of_ports_is_want_of_room"))
+            run = subprocess.run(["unshare", "-n", "sh", "-c", scene], stdout=subprocess.PIPE, check=False)
+            same("the scene", (run.returncode, run.stdout.decode()[-300:] if run.returncode else ""), (0, ""))
         return
     origin = bench.origin()
-    proxy = bench.proxy(origin)
+    proxy = bench.proxy(origin, 'dial = "%s"\n' % dial)
     users = []
     for number in range(60):
         user = User(proxy.port, source="127.0.1.%d" % (number + 1))
@@ -792,7 +840,7 @@ def want_of_ports_is_want_of_room(bench):
             found.append(user.sock.recv(12))
         except socket.timeout:
             pass
-    same("refused", (len(found) > 10, set(found)), (True, {b"HTTP/1.1 503"}))
+    same("refused", (len(found) > 10, set(found)), (True, {b"HTTP/1.1 503" if dial == "first" else b"HTTP/1.1 502"}))
     origin.release.set()
     for user in users:
         user.close()

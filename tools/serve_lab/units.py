@@ -110,7 +110,7 @@ class System:
         return self.does("systemctl", "show", "-p", "MainPID", "--value", unit).strip()
 
     def journal(self, unit="adaptproxy"):
-        return self.does("journalctl", "-u", unit, "--no-pager", "-o", "cat")
+        return self.does("journalctl", "-b", "-u", unit, "--no-pager", "-o", "cat")
 
     def has(self, *paths):
         return all(os.path.exists(self.path(path)) for path in paths)
@@ -231,19 +231,48 @@ def a_faulty_configuration_changes_nothing(system):
     status, _text = system.run("systemctl", "reload", "adaptproxy")
     same("a reload that fails", (status, "adaptproxy: config shards" in system.journal()), (1, True))
     same("the proxy as it was", (system.main(), asks()), (process, True))
-    system.edit(CONFIGURATION, "shards = 0", "shards = 3")
+    # A restart goes on with the configuration that ran, and says so; a start from nothing has none.
+    before = audits(system)
+    system.does("systemctl", "restart", "adaptproxy")
+    same("a restart that finds a fault", (system.main() != process, asks(), audits(system)), (True, True, before + 1))
+    same("what it says", "the configuration before this one goes on" in system.journal(), True)
+    system.does("systemctl", "stop", "adaptproxy")
+    same("a start that finds one", system.run("systemctl", "start", "adaptproxy")[0], 1)
+    system.run("systemctl", "stop", "adaptproxy")
+    system.edit(CONFIGURATION, "shards = 0", "shards = 2")
+    system.does("systemctl", "start", "adaptproxy")
+    system.edit(CONFIGURATION, "shards = 2", "shards = 0")
+    until("a page", asks)
+    # Several times: a stop that comes too early, while the unit still reloads, drains nobody.
+    before, old = audits(system), 0
+    for count, shards in enumerate((3, 4, 5, 3)):
+        system.edit(CONFIGURATION, "shards = %d" % old, "shards = %d" % shards)
+        reloads(system)
+        same("its audit, and a page", (audits(system), asks()), (before + count + 1, True))
+        old = shards
+    return "a reload refuses a faulty configuration, a restart goes on with the one before, and a reload takes a sound one"
+
+
+def reloads(system):
+    """Has another process take the configuration, and waits until it has begun: systemd forgets a reload that comes in the midst of a
+    start."""
+    process = system.main()
     system.does("systemctl", "reload", "adaptproxy")
-    until("another process", lambda: system.main() not in (process, "0") and asks())
-    same("its audit", "audit rows 0 held 0 leased 0" in system.journal(), True)
-    return "a reload refuses a faulty configuration, and takes a sound one"
+    until("another process", lambda: system.main() not in (process, "0"))
+    until("the end of its start", lambda: system.run("systemctl", "is-active", "adaptproxy")[1] == "active\n")
+
+
+def audits(system):
+    """How many proxies have ended with an audit."""
+    return system.journal().count("audit rows 0 held 0 leased 0")
 
 
 def a_stop_finds_its_port(system):
     """Also where the file has a fault, or names another port, by then."""
-    before = system.journal().count("audit rows 0")
+    before = audits(system)
     system.edit(CONFIGURATION, "shards = 3", "shards = 0")
     system.does("systemctl", "stop", "adaptproxy")
-    same("an audit", system.journal().count("audit rows 0"), before + 1)
+    same("an audit", audits(system), before + 1)
     same("a start that fails", system.run("systemctl", "start", "adaptproxy")[0], 1)
     system.does("systemctl", "stop", "adaptproxy")
     system.edit(CONFIGURATION, "shards = 0", "shards = 2")
@@ -269,6 +298,24 @@ def instances_have_their_own_files(system):
     return "an instance of the template serves by its own file; its start fails where its admin port is taken"
 
 
+def a_second_process_takes_the_place(system):
+    """By the lines of docs/RUNNING.md: an instance listens on the users' port too before the first one is drained, and back again."""
+    with open(system.path(CONFIGURATION)) as file:
+        system.write("/etc/adaptproxy/next.toml", file.read().replace("127.0.0.1:3129", "127.0.0.1:3130"))
+    both = [("adaptproxy", CONFIGURATION), ("adaptproxy@next", "/etc/adaptproxy/next.toml")]
+    load = Load(40)
+    time.sleep(1)
+    for (old, path), (new, _) in (both, both[::-1], both, both[::-1]):
+        system.shell("systemctl start %s; adaptproxy tell drain < %s" % (new, path))
+        until("the end of " + old, lambda: system.main(old) == "0")
+        same("the other one", system.run("systemctl", "is-active", new)[1], "active\n")
+    load.end()
+    same("errors", load.errors, [])
+    os.remove(system.path("/etc/adaptproxy/next.toml"))
+    return "a second process takes the place of the first, four times under load: %d answers, no error, the slowest in %.2f s" % (
+        len(load.times), max(load.times))
+
+
 def rotation_is_loud(system):
     rotate = ("logrotate", "--force", "/etc/logrotate.d/adaptproxy")
     system.does(*rotate)
@@ -291,14 +338,27 @@ def an_upgrade_is_not_seen(system, newer):
     system.does("dpkg", "--install", newer)
     until("new processes", lambda: system.main() not in (process, "0") and system.main("icapd") not in (service, "0"))
     time.sleep(2)
-    for _ in range(3):
-        system.does("systemctl", "restart", "adaptproxy")
+    for renews in (lambda: system.does("systemctl", "restart", "adaptproxy"), lambda: reloads(system)) * 2:
+        renews()
         time.sleep(0.5)
     load.end()
     same("errors", load.errors, [])
     same("the proxy drains before icapd stops, and starts after it", " ".join(
         "Stopped adaptproxy, Stopping icapd, Stopped icapd, Started icapd, Started adaptproxy".split(", ")) in " ".join(events(system)), True)
-    return "an upgrade and three restarts under load: %d answers, no error, the slowest in %.2f s" % (len(load.times), max(load.times))
+    return "an upgrade, two restarts and two reloads under load: %d answers, no error, the slowest in %.2f s" % (len(load.times), max(load.times))
+
+
+def an_upgrade_finds_a_fault(system, package):
+    """Also where another program is to be started: all go on as they run."""
+    processes = [system.main(unit) for unit in ("adaptproxy", "icapd")]
+    system.edit(CONFIGURATION, "shards = 2", "shards = 0")
+    said = system.does("dpkg", "--install", package)
+    same("what the package says", "proxy.toml has a fault: the services go on with the old programs" in said, True)
+    same("the processes, and a page", ([system.main(unit) for unit in ("adaptproxy", "icapd")], asks()), (processes, True))
+    system.edit(CONFIGURATION, "shards = 0", "shards = 2")
+    reloads(system)
+    until("a page", asks)
+    return "an upgrade where a configuration has a fault leaves the old programs running"
 
 
 def events(system):
@@ -313,17 +373,17 @@ def a_virus_is_blocked(system):
         return "left out: a virus: SYSTEM has no c-icap, virus_scan or clamd"
     system.write("/var/lib/clamav/eicar.ndb", SIGNATURES)
     system.write("/etc/systemd/system/clamav-daemon.service.d/condition.conf", CLAMD)
-    system.shell("cd /etc/c-icap; sed -i 's/^#Include clamd_mod.conf/Include clamd_mod.conf/' virus_scan.conf; "
-                 "grep -qx 'Include virus_scan.conf' c-icap.conf || echo Include virus_scan.conf >> c-icap.conf; "
-                 "systemctl daemon-reload; systemctl stop icapd; systemctl start clamav-daemon")
-    # c-icap looks for clamd once, when it starts.
+    system.shell("cd /etc/c-icap; for it in clamd_mod virus_scan; do "
+                 "grep -qx \"Include $it.conf\" c-icap.conf || echo \"Include $it.conf\" >> c-icap.conf; done; "
+                 "systemctl daemon-reload; systemctl stop icapd c-icap; systemctl restart clamav-daemon")
+    # c-icap looks for clamd once, when it starts. Any of these may have been started at the boot.
     until("clamd", lambda: "PONG" in system.asks("/run/clamav/clamd.ctl", b"PING\n"))
     system.does("systemctl", "start", "c-icap")
     with open(system.path(CONFIGURATION)) as file:
         by_icapd = file.read()
     for path in ("/reqmod/stamp", "/respmod/upper"):
-        system.edit(CONFIGURATION, path, "/avscan")
-    system.does("systemctl", "reload", "adaptproxy")
+        system.edit(CONFIGURATION, path, "/virus_scan")
+    reloads(system)
 
     def get(path, method=b"GET", body=b""):
         try:
@@ -337,9 +397,12 @@ def a_virus_is_blocked(system):
     for what, found in (("down", get(b"eicar")), ("up", get(b"echo", b"POST", EICAR))):
         same("a virus " + what, (found[0], b"VIRUS FOUND" in found[1].upper()), (403, True))
     same("a clean upload", get(b"echo", b"POST", body_of(3000)), (200, body_of(3000)))
-    line = [line for line in system.does("tail", "-n", "5", LOG).splitlines() if "/eicar" in line][-1]
+    until("its line", lambda: "/eicar" in system.does("cat", LOG))
+    line = [line for line in system.does("cat", LOG).splitlines() if "/eicar" in line][-1]
+    same("what was found", " found=Eicar-Test-Signature" in line, True)
     system.write(CONFIGURATION, by_icapd)
-    system.shell("systemctl stop c-icap clamav-daemon; systemctl start icapd; systemctl reload adaptproxy")
+    system.shell("systemctl stop c-icap clamav-daemon; systemctl start icapd")
+    reloads(system)
     until("a page by icapd", asks)
     return "a virus is blocked with a page of c-icap's, down and up: " + line.split(" ", 3)[3]
 
@@ -348,9 +411,9 @@ def prometheus_scrapes(system):
     if not system.has("/usr/bin/prometheus"):
         return "left out: Prometheus: SYSTEM has none"
     system.edit(CONFIGURATION, "# metrics = ", "metrics = ")
-    system.does("systemctl", "reload", "adaptproxy")
+    reloads(system)
     system.write("/etc/prometheus/prometheus.yml", PROMETHEUS)
-    system.does("systemctl", "start", "prometheus")
+    system.does("systemctl", "restart", "prometheus")
 
     def value(series):
         try:
@@ -383,8 +446,10 @@ def main():
         for case in (lambda: units_start(system, inside[0], origin), lambda: logs_are_private(system),
                      lambda: units_are_confined(system), lambda: a_faulty_configuration_changes_nothing(system),
                      lambda: a_stop_finds_its_port(system), lambda: instances_have_their_own_files(system),
-                     lambda: rotation_is_loud(system), lambda: a_virus_is_blocked(system), lambda: prometheus_scrapes(system),
-                     lambda: an_upgrade_is_not_seen(system, inside[1]), lambda: nothing_is_left(system)):
+                     lambda: a_second_process_takes_the_place(system), lambda: rotation_is_loud(system),
+                     lambda: a_virus_is_blocked(system), lambda: prometheus_scrapes(system),
+                     lambda: an_upgrade_is_not_seen(system, inside[1]), lambda: an_upgrade_finds_a_fault(system, inside[0]),
+                     lambda: nothing_is_left(system)):
             said = case()
             print(said if said.startswith("left out") else "ok    " + said, flush=True)
     finally:

@@ -109,7 +109,8 @@ class FuzzOrigin(Peer):
 
     @staticmethod
     def answer(own, plan):
-        interim = b"".join(own.choice(INTERIM) for _ in range(plan.interim))
+        count = own.choice((33, 34, 500)) if plan.origin == "storm" else plan.interim
+        interim = b"".join(own.choice(INTERIM) for _ in range(count))
         extra = b"X-Mark: <r%s>\r\n" % plan.mark + own.choice((b"", b"", b"Server:  x \r\n", b"Connection: keep-alive\r\n"))
         body = filled(b"r", plan.mark, plan.answer_size)
         has_body = not plan.bodiless()

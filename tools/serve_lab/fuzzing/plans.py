@@ -120,14 +120,15 @@ class Plan:
         # Services: one whose name's end they ignore, one that they want whole.
         self.end = own.choice(("", "", ".txt", ".txt", ".gif", ".exe"))
         self.reqmod, self.respmod = Verdict(own, True), Verdict(own, False)
-        # The origin: how it frames its answer, and its fault: None, changed, cut, trailing, garbage, early, refuses, mute.
+        # The origin: how it frames its answer, and its fault: None, changed, cut, trailing, garbage, early, refuses, mute, or storm (more
+        # interim heads than are read).
         self.status = chosen(own, 200, (204, 4), (304, 4), (404, 5))
         self.framing = own.choice(("length", "length", "chunked", "close"))
         self.answer_size = some_size(own)
         # How many interim heads come first: 32 are read.
         self.interim = chosen(own, 0, (1, 5), (2, 2), (5, 2), (32, 1))
         self.origin = chosen(own, None, ("changed", 4), ("cut", 2), ("trailing", 2), ("garbage", 0.5), ("early", 1), ("refuses", 1),
-                             ("mute", 0.1))
+                             ("mute", 0.1), ("storm", 1))
         if self.framing == "close" and self.origin in ("cut", "trailing"):
             self.origin = None
 

@@ -1,5 +1,6 @@
 """A user who does nothing wrong, and an origin that answers it at once. Prints the origin's port, reads a proxy's, and asks that one
-until its input ends; then prints the longest that an answer took, how many there were, and how many were others."""
+until its input ends; then prints the longest that an answer took, the longest of one from the origin itself, which is asked each
+fourth time, how many there were of the proxy's, and how many were others."""
 import socket
 import sys
 import threading
@@ -51,14 +52,18 @@ def main():
     port = int(sys.stdin.readline())
     ended = threading.Event()
     threading.Thread(target=lambda: (sys.stdin.read(), ended.set()), daemon=True).start()
-    slowest, count, wrong = 0, 0, 0
+    slowest, direct, count, wrong = 0, 0, 0, 0
     while not ended.wait(0.01):
         start = time.monotonic()
         wrong += not asks(port)
         slowest = max(slowest, time.monotonic() - start)
         count += 1
+        if count % 4 == 0:
+            start = time.monotonic()
+            asks(listener.getsockname()[1])
+            direct = max(direct, time.monotonic() - start)
     try:
-        print("%.3f %d %d" % (slowest, count, wrong), flush=True)
+        print("%.3f %.3f %d %d" % (slowest, direct, count, wrong), flush=True)
     except BrokenPipeError:
         pass  # Nobody asks any more.
 

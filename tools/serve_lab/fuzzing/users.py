@@ -181,7 +181,7 @@ class FuzzUser:
         is_refusal = status in STATUSES and head == refusal(status)
         if is_refusal:
             self.found.count("%s refused by %d" % ("sound ones" if strength == 3 else "others", status))
-            others = (502, 504) if any(self.points) else ({"refuses": 502, "mute": 504}.get(plan.origin),)
+            others = (502, 504) if any(self.points) else ({"refuses": 502, "storm": 502, "mute": 504}.get(plan.origin),)
             if strength == 3 and status != 503 and status not in others and not (status == 504 and self.found.is_late()):
                 self.wrong("%r is sound, and refused by %d", plan.mark, status)
         elif strength == 1:
@@ -199,6 +199,8 @@ class FuzzUser:
     def judge_answer(self, plan, fields, status, body, head):
         wanted = plan.answer(self.points)
         self.found.count("answers that are known to the byte")
+        if plan.origin == "storm" and plan.verdict(self.points[0], True) != "page":
+            self.wrong("%r has the answer of an origin that sends too many interim heads: %r", plan.mark, head)
         if (status, fields.get(b"x-mark"), fields.get(b"x-adapted")) != wanted[:3]:
             self.wrong("%r has another head: %r, wanted %r", plan.mark, head, wanted[:3])
         elif body != wanted[3]:

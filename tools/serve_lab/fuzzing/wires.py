@@ -64,13 +64,13 @@ class Wire(asyncio.Protocol):
             self.transport.write(data)
 
     async def write_in_pieces(self, own, text):
-        """Sends a text, in pieces now and then."""
+        """Sends a text, in pieces now and then: a dozen of them on average, however long it is, since each takes a turn of this process."""
         if own.random() < 0.85:
             self.write(text)
             return
-        at = 0
+        at, times = 0, 1 + len(text) // 65536
         while at < len(text):
-            end = at + own.choice((1, 3, 50, 1000, 5000, 30000))
+            end = at + own.choice((1, 3, 50, 1000, 5000, 30000)) * times
             self.write(text[at:end])
             at = end
             await asyncio.sleep(0)
