@@ -10,6 +10,7 @@ help: ## lists the targets
 	@grep -E '^[a-z-]+:.*##' Makefile | sed 's/:.*## /	/'
 
 build: ## proves and builds the programs, and leaves them under bin/: half an hour on four processors
+	@tools/check_kit write
 	@tools/prove_programs adaptproxy icapd
 
 serve: ## starts icapd and adaptproxy with the examples' configurations, until `make stop`
@@ -51,8 +52,9 @@ trace: ## runs examples/$(SCRIPT).trace, and prints its answers
 check: ## proves every crate, over what earlier runs kept
 	rt all check
 
-ci: ## the merge gate: every proof, the must-fail edits, the tests, the programs; first, that what the pages cite as proved is there
+ci: ## the merge gate: every proof, the must-fail edits, the tests, the programs; first, that what the pages cite is there, and the kit
 	@tools/check_citations
+	@tools/check_kit
 	rt ci
 
 gate-cost: ## the gate's minutes of processor time by crate, as last measured; ANEW=1 runs the whole gate from nothing, and measures it
