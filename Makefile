@@ -52,7 +52,8 @@ trace: ## runs examples/$(SCRIPT).trace, and prints its answers
 check: ## proves every crate, over what earlier runs kept
 	rt all check
 
-ci: ## the merge gate: every proof, the must-fail edits, the tests, the programs; first, that what the pages cite is there, and the kit
+ci: ## the merge gate: every proof, the must-fail edits, the tests, the programs; first the layout, what the pages cite, and the kit
+	@tools/check_layout
 	@tools/check_citations
 	@tools/check_kit
 	rt ci
