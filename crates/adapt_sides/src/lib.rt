@@ -2,6 +2,9 @@
 //!
 //! Each side stands over a wire that never blocks. A turn moves what the wire gives or takes and reports what that means, as
 //! events of the history.
+//!
+//! The traits stand here for the proof's sake alone: a transaction is proved over them, and each engine for its own. Each has one
+//! implementer.
 #![tactic(auto)]
 
 mod copied;

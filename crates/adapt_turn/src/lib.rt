@@ -1,4 +1,6 @@
 //! One transaction, a bounded IO step at a time.
+//!
+//! It knows its sides by `adapt_sides` alone, and no HTTP. `proxy_rules` gives it the proxy's own sides.
 #![tactic(auto)]
 
 mod ends;

@@ -1,4 +1,6 @@
 //! Text that goes out by turns: a head, then a body as it is or in chunks, with at most one write a turn.
+//!
+//! Both engines write by it: a request to a service, a message or a refusal to the next hop.
 #![tactic(auto)]
 
 mod draft;

@@ -6,6 +6,8 @@
 //!
 //! Neither looks at fields: the caller decides what a missing or a second Encapsulated field means.
 //! An empty value is [`EncFault::Syntax`].
+//!
+//! Requests, responses and OPTIONS answers have such lists. `icap_client` and `icap_server` both read them.
 #![tactic(auto)]
 
 mod fault;

@@ -2,6 +2,8 @@
 //!
 //! Whoever drives a connection asks what is due, does it, and reports what came of it. The laws say what holds of every list
 //! of events that is taken.
+//!
+//! It stands apart from `shard_exchange`, which does what is due, so that no law here sees a connection.
 #![tactic(auto)]
 
 mod connection;

@@ -1,6 +1,8 @@
 //! What operators read: the log's line of an exchange, and the text of the counters.
 //!
 //! Both are functions of records. No value from outside can end a line or begin a field: it is written as one word.
+//!
+//! What is noted and counted under a lock is in `shard_report`, so that each text is proved from its record alone.
 #![tactic(auto)]
 
 mod entry;

@@ -1,4 +1,6 @@
 //! The HTTP ends of a transaction: the source's message in, the next hop's message out (RFC 9112, sections 6 and 7).
+//!
+//! It is the `Source` and the `Hop` of a transaction (`adapt_sides`). It owns no socket.
 #![tactic(auto)]
 
 mod body;

@@ -3,6 +3,8 @@
 //!
 //! Start lines and field lines are those that `httparse` takes, targets those of `http_uri`. A head is kept as its text
 //! and offsets; contracts see its parts as lists.
+//!
+//! How heads and bodies go over a connection is in `http_relay`, and what the proxy decides by them in `proxy_rules`.
 #![tactic(auto)]
 
 mod body;

@@ -1,4 +1,6 @@
 //! Chunked bodies with ICAP's `ieof`, read in any pieces (RFC 9112, section 7.1; RFC 3507, section 4.5).
+//!
+//! Every reader and writer of bodies uses it: HTTP's, ICAP's, and `adaptproxy chunks`.
 #![tactic(auto)]
 
 mod extension;

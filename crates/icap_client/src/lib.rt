@@ -1,4 +1,6 @@
 //! One ICAP request and its response, over a Wire (RFC 3507, section 4).
+//!
+//! It is the `Service` of a transaction (`adapt_sides`), and asks for OPTIONS. It owns no socket and no pool.
 #![tactic(auto)]
 
 mod answered;

@@ -4,6 +4,8 @@
 //! field lines are those that `httparse` takes (RFC 9112, sections 2 and 5), in a response once folds are written over, and URIs are read by
 //! `http_uri`. A head that is read ends within 16,384 bytes and has at most 100 fields; writing has
 //! no such limit.
+//!
+//! What a head means is decided above, by `options_book`, `icap_client` and `icap_server`.
 #![tactic(auto)]
 
 mod field_lines;

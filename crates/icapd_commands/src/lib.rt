@@ -1,5 +1,7 @@
 //! The commands of `icapd`: what the arguments ask for, how a configuration is read and refused, one connection over standard
 //! input, and connections over sockets.
+//!
+//! It is a library, so that rows and tests can call what the program does.
 #![tactic(auto)]
 
 mod command;

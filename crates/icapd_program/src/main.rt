@@ -1,4 +1,6 @@
 //! The command line of the ICAP server.
+//!
+//! What it does is in libraries, which rows and tests call.
 #![tactic(auto)]
 
 mod texts;

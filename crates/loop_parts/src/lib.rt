@@ -2,6 +2,8 @@
 //! connection is closed, and a connection of the administrator with its lines.
 //!
 //! Nothing here knows the loop: `event_loop` polls, and names again what those above it use of these parts.
+//!
+//! It stands apart from `event_loop` for the proof's sake alone: a change of the loop proves none of its parts anew.
 #![tactic(auto)]
 
 mod admin_lines;

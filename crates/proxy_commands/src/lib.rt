@@ -1,5 +1,7 @@
 //! The commands of `adaptproxy` that need no socket: what the arguments ask for, `trace` and `chunks`, and how a configuration
 //! is read, checked and refused, and what `serve` says at its end.
+//!
+//! It is a library, so that rows and tests can call what the program does.
 #![tactic(auto)]
 
 mod answers;

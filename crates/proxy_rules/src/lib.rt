@@ -2,6 +2,8 @@
 //! of a connection.
 //!
 //! Each decision is a function of heads, records and configured values. Nothing here has a socket, a clock or a lock.
+//!
+//! Here a transaction first meets the proxy's own sides (`Running`).
 #![tactic(auto)]
 
 mod address;

@@ -1,4 +1,6 @@
 //! A bounded connection pool: idle connections, leases, and a log that replays to the counts.
+//!
+//! A connection is any value here. What is lent, and who waits, is in `service_lines`.
 #![tactic(auto)]
 
 mod journal;

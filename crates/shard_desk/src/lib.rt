@@ -1,6 +1,8 @@
 //! What the exchanges of one thread stand on: sockets, pools, seats, and what is noted of them.
 //!
 //! A `Desk` is the `Outside` of its thread's exchanges. Which step of an exchange follows which isn't known here.
+//!
+//! It stands apart from `shard_loop`, so that a change of the threads proves no desk anew.
 #![tactic(auto)]
 
 mod connections;

@@ -2,6 +2,8 @@
 //!
 //! An exchange sees what it holds as one value, which says what is in hand of what the course counts. So the exchange and what is held
 //! are proved apart: `shard_exchange` by these traits alone, and `shard_holdings` for what meets them.
+//!
+//! The traits stand here for the proof's sake alone: each has one implementer.
 #![tactic(auto)]
 
 mod answers;

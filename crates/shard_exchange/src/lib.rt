@@ -2,6 +2,8 @@
 //!
 //! The exchange asks its course what is due, has it done over what it holds, and tells the course what came of it. What it holds is one
 //! value to it, which holds just what the course counts. It has no sockets, no clock and no threads.
+//!
+//! It stands apart from `shard_holdings` for the proof's sake alone, over the traits of `shard_effects`.
 #![tactic(auto)]
 
 mod course;

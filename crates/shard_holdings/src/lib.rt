@@ -2,6 +2,8 @@
 //!
 //! The course of an exchange says what is due. Here it is done, over what is held: each function does one thing, and says what came of
 //! it. The exchange sees all this as one value (`Effects` of `shard_effects`), so that it can do nothing else.
+//!
+//! It stands apart from `shard_exchange` for the proof's sake alone.
 #![tactic(auto)]
 
 mod doing;

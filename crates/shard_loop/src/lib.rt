@@ -2,6 +2,8 @@
 //!
 //! A thread's loop is one of `event_loop`, whose work is a `Shard` of `shard_work`: exchanges of `shard_exchange` in slots. What they
 //! stand on is a `Desk` of `shard_desk`, which `DeskExchanges` gives them.
+//!
+//! Here threads, exchanges and sockets meet. `serve` is all that it offers.
 #![tactic(auto)]
 
 mod board;

@@ -1,4 +1,7 @@
 //! One message of an exchange on its way: its transaction from the first turn to the last, and what comes of it.
+//!
+//! It stands apart from `shard_holdings` for the proof's sake alone: a transaction over the wires of a running proxy is proved here, and
+//! the crates above see only what comes of it.
 #![tactic(auto)]
 
 mod asking;

@@ -2,6 +2,8 @@
 //!
 //! A seat has what is known of a user's connections: their readiness, when they last moved, and whether the user is spared for another
 //! one. A `Spot` is where an exchange stands in the loop of its thread. What an exchange holds isn't seen here.
+//!
+//! It knows exchanges by a trait for the proof's sake alone: so it is proved apart from what they hold.
 #![tactic(auto)]
 
 mod driving;

@@ -1,4 +1,6 @@
 //! Sockets that never block as wires, their readiness, and the tokens under which a poll reports them.
+//!
+//! It stands apart from the loops, so that what a wire makes of the system's calls is proved over any stream.
 #![tactic(auto)]
 
 mod calls;

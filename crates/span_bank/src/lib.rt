@@ -1,4 +1,6 @@
 //! The buffer budget of all transactions: reservations, use, and a log that replays to the totals.
+//!
+//! It knows no transaction. What stands on it meets a lock by its calls alone.
 #![tactic(auto)]
 
 mod bank;

@@ -2,6 +2,8 @@
 //! number has the program make that number of allocations, and give each back.
 //!
 //! It ends with status 0 once all rows are judged, whatever their answers: its output says which failed.
+//!
+//! It is a program for its layer alone, so that a change of a layer proves no rows of the layers below.
 #![tactic(auto)]
 
 mod chunks;

@@ -1,4 +1,6 @@
 //! Non-blocking connections as a trait, and scripted ones in memory for tests.
+//!
+//! Engines and transactions are proved over the trait, so none knows a socket. `socket_wire` meets it over the system's sockets.
 #![tactic(auto)]
 
 mod counted;

@@ -5,6 +5,8 @@
 //! reported once. All choices of the other letters have to give equal reports.
 //!
 //! What a row doesn't say its table's head may say. A text that is `@NAME` is that of another key.
+//!
+//! The programs of rows with wires share it.
 #![tactic(auto)]
 
 mod plans;

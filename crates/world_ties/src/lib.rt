@@ -6,6 +6,8 @@
 //! transactions are the totals of a bank, and each event that the world takes is at most one step of the bank and at
 //! most one of a pool, which leads from the numbers before it to those after it. What the world refuses for want of
 //! room the bank or the pool refuses, on the same condition.
+//!
+//! No program runs it. It stands apart for the proof's sake alone: a change of a law here proves no transaction anew.
 #![tactic(auto)]
 
 pub mod bank;
