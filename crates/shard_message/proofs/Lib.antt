@@ -1,1 +1,3 @@
+pub mod NextLemmas
+pub mod OutsetLemmas
 pub mod RoundLemmas

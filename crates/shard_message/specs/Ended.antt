@@ -1,5 +1,6 @@
 -- How a message ends, by how its transaction ended.
-use Rattle.std.specs.Prelude.{◌≡◌, Bool, true, false, Option, Some, None, is_some}
+use Rattle.std.specs.Prelude.{◌≡◌, ⊤, Bool, true, false, Option, Some, None, Box, is_some}
+use Rattle.std.specs.declared.alloc.Global.{Global}
 use Rattle.trace_core.specs.declared.history.Cause.{Cause}
 use Rattle.trace_core.specs.declared.history.Cause.TheVariants.{NextHop, Stopping}
 use Rattle.trace_core.specs.declared.history.Point.{Point}
@@ -67,3 +68,26 @@ EndsAs point Done onward carries_on (ends.Answered false) = onward → ⊥
 EndsAs point (Fail cause) onward carries_on (ends.Failed why) = (is_user_lost cause point ≡ false) × (status_of why ≡ refusal_status cause point)
 EndsAs point (Fail cause) onward carries_on ends.Lost = is_user_lost cause point ≡ true
 EndsAs _ _ _ _ _ = ⊥
+
+-- the message that came of it, where memory was found for that
+abbrev pub message_in : {M : Type 0} → Sequel M → Option (Box M Global)
+message_in (sequels.Sent response) = response
+message_in (sequels.Answered next) = next
+message_in (sequels.Failed cause is_old) = None
+
+-- the message that came of it is the response to the request, or the next one of its user
+abbrev pub Brings : {M : Type 0} → (response next : M → Type 0) → Sequel M → Type 0
+Brings response next (sequels.Sent (Some message)) = response message.value
+Brings response next (sequels.Answered (Some message)) = next message.value
+Brings response next _ = ⊤
+
+-- The message that comes after one that ended so: the response to a request that its origin has whole, if there was memory for it; or the
+-- next request of a user whose connection is kept. Else there is none.
+abbrev pub IsNextBy : {M : Type 0} → (response next : M → Type 0) → End → Option (Box M Global) → Type 0
+IsNextBy response next (ends.Sent true) (Some message) = response message.value
+IsNextBy response next (ends.Sent false) None = ⊤
+IsNextBy response next (ends.Answered true) (Some message) = next message.value
+IsNextBy response next (ends.Answered false) None = ⊤
+IsNextBy response next (ends.Failed why) None = ⊤
+IsNextBy response next ends.Lost None = ⊤
+IsNextBy _ _ _ _ = ⊥

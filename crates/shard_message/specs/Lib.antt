@@ -1,5 +1,6 @@
 pub mod Begun
 pub mod Ended
 pub mod Lines
+pub mod Outset
 pub mod Rounds
 pub mod Told

@@ -2,7 +2,7 @@
 
 ghost use Rattle.std.specs.Prelude.{◌≡◌, ◌&&◌, IfSome};
 ghost use Rattle.shard_effects.specs.Ends.{EndsBy, IfItself};
-ghost use Rattle.shard_message.specs.Ended.{IsEndOf, is_cut};
+ghost use Rattle.shard_message.specs.Ended.{IsEndOf, is_cut, message_in};
 
 use adapt_turn::Outcome;
 use exchange_core::RefusalCause;
@@ -95,7 +95,9 @@ pub(crate) fn report_of<M>(
 }
 
 /// The message that comes next.
-pub(crate) fn message_of<M: Drop>(sequel: Sequel<M>) -> Option<Box<M>> {
+pub(crate) fn message_of<M: Drop>(sequel: Sequel<M>) -> Option<Box<M>>
+    ensures { result ≡ message_in sequel }
+{
     match sequel {
         Sequel::Sent(message) | Sequel::Answered(message) => message,
         Sequel::Failed { .. } => None,

@@ -4,9 +4,11 @@
 //! the crates above see only what comes of it.
 #![tactic(auto)]
 
+mod accounts;
 mod asking;
 mod connection;
 mod ended;
+pub mod laws;
 mod moving;
 mod room;
 mod settled;
@@ -15,10 +17,11 @@ mod start;
 mod taken;
 mod turns;
 
+pub use accounts::Accounted;
 pub use asking::{begin_anew, hear_on, is_fresh};
 pub use connection::{Connection, lay_wire};
 pub use moving::{Connections, Moves, Moving, OnItsWay, Remains, take_connections};
 pub use room::{Room, dial_for, make_room};
 pub use settled::Settled;
 pub use start::pace_of;
-pub use turns::Turning;
+pub use turns::{Rounding, Turning};

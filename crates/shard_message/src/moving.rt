@@ -1,12 +1,17 @@
 //! Messages that move.
 
-ghost use Rattle.std.specs.Prelude.{◌≡◌, ◌&&◌, is_some, None, Some, true, false, Bool, Option, IfSome, IfOk, IfErr};
+ghost use Rattle.std.specs.Prelude.{◌≡◌, ◌&&◌, ℕ, is_some, None, Some, true, false, Bool, Option, Box as AnyBox, IfSome, IfOk, IfErr};
+ghost use Rattle.std.specs.declared.alloc.Global.{Global as Heap};
+ghost use Rattle.proxy_rules.specs.Arrivals.{Arrival};
 ghost use Rattle.shard_message.specs.Told.{has_answered, may_serve_again};
 ghost use Rattle.shard_effects.specs.Ends.{EndsBy, IfItself};
 ghost use Rattle.shard_effects.specs.declared.ends.End.{End as AnyEnd};
 ghost use Rattle.shard_message.specs.Begun.{Beginning, beginning};
 ghost use Rattle.shard_message.specs.Lines.{HasLine, line_for};
+ghost use Rattle.shard_message.specs.Outset.{IsLineAfter, Outset, SetsOut};
+ghost use Rattle.proxy_rules.specs.Since.{freed_wire, held_or};
 
+use crate::accounts::Accounted;
 use crate::connection::{Connection, lay_wire, take_wire};
 use crate::room::Room;
 use crate::settled::{Settled, settle_request, settle_response};
@@ -24,14 +29,14 @@ use std::sync::Wait;
 use trace_core::Point;
 
 /// The types of a request's connections: from the user to the origin.
-type RequestWires<O> = (
+pub(crate) type RequestWires<O> = (
     <O as Kinds>::User,
     <O as Kinds>::Service,
     <O as Kinds>::Origin,
 );
 
 /// The types of a response's connections: from the origin to the user.
-type ResponseWires<O> = (
+pub(crate) type ResponseWires<O> = (
     <O as Kinds>::Origin,
     <O as Kinds>::Service,
     <O as Kinds>::User,
@@ -57,6 +62,10 @@ pub trait OnItsWay {
     // what its course is told where nothing else ends it: by how its transaction ended, or by the stop where that is open
     ghost ends: { Self → AnyEnd → Type 0 };
 
+    // the message that comes after it, where nothing else ends it, by what its course is told: the response to a request, or the next
+    // request of its user, which begins with the bytes that were left over of this one
+    ghost followed_by: { Self → AnyEnd → Option (AnyBox Arrival Heap) → Type 0 };
+
     // by whether a byte of an answer went to the user: its connection is cut, where the message failed and the user, of HTTP/1.0, may
     // take the end of the connection for the end of the answer
     ghost cut_is: { Self → (answered cut : Bool) → Type 0 };
@@ -70,8 +79,8 @@ impl<O: Kinds> OnItsWay for Moving<O> {
     ghost use Rattle.http_relay.specs.Giving.{gift_of};
     ghost use Rattle.http_relay.specs.Reading.{request_of};
     ghost use Rattle.proxy_rules.specs.Connections.{CarriesOn};
-    ghost use Rattle.shard_message.specs.Ended.{EndsAs, IfAsked, ended_as, fails};
-    ghost use Rattle.shard_message.specs.Told.{is_old_in};
+    ghost use Rattle.shard_message.specs.Ended.{EndsAs, IfAsked, IsNextBy, ended_as, fails};
+    ghost use Rattle.shard_message.specs.Told.{IsRequestAfter, IsResponseTo, is_old_in};
     ghost use Rattle.shard_message.specs.declared.moving.Moving.TheVariants.{Request, Response};
 
     ghost answered = { λ moving. elim moving [
@@ -89,6 +98,11 @@ impl<O: Kinds> OnItsWay for Moving<O> {
           (gift_of tx.value.tx.ends.back.stage ≡ nothing) (CarriesOn Done tx.value.tx.ends.maker.closes tx.value.tx.ends.source) end
       | Response tx ↦ EndsAs tx.value.tx.hold.history.plan.point (ended_as (shows tx.value.tx.hold.history).closed tx.value.tx.outcome)
           ⊥ (IfAsked (CarriesOn Done tx.value.tx.ends.maker.closes) tx.value.tx.ends.maker.user) end
+    ] };
+
+    ghost followed_by = { λ moving end next. elim moving [
+      | Request tx ↦ IsNextBy (IsResponseTo tx.value.tx.ends.source) (IsRequestAfter tx.value.tx.ends.source) end next
+      | Response tx ↦ IsNextBy (λ _. ⊥) (λ next. IfAsked (λ user. IsRequestAfter user next) tx.value.tx.ends.maker.user) end next
     ] };
 
     ghost cut_is = { λ moving answered cut. elim moving [
@@ -197,7 +211,9 @@ impl<O: Kinds> Moving<O> {
     where
         O: Outside<P>,
         ensures begins { IfOk result (λ moving. ⟦<Self as Moves<O>>⟧.begins (beginning room.planned message.value pace last) connections.user connections.service connections.origin moving) }
-        ensures back { IfErr result (λ remains. (remains.room.planned ≡ None) × (remains.room.limits ≡ room.limits)) }
+        ensures since { IfOk result (λ moving. (s : Outset O.User O.Service O.Origin) → SetsOut O.User.Wire O.Origin.Wire (beginning room.planned message.value pace last) connections.user connections.service connections.origin s
+            → ⟦<Self as Accounted<O>>⟧.since s moving) }
+        ensures back { IfErr result (λ remains. (remains.room.planned ≡ None) × (remains.room.limits ≡ room.limits) × (remains.connections ≡ connections)) }
     {
         let Connections {
             user,
@@ -245,6 +261,9 @@ impl<O: Kinds> Moving<O> {
         O: Outside<P>,
         ensures leased { is_some connection.new ≡ is_some connection.old }
         ensures renewed { result ≡ Round.Broken → may_renew ≡ true }
+        ensures turns { (now : ℕ) × O.now_is out.old at.now now × ⟦<Self as Accounted<O>>⟧.rounds (O.is_opened out.new at.now) now self.old self.new result }
+        ensures carries { (s : Outset O.User O.Service O.Origin) → ⟦<Self as Accounted<O>>⟧.since s self.old
+            → (line : Option O.Service) × (given : Option O.Service) × IsLineAfter (O.is_opened out.new at.now) result s.line s.given line given × ⟦<Self as Accounted<O>>⟧.since (record s { line = line; given = given }) self.new }
     {
         match self {
             Moving::Request(tx) => round_of(rt, at, out, tx, connection, may_renew),
@@ -264,7 +283,10 @@ impl<O: Kinds> Moving<O> {
 
     /// Gives up the connection to the service once the service has said all.
     pub fn take_freed(&mut self) -> Option<FreedConnection<O::Service>>
-        ensures { IfSome result (λ free. free.is_reusable ≡ ⟦<Self as OnItsWay>⟧.reusable self.old) }
+        ensures reusable { IfSome result (λ free. free.is_reusable ≡ ⟦<Self as OnItsWay>⟧.reusable self.old) }
+        ensures wire { IfSome result (λ free. ⟦<Self as Accounted<O>>⟧.service self.old ≡ Some free.wire) }
+        ensures carries { (s : Outset O.User O.Service O.Origin) → ⟦<Self as Accounted<O>>⟧.since s self.old
+            → ⟦<Self as Accounted<O>>⟧.since (record s { given = held_or (freed_wire result) s.given }) self.new }
     {
         match self {
             Moving::Request(tx) => tx.take_freed(),
@@ -288,6 +310,8 @@ impl<O: Kinds> Moving<O> {
         ensures cuts { result.report.has_answered ≡ false → result.report.cuts ≡ false }
         ensures cut { ⟦<Self as OnItsWay>⟧.cut_is self result.report.has_answered result.report.cuts }
         ensures served { IfSome result.report.served (λ usable. usable ≡ ⟦<Self as OnItsWay>⟧.reusable self) }
+        ensures followed { IfItself by (⟦<Self as OnItsWay>⟧.followed_by self result.report.end result.message) }
+        ensures wires { (result.remains.connections.user ≡ ⟦<Self as Accounted<O>>⟧.user self) × (result.remains.connections.service ≡ ⟦<Self as Accounted<O>>⟧.service self) × (result.remains.connections.origin ≡ ⟦<Self as Accounted<O>>⟧.origin self) }
     {
         match self {
             Moving::Request(tx) => {

@@ -4,8 +4,9 @@ ghost use Rattle.std.specs.Prelude.{◌≡◌, ◌&&◌, false, true, IfSome, no
 ghost use Rattle.shard_effects.specs.Ends.{EndsBy, IfItself};
 ghost use Rattle.adapt_hold.specs.Holding.{shows};
 ghost use Rattle.adapt_sides.specs.Turns.Gift.{nothing};
+ghost use Rattle.adapt_turn.specs.ChosenHead.{wire_of};
 ghost use Rattle.adapt_turn.specs.Refusals.{user_untouched};
-ghost use Rattle.shard_message.specs.Ended.{EndsAs, IfAsked, IsEndOf, IsSequel, ended_as, fails, is_cut, old_where_asked};
+ghost use Rattle.shard_message.specs.Ended.{Brings, EndsAs, IfAsked, IsEndOf, IsNextBy, IsSequel, ended_as, fails, is_cut, message_in, old_where_asked};
 ghost use Rattle.shard_message.specs.Told.{reusable_by};
 
 use crate::ended::{Sequel, message_of, outcome_by, report_of};
@@ -41,7 +42,9 @@ fn is_fresh<W: Wire>(wire: &W) -> bool {
 }
 
 /// A message on the heap, where memory is found for it.
-fn boxed<M: Drop>(alloc: Global, message: M) -> Option<Box<M>> {
+fn boxed<M: Drop>(alloc: Global, message: M) -> Option<Box<M>>
+    ensures { IfSome result (λ boxed. boxed.value ≡ message) }
+{
     match Box::new(alloc, message) {
         Ok(message) => Some(message),
         Err(_) => None,
@@ -55,7 +58,8 @@ fn answered<S: Asked>(
     outcome: Outcome,
     closes: bool,
 ) -> Sequel<S::Message>
-    ensures { IsSequel outcome ⊥ (S.carries_on Outcome.Done closes request) (S.is_old request) result }
+    ensures sequel { IsSequel outcome ⊥ (S.carries_on Outcome.Done closes request) (S.is_old request) result }
+    ensures brings { Brings (λ _. ⊥) (S.is_next request) result }
 {
     match outcome {
         Outcome::Fail(cause) => Sequel::Failed {
@@ -72,7 +76,8 @@ fn answered<S: Asked>(
 
 /// What comes of a message whose request is lost: no further one of its user's connection.
 fn unasked<M>(outcome: Outcome) -> Sequel<M>
-    ensures { IsSequel outcome ⊥ ⊥ true result }
+    ensures sequel { IsSequel outcome ⊥ ⊥ true result }
+    ensures brings { Brings (λ _. ⊥) (λ _. ⊥) result }
 {
     match outcome {
         Outcome::Fail(cause) => Sequel::Failed {
@@ -91,7 +96,8 @@ fn after_request<S: Asked, K: Hop>(
     outcome: Outcome,
     closes: bool,
 ) -> Sequel<S::Message>
-    ensures { IsSequel outcome (K.gift back.now ≡ nothing) (S.carries_on Outcome.Done closes request) (S.is_old request) result }
+    ensures sequel { IsSequel outcome (K.gift back.now ≡ nothing) (S.carries_on Outcome.Done closes request) (S.is_old request) result }
+    ensures brings { Brings (S.is_response request) (S.is_next request) result }
 {
     if outcome == Outcome::Done && back.is_idle() {
         Sequel::Sent(boxed(alloc, request.response(alloc)))
@@ -107,7 +113,8 @@ fn after_response<S: Asked>(
     outcome: Outcome,
     closes: bool,
 ) -> Sequel<S::Message>
-    ensures { IsSequel outcome ⊥ (IfAsked (S.carries_on Outcome.Done closes) request) (old_where_asked S.is_old request) result }
+    ensures sequel { IsSequel outcome ⊥ (IfAsked (S.carries_on Outcome.Done closes) request) (old_where_asked S.is_old request) result }
+    ensures brings { Brings (λ _. ⊥) (λ next. IfAsked (λ user. S.is_next user next) request) result }
 {
     match request {
         Some(request) => answered(alloc, request, outcome, closes),
@@ -246,7 +253,9 @@ fn settled_of<O: Kinds, M: Drop>(
     report: Report,
 ) -> Settled<O, M>
     requires { (stake.held ≡ 0) × (stake.pages ≡ 0) }
-    ensures { result.report ≡ report }
+    ensures report { result.report ≡ report }
+    ensures message { result.message ≡ message_in sequel }
+    ensures connections { result.remains.connections ≡ connections }
 {
     let room = room_of(stake, limits);
     Settled {
@@ -281,6 +290,8 @@ where
     ensures cuts { result.report.has_answered ≡ false → result.report.cuts ≡ false }
     ensures cut { result.report.cuts ≡ result.report.has_answered && (fails (ended_as (shows tx.hold.history).closed tx.outcome) && E.Reader.is_old tx.ends.source) }
     ensures served { IfSome result.report.served (λ usable. usable ≡ reusable_by E.Client.reusable tx.ends.service) }
+    ensures next { IfItself by (IsNextBy (E.Reader.is_response tx.ends.source) (E.Reader.is_next tx.ends.source) result.report.end result.message) }
+    ensures wires { result.remains.connections ≡ record { user = tx.ends.source_wire; service = wire_of tx.ends.service; origin = tx.ends.next_wire } }
 {
     let has_answered = tx.has_answered();
     let TxParts {
@@ -339,6 +350,8 @@ where
     ensures cuts { result.report.has_answered ≡ false → result.report.cuts ≡ false }
     ensures cut { (shows tx.hold.history).closed ≡ true → result.report.cuts ≡ result.report.has_answered && (fails tx.outcome && old_where_asked E.Reader.is_old (E.Maker.asked tx.ends.maker)) }
     ensures served { IfSome result.report.served (λ usable. usable ≡ reusable_by E.Client.reusable tx.ends.service) }
+    ensures next { IfItself by (IsNextBy (λ _. ⊥) (λ next. IfAsked (λ user. E.Reader.is_next user next) (E.Maker.asked tx.ends.maker)) result.report.end result.message) }
+    ensures wires { result.remains.connections ≡ record { user = tx.ends.next_wire; service = wire_of tx.ends.service; origin = tx.ends.source_wire } }
 {
     let has_answered = tx.has_answered();
     let TxParts {

@@ -2,7 +2,7 @@
 //!
 //! The functions that take a transaction apart are generic in its sides, so that a proof sees each of them as one value.
 
-ghost use Rattle.std.specs.Prelude.{◌≡◌, ◌↔◌, Bool, Option, IsTrue};
+ghost use Rattle.std.specs.Prelude.{◌≡◌, ◌↔◌, Bool, Option, IfSome, IsTrue};
 ghost use Rattle.adapt_turn.specs.declared.turn.Outcome.{Outcome as AnyOutcome};
 
 use adapt_sides::{ClientFault, Service, Source};
@@ -49,6 +49,12 @@ pub(crate) trait Asked: Source + Drop {
     // the request is of HTTP/1.0
     ghost is_old: { Self → Bool };
 
+    // this message is the response to the request, before its first byte
+    ghost is_response: { Self → Self.Message → Type 0 };
+
+    // this message is the next request on the connection of the request: it begins with the bytes that were left over
+    ghost is_next: { Self → Self.Message → Type 0 };
+
     /// Whether the request is of HTTP/1.0.
     fn is_old(&self) -> bool
         ensures { result ≡ is_old self.now };
@@ -58,22 +64,28 @@ pub(crate) trait Asked: Source + Drop {
         ensures { IsTrue result ↔ carries_on outcome closes self.now };
 
     /// The user's next request, before its first byte but for what was read already.
-    fn next_request(self) -> Option<Self::Message>;
+    fn next_request(self) -> Option<Self::Message>
+        ensures { IfSome result (λ next. is_next self next) };
 
     /// The response to the request, before its first byte.
-    fn response(self, alloc: Global) -> Self::Message;
+    fn response(self, alloc: Global) -> Self::Message
+        ensures { is_response self result };
 }
 
 impl Asked for SourceSide {
     ghost use Rattle.http_relay.specs.Reading.{request_of};
     ghost use Rattle.proxy_rules.specs.Connections.{CarriesOn};
-    ghost use Rattle.shard_message.specs.Told.{is_old_in};
+    ghost use Rattle.shard_message.specs.Told.{IsRequestAfter, IsResponseTo, is_old_in};
 
     type Message = Incoming;
 
     ghost carries_on = { CarriesOn };
 
     ghost is_old = { λ user. is_old_in (request_of user.head) };
+
+    ghost is_response = { IsResponseTo };
+
+    ghost is_next = { IsRequestAfter };
 
     fn is_old(&self) -> bool {
         match self.request_head() {

@@ -1,18 +1,23 @@
 //! The start of a message's transaction.
 
-ghost use Rattle.std.specs.Prelude.{◌≡◌, None, IfOk, IfErr};
+ghost use Rattle.std.specs.Prelude.{◌≡◌, ℕ, List, None, IfSome, IfOk, IfErr};
+ghost use Rattle.proxy_rules.specs.Arrivals.{Came};
+ghost use Rattle.proxy_rules.specs.Offers.{text_of};
+ghost use Rattle.proxy_rules.specs.Since.{first_snapshot};
 ghost use Rattle.shard_message.specs.Begun.{BeginsWith, IsPaceOf, beginning};
 
 use crate::room::{Room, room_of};
 use crate::taken::left_of;
+use adapt_turn::Tx;
 use exchange_core::Course;
 use plan_rules::Pace;
-use proxy_rules::{Beginning, Incoming, Running, Way, Wires, begin};
+use proxy_rules::{Accounting, Beginning, Incoming, OwnEnds, Running, Way, Wires, begin};
 use shard_outside::{Outside, Planned};
 use span_bank::{Bank, Ledgers};
 use std::alloc::{AllocFailed, Global};
 use std::boxed::Box;
 use std::sync::Wait;
+use wire_kit::Wire;
 
 /// The pace of a transaction that begins at this course. Its deadline is a second later than the configured one, since moments are whole
 /// seconds: so it never comes early.
@@ -36,7 +41,9 @@ pub(crate) fn set_out<B: Ledgers, W: Wires, R: Wait>(
     last: bool,
 ) -> Result<Box<Running<B, W>>, (Room<B>, Way<W>)>
     ensures begins { IfOk result (λ tx. BeginsWith (beginning room.planned message.value pace last) way.source way.service way.next tx.value.tx.hold.history tx.value.tx.pace tx.value.tx.ends) }
-    ensures back { IfErr result (λ back. (back.0.planned ≡ None) × (back.0.limits ≡ room.limits)) }
+    ensures since { IfOk result (λ tx. (first : W.SourceWire) (ahead since beside : List ℕ) → Came W.SourceWire.Wire first ahead since beside message.value.side way.source
+        → IfSome room.planned (λ planned. ⟦<Tx<B, OwnEnds<W>> as Accounting<W>>⟧.since (first_snapshot (text_of planned.value.offer.side) ahead beside first way.next way.service) tx.value.tx)) }
+    ensures back { IfErr result (λ back. (back.0.planned ≡ None) × (back.0.limits ≡ room.limits) × (back.1 ≡ way)) }
 {
     let Room {
         stake,

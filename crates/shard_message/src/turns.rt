@@ -1,13 +1,15 @@
 //! The turns of a message's transaction.
 
-ghost use Rattle.std.specs.Prelude.{◌≡◌, ◌⊎◌, ℕ, is_some, true, false, Bool, IfOk};
+ghost use Rattle.std.specs.Prelude.{◌≡◌, ◌⊎◌, ℕ, is_some, true, false, Bool, Option, IfOk};
 ghost use Rattle.adapt_turn.specs.declared.turn.Side.{Side as AnySide};
 ghost use Rattle.adapt_turn.specs.declared.turn.TurnAnswer.{TurnAnswer as AnyAnswer};
+ghost use Rattle.shard_effects.specs.declared.answers.Round.{Round as AnyRound};
+ghost use Rattle.shard_message.specs.Outset.{IsLineAfter};
 ghost use Rattle.shard_message.specs.Rounds.{Adds, ComesTo, IsRenewed, IsRound, IsTurned, ends_round, in_turn};
 
 use crate::connection::Connection;
 use adapt_turn::{Answering, Side, TurnAnswer, Tx};
-use proxy_rules::{OwnEnds, Running, Wires};
+use proxy_rules::{Accounting, Lasting, OwnEnds, Running, Wires};
 use service_lines::LendFault;
 use shard_effects::Round;
 use shard_outside::Outside;
@@ -36,6 +38,26 @@ impl<B: Ledgers, W: Wires> Turning for Running<B, W> {
     ghost is_over = { λ tx. (shows tx.tx.hold.history).closed };
 }
 
+/// The rounds of a transaction of the proxy's own sides.
+pub trait Rounding<W: Wires> {
+    // a round at this moment, and what it came to; where the request began anew, it did so over one of these connections
+    ghost rounds: { (W.ServiceWire → Type 0) → ℕ → Self → Self → AnyRound → Type 0 };
+
+    // what was so since a beginning is so since what this round makes of it
+    ghost carries: { (W.ServiceWire → Type 0) → Self → Self → AnyRound → Type 0 };
+}
+
+impl<B: Ledgers, W: Wires> Rounding<W> for Running<B, W> {
+    ghost use Rattle.std.specs.Prelude.{◌≡◌};
+    ghost use Rattle.proxy_rules.specs.Since.{Snapshot};
+
+    ghost rounds = { λ opened now old new round. ComesTo (IsRound (⟦<Running<B, W> as Turning>⟧.turned now) ⟦<Running<B, W> as Turning>⟧.is_over in_turn old)
+        (λ mid. IsRenewed opened mid.tx.hold new.tx.hold new.tx.ends.service new.tx.outcome (new ≡ mid)) new round };
+
+    ghost carries = { λ opened old new round. (s : Snapshot W.SourceWire W.ServiceWire W.NextWire) → ⟦<Tx<B, OwnEnds<W>> as Accounting<W>>⟧.since s old.tx
+        → (line : Option W.ServiceWire) × (given : Option W.ServiceWire) × IsLineAfter opened round s.line s.given line given × ⟦<Tx<B, OwnEnds<W>> as Accounting<W>>⟧.since (record s { line = line; given = given }) new.tx };
+}
+
 /// The bytes of bodies that the sides gave and took so far.
 fn body_bytes(seen: &Seen) -> u64 {
     let came = seen.received.saturating_add(seen.adapted_received);
@@ -54,7 +76,8 @@ fn turn_side<B: Ledgers, W: Wires, R: Wait>(
     side: Side,
     now: u64,
 ) -> Round
-    ensures { (answer : AnyAnswer) × ⟦<Running<B, W> as Turning>⟧.turned now tx.old side answer tx.new × IsTurned (⟦<Running<B, W> as Turning>⟧.is_over tx.new) answer result }
+    ensures turned { (answer : AnyAnswer) × ⟦<Running<B, W> as Turning>⟧.turned now tx.old side answer tx.new × IsTurned (⟦<Running<B, W> as Turning>⟧.is_over tx.new) answer result }
+    ensures lasts { ⟦<Tx<B, OwnEnds<W>> as Lasting<W>>⟧.lasts (λ s. s) tx.old.tx tx.new.tx }
 {
     let before = body_bytes(&tx.seen());
     let turned = tx.turn(rt, bank, side, now);
@@ -103,7 +126,8 @@ fn turn_each<B: Ledgers, W: Wires, R: Wait>(
     sides: &[Side],
     now: u64,
 ) -> Round
-    ensures { IsRound (⟦<Running<B, W> as Turning>⟧.turned now) ⟦<Running<B, W> as Turning>⟧.is_over sides.now tx.old tx.new result }
+    ensures turns { IsRound (⟦<Running<B, W> as Turning>⟧.turned now) ⟦<Running<B, W> as Turning>⟧.is_over sides.now tx.old tx.new result }
+    ensures lasts { ⟦<Tx<B, OwnEnds<W>> as Lasting<W>>⟧.lasts (λ s. s) tx.old.tx tx.new.tx }
 {
     match sides {
         [] => Round::Waiting,
@@ -123,10 +147,15 @@ fn fresh<P, O: Outside<P>>(
     at: &P,
     out: &mut O,
     connection: &mut Option<Connection<O>>,
+    may: bool,
 ) -> Result<O::Service, LendFault>
     ensures leased { is_some connection.new ≡ is_some connection.old }
+    ensures may { IfOk result (λ _. may ≡ true) }
     ensures opened { IfOk result (λ wire. O.is_opened out.new at.now wire) }
 {
+    if !may {
+        return Err(LendFault::Unreached);
+    }
     match connection {
         Some(connection) => out.reopen(at, &mut connection.lease),
         None => Err(LendFault::Unreached),
@@ -146,17 +175,13 @@ fn renew<P, O: Outside<P>, W: Wires<ServiceWire = O::Service>, R: Wait>(
     ensures leased { is_some connection.new ≡ is_some connection.old }
     ensures renewed { result ≡ Round.Broken → may ≡ true }
     ensures anew { IsRenewed (O.is_opened out.new at.now) tx.old.tx.hold tx.new.tx.hold tx.new.tx.ends.service tx.new.tx.outcome (tx.new ≡ tx.old) result }
+    ensures carries { ⟦<Running<O::Ledgers, W> as Rounding<W>>⟧.carries (O.is_opened out.new at.now) tx.old tx.new result }
 {
     if !tx.is_broken() {
         return Round::Waiting;
     }
     drop(tx.take_broken());
-    let fresh = if may {
-        fresh(at, out, connection)
-    } else {
-        Err(LendFault::Unreached)
-    };
-    match fresh {
+    match fresh(at, out, connection, may) {
         Ok(wire) => {
             drop(tx.retry(rt, out.bank(), wire));
             return Round::Broken;
@@ -178,8 +203,8 @@ pub(crate) fn round_of<P, O: Outside<P>, W: Wires<ServiceWire = O::Service>, R: 
 ) -> Round
     ensures leased { is_some connection.new ≡ is_some connection.old }
     ensures renewed { result ≡ Round.Broken → may_renew ≡ true }
-    ensures turns { (now : ℕ) × O.now_is out.old at.now now × ComesTo (IsRound (⟦<Running<O::Ledgers, W> as Turning>⟧.turned now) ⟦<Running<O::Ledgers, W> as Turning>⟧.is_over in_turn tx.old)
-        (λ mid. IsRenewed (O.is_opened out.new at.now) mid.tx.hold tx.new.tx.hold tx.new.tx.ends.service tx.new.tx.outcome (tx.new ≡ mid)) tx.new result }
+    ensures turns { (now : ℕ) × O.now_is out.old at.now now × ⟦<Running<O::Ledgers, W> as Rounding<W>>⟧.rounds (O.is_opened out.new at.now) now tx.old tx.new result }
+    ensures carries { ⟦<Running<O::Ledgers, W> as Rounding<W>>⟧.carries (O.is_opened out.new at.now) tx.old tx.new result }
 {
     let now = out.now(at);
     let sides = [Side::Source, Side::Service, Side::NextHop];

@@ -1,5 +1,12 @@
-use Rattle.std.proofs.Common.{◌≡◌, true, [], refl, sym, subst, is_some}
-use Rattle.proxy_rules.specs.Arrivals.{Arrival}
+use Rattle.std.proofs.Common.{◌≡◌, true, [], Option, Some, None, IfSome, refl, ap, sym, subst, ◌∙◌, is_some}
+use Rattle.std.specs.Prelude.{Box}
+use Rattle.std.specs.declared.alloc.Global.{Global}
+use Rattle.adapt_turn.specs.ChosenHead.{wire_of}
+use Rattle.icap_client.specs.Turns.{Service}
+use Rattle.proxy_rules.specs.Offers.{text_of}
+use Rattle.proxy_rules.specs.Running.{StandsOver}
+use Rattle.proxy_rules.specs.Since.{Since, first_snapshot}
+use Rattle.proxy_rules.specs.Arrivals.{Arrival, Came}
 use Rattle.proxy_rules.specs.Beginnings.{MayBegin, service_end_of}
 use Rattle.shard_outside.specs.declared.planning.Planned.{Planned}
 use Rattle.shard_message.specs.Begun.{BeginsWith, beginning}
@@ -24,3 +31,43 @@ returns-in-Ok-new-clause-begins g c =
       service = subst (λ (p : Planned). running.tx.ends.service ≡ service_end_of p.offer.side c.args.way.service) offer c.in-Ok.ensures.sides.3;
       wires = c.in-Ok.ensures.wires;
     })
+
+pub returns-in-Ok-new-clause-since : goal.returns-in-Ok-new-clause-since
+returns-in-Ok-new-clause-since g c = λ first ahead since beside came.
+    let running = c.in-Ok.running in
+    let offer : c.into_inner-offer.result ≡ c.in-Some.planned.value = c.into_inner-offer.ensures in
+    let message : c.into_inner.result ≡ c.args.message.value = c.into_inner.ensures in
+    let comes = subst (λ (m : Arrival). Came g.W.SourceWire.Wire first ahead since beside m.side c.args.way.source) (sym message) came in
+    let stands = StandsOver running.tx.hold running.tx.ends running.tx.refusing in
+    let start = λ (p : Planned). first_snapshot (text_of p.offer.side) ahead beside first c.args.way.next c.args.way.service in
+    let line = wire_of running.tx.ends.service in
+    let began = subst (λ (p : Planned). Since g.W.SourceWire.Wire g.W.ServiceWire.Wire g.W.NextWire.Wire (start p) stands running.tx.ends.source_wire line running.tx.ends.next_wire) offer
+    (c.in-Ok.ensures.since first ahead since beside comes) in
+    subst (λ r.
+    IfSome c.args.room.planned (λ planned. Since g.W.SourceWire.Wire g.W.ServiceWire.Wire g.W.NextWire.Wire (start planned.value) (StandsOver r.tx.hold r.tx.ends r.tx.refusing) r.tx.ends.source_wire (wire_of r.tx.ends.service) r.tx.ends.next_wire))
+    (sym c.in-Ok-new.ensures.ok)
+    (subst (λ (o : Option (Box Planned Global)). IfSome o (λ planned. Since g.W.SourceWire.Wire g.W.ServiceWire.Wire g.W.NextWire.Wire (start planned.value) stands running.tx.ends.source_wire line running.tx.ends.next_wire))
+    (sym c.in-Some.is) began)
+
+-- the service's connection is the one that it begins with
+line_is : {W : Type 0} (side : Option Service) (wire : Option W) → is_some side ≡ is_some wire → wire_of (service_end_of side wire) ≡ wire
+line_is None None e = refl
+line_is None (Some w) e = absurd cc
+line_is (Some s) None e = absurd cc
+line_is (Some s) (Some w) e = refl
+
+three : {P Q R T : Type 0} (f : P → Q → R → T) {p p' : P} {q q' : Q} {r r' : R} → p ≡ p' → q ≡ q' → r ≡ r' → f p q r ≡ f p' q' r'
+three {P} {Q} {R} {T} f {p} {p'} {q} {q'} {r} {r'} d e h = ap (λ x. f x q r) d ∙ (ap (λ x. f p' x r) e ∙ ap (λ x. f p' q' x) h)
+
+pub returns-in-Err-new-clause-back : goal.returns-in-Err-new-clause-back
+returns-in-Err-new-clause-back g c =
+    let running = c.in-Ok.running in
+    let may = c.in-Ok.ensures.accepts.0 (refl {a = true}) in
+    let tx : c.into_tx.result ≡ running.tx = c.into_tx.ensures ∙ ap (λ r. r.tx) c.in-Err-new.ensures.value_returned in
+    let wires = c.left_of.ensures.wires in
+    let line = ap (λ z. wire_of z.ends.service) tx ∙ (ap (λ z. wire_of z) c.in-Ok.ensures.sides.3 ∙ line_is c.into_inner-offer.result.offer.side c.args.way.service may.line) in (
+      c.left_of.ensures.room.0,
+      c.left_of.ensures.room.1,
+      three (λ a b d. record { source = a; service = b; next = d })
+          (wires.0 ∙ (ap (λ z. z.ends.source_wire) tx ∙ c.in-Ok.ensures.wires.0)) (wires.1 ∙ line) (wires.2 ∙ (ap (λ z. z.ends.next_wire) tx ∙ c.in-Ok.ensures.wires.1)),
+    )
