@@ -11,5 +11,5 @@ pub mod ServiceLemmas
 pub mod NoHosts
 pub mod SeenNames
 pub mod Found
-pub mod Tunings
 pub mod PortLemmas
+pub mod Judging

@@ -10,8 +10,9 @@ use Rattle.std.specs.Map.{keys_of, lookup}
 use Rattle.toml.proofs.Views.{view-lookup, Entry}
 use Rattle.toml.specs.Data.{Data, Members, get_member, as_table}
 use Rattle.toml.specs.View.{view, members_view}
+use Rattle.proxy_config.specs.Keys.{document_keys}
 use Rattle.proxy_config.specs.Order.{HasKey, IsFirst, IsFirstOrNone, comes_before, first_text, nested}
-use Rattle.proxy_config.specs.Unknown.{HasOther, IsUnknown, IsUnknownOf, document_keys, service_keys, texts}
+use Rattle.proxy_config.specs.Unknown.{HasOther, IsUnknown, IsUnknownOf, service_keys, texts}
 use Rattle.proxy_config.proofs.Entries.{HasText, has_text, ahead, ascending_rest}
 use Rattle.proxy_config.proofs.TextOrder.{not_before_itself, not_both, goes_on, before_later, nested_order}
 

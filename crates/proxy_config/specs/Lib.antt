@@ -1,8 +1,9 @@
 pub mod Fault
 pub mod Values
 pub mod Order
-pub mod Sizes
+pub mod Keys
 pub mod Config
+pub mod Turns
 pub mod Services
 pub mod Hosts
 pub mod HostNames
@@ -10,4 +11,4 @@ pub mod Unknown
 pub mod Log
 pub mod Names
 pub mod Ports
-pub mod Tuning
+pub mod Dial

@@ -1,7 +1,7 @@
 -- Where the log is.
-use Rattle.std.specs.Prelude.{ℕ, ◌==◌, List, length, Bool, ◌&&◌, not, nat_le, if◌then◌else◌, Option, Some, None, codes, option_and_then, option_map}
+use Rattle.std.specs.Prelude.{ℕ, ◌==◌, List, length, Bool, ◌&&◌, not, nat_le, if◌then◌else◌, Option, Some, None, option_and_then, option_map}
 use Rattle.std.specs.List.{list_any}
-use Rattle.toml.specs.Data.{Data, Members, get_member, as_str}
+use Rattle.toml.specs.Data.{Data, as_str}
 use Rattle.proxy_config.specs.declared.log.TheConstants.{MAX_LOG_PATH}
 
 -- 1 to 4,096 bytes, none of them NUL
@@ -16,6 +16,3 @@ path_in text = if is_log_path text then Some text else None
 abbrev pub path_or_none : Option Data → Option (Option (List ℕ))
 path_or_none None = Some None
 path_or_none (Some value) = option_map Some (option_and_then path_in (as_str value))
-
-abbrev pub log_of : Members → Option (Option (List ℕ))
-log_of document = path_or_none (get_member (codes "log") document)

@@ -10,8 +10,7 @@ use Rattle.http_uri.specs.declared.uri.Uri.{Uri as Target}
 use Rattle.adapt_bytes.specs.declared.limits.TheConstants.{MAX_CONNECTIONS, MAX_PORT}
 use Rattle.proxy_config.specs.Order.{FirstOf, ValueFirst, nested}
 use Rattle.proxy_config.specs.Values.{number_or}
-use Rattle.proxy_config.specs.declared.defaults.TheConstants.{CONNECTIONS, PORT}
-use Rattle.proxy_config.specs.declared.services.TheConstants.{MAX_PATH}
+use Rattle.proxy_config.specs.declared.services.TheConstants.{CONNECTIONS, MAX_PATH, PORT}
 use Rattle.proxy_config.specs.declared.point.ServicePoint.{ServicePoint}
 
 -- the text of a key, where its value is text

@@ -2,20 +2,12 @@
 use denote.Ref.{Bor}
 use Rattle.std.specs.Prelude.{◌≡◌, ℕ, ◌⊎◌, List, [], ◌∷◌, map, Some, codes, Contains, option_and_then}
 use Rattle.toml.specs.Data.{Members, get_member, as_table}
+use Rattle.proxy_config.specs.Keys.{document_keys}
 use Rattle.proxy_config.specs.Order.{HasKey, nested}
 
 -- the texts of keys
 abbrev pub texts : List (Bor (List ℕ)) → List (List ℕ)
 texts = map (λ key. key.now)
-
--- the keys of a document
-abbrev pub document_keys : List (List ℕ)
-document_keys =
-    codes "listen" ∷ codes "admin" ∷ codes "shards" ∷ codes "capacity" ∷ codes "rows" ∷ codes "journal" ∷ codes "deadline"
-    ∷ codes "preview_limit" ∷ codes "allow_limit" ∷ codes "window" ∷ codes "retry" ∷ codes "wait" ∷ codes "log"
-    ∷ codes "log_query" ∷ codes "metrics" ∷ codes "dial" ∷ codes "service_idle" ∷ codes "options_ttl" ∷ codes "head_deadline"
-    ∷ codes "connect_deadline"
-    ∷ codes "hosts" ∷ codes "reqmod" ∷ codes "respmod" ∷ []
 
 -- the keys of a service's table
 abbrev pub service_keys : List (List ℕ)

@@ -1,9 +1,13 @@
 -- What single values of a TOML table say.
-use Rattle.std.specs.Prelude.{◌≡◌, ◌≢◌, ℕ, ℤ, pos, negsuc, List, Bool, ◌&&◌, nat_le, if◌then◌else◌, Option, Some, None}
+use Rattle.std.specs.Prelude.{◌≡◌, ◌≢◌, ◌≤◌, ℕ, ℤ, pos, negsuc, List, Bool, ◌&&◌, nat_le, if◌then◌else◌, Option, Some, None}
 use Rattle.toml.specs.Data.{Data, integer, Members, get_member, as_bool, as_str}
 use Rattle.std.specs.declared.net.socket_addr.SocketAddrV4.{SocketAddrV4}
 use Rattle.std.specs.Net.Grammar.{IsSocketV4Text}
 use Rattle.std.specs.Net.Socket.{v4_port}
+
+-- the number lies in the range
+abbrev pub IsWithin : (low high number : ℕ) → Type 0
+IsWithin low high number = (low ≤ number) × (number ≤ high)
 
 -- a whole number in the range
 abbrev pub natural_in : ℕ → ℕ → ℤ → Option ℕ

@@ -1,11 +1,26 @@
 //! The configuration as a whole.
 
-ghost use Rattle.proxy_config.specs.Sizes.{AreTimes, IsInRange};
+ghost use Rattle.proxy_config.specs.Values.{IsWithin};
+ghost use Rattle.adapt_bytes.specs.declared.limits.TheConstants.{MAX_ALLOW_LIMIT, MAX_PREVIEW, MAX_WINDOW};
+ghost use Rattle.span_bank.specs.declared.limits.TheConstants.{MAX_CAPACITY, MAX_ROWS};
+ghost use Rattle.proxy_config.specs.declared.limits.TheConstants.{MAX_SHARDS};
 
-use crate::dial::Dial;
+use crate::dial::{Dial, read_dial};
+use crate::fault::ConfigFault;
 use crate::host_table::Hosts;
+use crate::hosts::read_hosts;
+use crate::limits::MAX_SHARDS;
+use crate::log::read_log;
 use crate::point::ServicePoint;
+use crate::ports::{read_admin, read_metrics};
+use crate::services::read_point;
+use crate::unknown::check_keys;
+use crate::values::{read_address, read_number, read_truth};
+use adapt_bytes::{MAX_ALLOW_LIMIT, MAX_PREVIEW, MAX_WINDOW};
+use span_bank::{MAX_CAPACITY, MAX_ROWS};
+use std::alloc::Global;
 use std::net::SocketAddrV4;
+use toml::Table;
 
 /// The configuration of `adaptproxy serve`.
 ///
@@ -65,6 +80,79 @@ pub struct Config {
     pub reqmod: Option<ServicePoint>,
     /// The service of responses; none where they aren't adapted.
     pub respmod: Option<ServicePoint>,
-    ghost in_range: { IsInRange shards capacity rows journal deadline preview_limit allow_limit window wait },
-    ghost times: { AreTimes service_idle options_ttl head_deadline connect_deadline },
+    ghost in_range: { IsWithin 1 MAX_SHARDS shards × IsWithin 1 MAX_CAPACITY capacity × IsWithin 1 MAX_ROWS rows
+        × IsWithin 1 65536 journal × IsWithin 1 3600 deadline × IsWithin 0 MAX_PREVIEW preview_limit
+        × IsWithin 0 MAX_ALLOW_LIMIT allow_limit × IsWithin 1 MAX_WINDOW window × IsWithin 0 3600 wait
+        × IsWithin 0 3600 service_idle × IsWithin 0 2147483648 options_ttl × IsWithin 0 3600 head_deadline
+        × IsWithin 0 3600 connect_deadline },
+}
+
+/// The names of the keys.
+pub(crate) const KEYS: [&str; 23] = [
+    "listen",
+    "admin",
+    "shards",
+    "capacity",
+    "rows",
+    "journal",
+    "deadline",
+    "preview_limit",
+    "allow_limit",
+    "window",
+    "retry",
+    "wait",
+    "log",
+    "log_query",
+    "metrics",
+    "dial",
+    "service_idle",
+    "options_ttl",
+    "head_deadline",
+    "connect_deadline",
+    "hosts",
+    "reqmod",
+    "respmod",
+];
+
+impl Config {
+    ghost use Rattle.std.specs.Prelude.{IfOk, IfErr};
+    ghost use Rattle.toml.specs.View.{table_view};
+    ghost use Rattle.proxy_config.specs.Config.{IsConfig, IsFirstFault};
+    ghost use Rattle.proxy_config.specs.Fault.{Names};
+
+    /// Reads a configuration out of its document, a line a key: its name, the range of a number, and its default.
+    pub(crate) fn read(alloc: Global, table: &Table) -> Result<Config, ConfigFault>
+        ensures ok { IfOk result (IsConfig (table_view table.now)) }
+        ensures err { IfErr result (Names (IsFirstFault (table_view table.now))) }
+    {
+        let listen = read_address(alloc, table, "listen")?;
+        let admin = read_admin(alloc, table, listen)?;
+        let config = Config {
+            listen,
+            admin,
+            shards: read_number(alloc, table, "shards", 1, MAX_SHARDS, 2)?,
+            capacity: read_number(alloc, table, "capacity", 1, MAX_CAPACITY, 16_777_216)?,
+            rows: read_number(alloc, table, "rows", 1, MAX_ROWS, 256)?,
+            journal: read_number(alloc, table, "journal", 1, 65_536, 1_024)?,
+            deadline: read_number(alloc, table, "deadline", 1, 3_600, 60)?,
+            preview_limit: read_number(alloc, table, "preview_limit", 0, MAX_PREVIEW, 1_024)?,
+            allow_limit: read_number(alloc, table, "allow_limit", 0, MAX_ALLOW_LIMIT, 65_536)?,
+            window: read_number(alloc, table, "window", 1, MAX_WINDOW, 8_192)?,
+            retry: read_truth(alloc, table, "retry", true)?,
+            wait: read_number(alloc, table, "wait", 0, 3_600, 0)?,
+            log: read_log(alloc, table)?,
+            log_query: read_truth(alloc, table, "log_query", true)?,
+            metrics: read_metrics(alloc, table, listen, admin)?,
+            dial: read_dial(alloc, table)?,
+            service_idle: read_number(alloc, table, "service_idle", 0, 3_600, 60)?,
+            options_ttl: read_number(alloc, table, "options_ttl", 0, 2_147_483_648, 0)?,
+            head_deadline: read_number(alloc, table, "head_deadline", 0, 3_600, 0)?,
+            connect_deadline: read_number(alloc, table, "connect_deadline", 0, 3_600, 0)?,
+            hosts: read_hosts(alloc, table)?,
+            reqmod: read_point(alloc, table, "reqmod")?,
+            respmod: read_point(alloc, table, "respmod")?,
+        };
+        check_keys(alloc, table)?;
+        Ok(config)
+    }
 }

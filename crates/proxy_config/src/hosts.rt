@@ -5,11 +5,14 @@ ghost use Rattle.std.specs.List.Sorted.{IsNonDecreasingBy};
 ghost use Rattle.std.specs.declared.net.socket_addr.SocketAddrV4.{SocketAddrV4 as AnyAddress};
 ghost use Rattle.toml.specs.Data.{Members};
 ghost use Rattle.toml.specs.View.{view, table_view};
+ghost use Rattle.proxy_config.specs.Config.{IsFirstFault};
 ghost use Rattle.proxy_config.specs.Fault.{Names, IsFaultAt};
 ghost use Rattle.proxy_config.specs.HostNames.{host_names, is_seen, HasEach, IsHostFault, IsHostsOf, IsInHosts, Marks};
 ghost use Rattle.proxy_config.specs.Hosts.{address_of_name, found_host, port_or, IsAt};
+ghost use Rattle.proxy_config.specs.Keys.Kind.{host_table};
 ghost use Rattle.proxy_config.specs.Names.{number_of_name};
 ghost use Rattle.proxy_config.specs.Order.{nested};
+ghost use Rattle.proxy_config.specs.Turns.{IsNext, IsPast};
 ghost use Rattle.proxy_config.specs.Values.{IsAddress};
 ghost use Rattle.proxy_config.specs.declared.host.Host.{Host as AnyHost};
 
@@ -149,8 +152,10 @@ fn read_names(alloc: Global, table: &Table) -> Result<Vec<Host>, ConfigFault>
 /// Reads the table of host names, which may be missing. Names that differ in ASCII case alone are a fault of the later
 /// one, in the order of their bytes.
 pub(crate) fn read_hosts(alloc: Global, table: &Table) -> Result<Hosts, ConfigFault>
+    requires { IsNext (codes "hosts") host_table (table_view table.now) }
     ensures ok { IfOk result (IsHostsOf (table_view table.now)) }
-    ensures err { IfErr result (Names (IsHostFault (table_view table.now))) }
+    ensures past { IfOk result (λ _. IsPast (codes "hosts") (table_view table.now)) }
+    ensures err { IfErr result (Names (IsFirstFault (table_view table.now))) }
 {
     let all = read_names(alloc, table)?;
     Ok(sorted(all)?)

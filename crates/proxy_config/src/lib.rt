@@ -7,7 +7,6 @@
 #![tactic(auto)]
 
 mod config;
-mod defaults;
 mod dial;
 mod fault;
 mod host;
@@ -19,7 +18,6 @@ mod point;
 mod ports;
 mod reading;
 mod services;
-mod tuning;
 mod unknown;
 mod values;
 

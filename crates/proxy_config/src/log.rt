@@ -1,10 +1,13 @@
 //! Reading where the log is.
 
 ghost use Rattle.std.specs.Prelude.{◌≡◌, IfOk, IfErr, Some, option_map, option_copied, string_bytes, codes};
+ghost use Rattle.toml.specs.Data.{get_member};
 ghost use Rattle.toml.specs.View.{table_view};
+ghost use Rattle.proxy_config.specs.Config.{IsFirstFault};
 ghost use Rattle.proxy_config.specs.Fault.{Names};
-ghost use Rattle.proxy_config.specs.Log.{is_log_path, log_of};
-ghost use Rattle.proxy_config.specs.Order.{ValueFirst};
+ghost use Rattle.proxy_config.specs.Keys.Kind.{log_path};
+ghost use Rattle.proxy_config.specs.Log.{is_log_path, path_or_none};
+ghost use Rattle.proxy_config.specs.Turns.{IsNext, IsPast};
 
 use crate::fault::{ConfigFault, at_key};
 use crate::values::value_of;
@@ -24,7 +27,7 @@ fn is_log_path(path: &str) -> bool
 
 /// The path of the log, where the key is there. `None` where its value is no path.
 fn log_path(table: &Table) -> Option<Option<&str>>
-    ensures { option_map option_copied result ≡ log_of (table_view table.now) }
+    ensures { option_map option_copied result ≡ path_or_none (get_member (codes "log") (table_view table.now)) }
 {
     let Some(value) = value_of(table, "log") else {
         return Some(None);
@@ -37,8 +40,10 @@ fn log_path(table: &Table) -> Option<Option<&str>>
 
 /// Reads the path of the log; none where the key is missing.
 pub(crate) fn read_log(alloc: Global, table: &Table) -> Result<Option<String>, ConfigFault>
-    ensures ok { IfOk result (λ log. log_of (table_view table.now) ≡ Some (option_map string_bytes log)) }
-    ensures err { IfErr result (Names (ValueFirst (codes "log") (log_of (table_view table.now)) ⊥)) }
+    requires { IsNext (codes "log") log_path (table_view table.now) }
+    ensures ok { IfOk result (λ log. path_or_none (get_member (codes "log") (table_view table.now)) ≡ Some (option_map string_bytes log)) }
+    ensures past { IfOk result (λ _. IsPast (codes "log") (table_view table.now)) }
+    ensures err { IfErr result (Names (IsFirstFault (table_view table.now))) }
 {
     match log_path(table) {
         Some(None) => Ok(None),

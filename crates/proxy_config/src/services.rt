@@ -3,11 +3,13 @@
 ghost use Rattle.std.specs.Prelude.{◌≡◌, ◌↔◌, IfOk, IfErr, IfSome, IfNone, IsTrue, Some, None, option_copied, codes};
 ghost use Rattle.std.specs.Net.Grammar.{IsIpv4Text};
 ghost use Rattle.toml.specs.View.{table_view};
+ghost use Rattle.proxy_config.specs.Config.{IsFirstFault};
 ghost use Rattle.proxy_config.specs.Fault.{Names, IsFaultAt};
+ghost use Rattle.proxy_config.specs.Keys.Kind.{service};
 ghost use Rattle.proxy_config.specs.Order.{nested};
 ghost use Rattle.proxy_config.specs.Services.{text_at, is_path_text, IsServicePath, HasHost, HasPath, IsServicePoint, IsServiceOf, IsInService, IsServiceFault};
+ghost use Rattle.proxy_config.specs.Turns.{IsNext, IsPast};
 
-use crate::defaults::{CONNECTIONS, PORT};
 use crate::fault::{ConfigFault, at_nested, needed};
 use crate::point::ServicePoint;
 use crate::values::{number_or, value_of};
@@ -19,6 +21,12 @@ use toml::Table;
 
 /// The most bytes of a path.
 const MAX_PATH: usize = 1024;
+
+/// The port where the key is missing (RFC 3507, section 4.2).
+const PORT: u64 = 1_344;
+
+/// The connections to a service where the key is missing.
+const CONNECTIONS: u64 = 8;
 
 /// The text of a key.
 fn text<'a>(table: &'a Table, key: &str) -> Option<&'a str>
@@ -99,8 +107,10 @@ pub(crate) fn read_point(
     table: &Table,
     point: &str,
 ) -> Result<Option<ServicePoint>, ConfigFault>
+    requires { IsNext point.now service (table_view table.now) }
     ensures ok { IfOk result (IsServiceOf point.now (table_view table.now)) }
-    ensures err { IfErr result (Names (IsServiceFault point.now (table_view table.now))) }
+    ensures past { IfOk result (λ _. IsPast point.now (table_view table.now)) }
+    ensures err { IfErr result (Names (IsFirstFault (table_view table.now))) }
 {
     let Some(value) = value_of(table, point) else {
         return Ok(None);

@@ -1,43 +1,18 @@
 //! Keys that nothing here has.
 
-ghost use Rattle.std.specs.Prelude.{◌≡◌, ◌↔◌, ℕ, List, IfOk, IfErr, IsTrue, Contains, option_copied, option_map, string_bytes};
+ghost use Rattle.std.specs.Prelude.{◌≡◌, ◌↔◌, ℕ, List, IfOk, IfErr, IsTrue, Contains, option_copied, option_map, string_bytes, codes};
 ghost use Rattle.toml.specs.View.{table_view};
+ghost use Rattle.proxy_config.specs.Config.{IsFirstFault};
 ghost use Rattle.proxy_config.specs.Fault.{Names};
-ghost use Rattle.proxy_config.specs.Order.{IsFirst, first_text, IsFirstOrNone};
+ghost use Rattle.proxy_config.specs.Order.{first_text, IsFirstOrNone};
+ghost use Rattle.proxy_config.specs.Turns.{IsPast};
 ghost use Rattle.proxy_config.specs.Unknown.{texts, HasOther, IsUnknownOf, IsUnknown};
 
 use crate::fault::{ConfigFault, at_key, nested};
-use crate::point;
 use crate::values::table_of;
+use crate::{config, point};
 use std::alloc::{AllocError, Global};
 use toml::Table;
-
-/// The keys of the document.
-const KEYS: [&str; 23] = [
-    "listen",
-    "admin",
-    "shards",
-    "capacity",
-    "rows",
-    "journal",
-    "deadline",
-    "preview_limit",
-    "allow_limit",
-    "window",
-    "retry",
-    "wait",
-    "log",
-    "log_query",
-    "metrics",
-    "dial",
-    "service_idle",
-    "options_ttl",
-    "head_deadline",
-    "connect_deadline",
-    "hosts",
-    "reqmod",
-    "respmod",
-];
 
 /// Whether the key is one of those that are known.
 fn is_known(known: &[&str], key: &str) -> bool
@@ -94,13 +69,14 @@ fn text_of(key: &Option<String>) -> Option<&str>
 
 /// Finds fault with the first unknown key, in the order of their bytes.
 pub(crate) fn check_keys(alloc: Global, table: &Table) -> Result<(), ConfigFault>
+    requires { IsPast (codes "respmod") (table_view table.now) }
     ensures ok { IfOk result (λ _. (key : List ℕ) → IsUnknown (table_view table.now) key → ⊥) }
-    ensures err { IfErr result (Names (IsFirst (IsUnknown (table_view table.now)))) }
+    ensures err { IfErr result (Names (IsFirstFault (table_view table.now))) }
 {
     let reqmod = unknown_of_point(alloc, table, "reqmod")?;
     let respmod = unknown_of_point(alloc, table, "respmod")?;
     let of_points = first_of(text_of(&reqmod), text_of(&respmod));
-    match first_of(first_unknown(table, &KEYS), of_points) {
+    match first_of(first_unknown(table, &config::KEYS), of_points) {
         Some(key) => Err(at_key(alloc, key)),
         None => Ok(()),
     }

@@ -6,8 +6,11 @@ ghost use Rattle.std.specs.Net.Socket.{v4_port};
 ghost use Rattle.toml.specs.View.{view, table_view};
 ghost use Rattle.toml.specs.Data.{get_member, as_table};
 ghost use Rattle.std.specs.declared.net.socket_addr.SocketAddrV4.{SocketAddrV4 as AnyAddress};
-ghost use Rattle.proxy_config.specs.Fault.{IsFaultAt};
-ghost use Rattle.proxy_config.specs.Values.{number_at, number_in, number_or, truth_or, IsAddress, HasAddress};
+ghost use Rattle.proxy_config.specs.Config.{IsFirstFault};
+ghost use Rattle.proxy_config.specs.Fault.{Names};
+ghost use Rattle.proxy_config.specs.Keys.Kind.{number, truth, address};
+ghost use Rattle.proxy_config.specs.Turns.{IsNext, IsPast};
+ghost use Rattle.proxy_config.specs.Values.{number_at, number_in, number_or, truth_or, IsAddress, HasAddress, IsWithin};
 
 use crate::fault::{ConfigFault, needed};
 use std::alloc::Global;
@@ -59,28 +62,8 @@ pub(crate) fn number_or(table: &Table, key: &str, low: u64, high: u64, other: u6
     }
 }
 
-/// The number of a key, or the fault of the key.
-pub(crate) fn number(
-    alloc: Global,
-    table: &Table,
-    key: &str,
-    low: u64,
-    high: u64,
-    other: u64,
-) -> Result<u64, ConfigFault>
-    requires low { low ≤ other }
-    requires high { other ≤ high }
-    ensures low { IfOk result (λ n. low ≤ n) }
-    ensures high { IfOk result (λ n. n ≤ high) }
-    ensures ok { IfOk result (λ n. number_at key.now low high other (table_view table.now) ≡ Some n) }
-    ensures none { IfErr result (λ _. number_at key.now low high other (table_view table.now) ≡ None) }
-    ensures err { IfErr result (IsFaultAt key.now) }
-{
-    needed(alloc, key, number_or(table, key, low, high, other))
-}
-
 /// The truth value of a key; `other` where the key is missing.
-pub(crate) fn truth_or(table: &Table, key: &str, other: bool) -> Option<bool>
+fn truth_or(table: &Table, key: &str, other: bool) -> Option<bool>
     ensures { result ≡ truth_or other (get_member key.now (table_view table.now)) }
 {
     match value_of(table, key) {
@@ -126,4 +109,53 @@ pub(crate) fn address(table: &Table, key: &str) -> Option<SocketAddrV4>
         Some(value) => address_of(value),
         None => None,
     }
+}
+
+/// Reads the number of a key of the document; `other` where the key is missing.
+pub(crate) fn read_number(
+    alloc: Global,
+    table: &Table,
+    key: &str,
+    low: u64,
+    high: u64,
+    other: u64,
+) -> Result<u64, ConfigFault>
+    requires low { low ≤ other }
+    requires high { other ≤ high }
+    requires next { IsNext key.now (number low high other) (table_view table.now) }
+    ensures range { IfOk result (IsWithin low high) }
+    ensures ok { IfOk result (λ n. number_at key.now low high other (table_view table.now) ≡ Some n) }
+    ensures past { IfOk result (λ _. IsPast key.now (table_view table.now)) }
+    ensures err { IfErr result (Names (IsFirstFault (table_view table.now))) }
+{
+    needed(alloc, key, number_or(table, key, low, high, other))
+}
+
+/// Reads the truth value of a key of the document; `other` where the key is missing.
+pub(crate) fn read_truth(
+    alloc: Global,
+    table: &Table,
+    key: &str,
+    other: bool,
+) -> Result<bool, ConfigFault>
+    requires { IsNext key.now (truth other) (table_view table.now) }
+    ensures ok { IfOk result (λ b. truth_or other (get_member key.now (table_view table.now)) ≡ Some b) }
+    ensures past { IfOk result (λ _. IsPast key.now (table_view table.now)) }
+    ensures err { IfErr result (Names (IsFirstFault (table_view table.now))) }
+{
+    needed(alloc, key, truth_or(table, key, other))
+}
+
+/// Reads the IPv4 address and port of a key of the document.
+pub(crate) fn read_address(
+    alloc: Global,
+    table: &Table,
+    key: &str,
+) -> Result<SocketAddrV4, ConfigFault>
+    requires { IsNext key.now address (table_view table.now) }
+    ensures ok { IfOk result (HasAddress key.now (table_view table.now)) }
+    ensures past { IfOk result (λ _. IsPast key.now (table_view table.now)) }
+    ensures err { IfErr result (Names (IsFirstFault (table_view table.now))) }
+{
+    needed(alloc, key, address(table, key))
 }

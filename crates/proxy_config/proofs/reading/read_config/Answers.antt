@@ -13,5 +13,5 @@ returns-in-Ok-table_from_str-clause-err c =
     c.args.text.now
     (table_view c.in-Ok-table_from_str.table)
     parsed
-    c.read_table.result
-    c.read_table.ensures.err
+    c.read.result
+    c.read.ensures.err

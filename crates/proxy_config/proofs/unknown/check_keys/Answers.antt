@@ -1,8 +1,10 @@
 -- The first of the document's and the points' first unknown keys is the first of all.
 use Rattle.std.proofs.Common.{◌≡◌, ℕ, List, Option, Some, None, option_copied, option_map, string_bytes, ap, ◌∙◌, subst}
 use Rattle.toml.specs.View.{table_view}
-use Rattle.proxy_config.specs.Order.{IsFirst, IsFirstOrNone, first_text}
+use Rattle.proxy_config.specs.Config.{IsFirstFault}
+use Rattle.proxy_config.specs.Order.{IsFirstOrNone, first_text}
 use Rattle.proxy_config.specs.Unknown.{IsUnknown}
+use Rattle.proxy_config.proofs.Judging.{first_unknown_fault}
 use Rattle.proxy_config.proofs.Refusals.{names_it}
 use Rattle.proxy_config.proofs.UnknownKeys.{first_unknown_key}
 use Rattle.proxy_config.proofs.unknown.check_keys.Goals as goal
@@ -30,7 +32,7 @@ returns-in-Some-clause-err c =
     let all = first_unknown_key document a b d (option_copied c.first_of.result) found c.first_unknown.ensures c.in_ok-reqmod.ensures c.in_ok-respmod.ensures in
     let is : option_copied c.first_of.result ≡ Some c.in-Some.key.now = ap option_copied c.in-Some.is in
     let P : Option (List ℕ) → Type 0 = λ text. IsFirstOrNone (IsUnknown document) text in
-    names_it c.in-Some.key.now (IsFirst (IsUnknown document)) (subst P is all) c.at_key.result c.at_key.ensures
+    names_it c.in-Some.key.now (IsFirstFault document) (first_unknown_fault document c.requires c.in-Some.key.now (subst P is all)) c.at_key.result c.at_key.ensures
 
 pub returns-clause-ok : goal.returns-clause-ok
 returns-clause-ok c =

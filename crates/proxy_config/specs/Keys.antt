@@ -1,0 +1,103 @@
+-- The keys of a configuration: one row a key, in the order in which they are judged.
+use Rattle.std.specs.Prelude.{◌≡◌, ℕ, List, [], ◌∷◌, map, Bool, true, Option, Some, codes, option_map, string_bytes}
+use Rattle.std.specs.declared.net.socket_addr.SocketAddrV4.{SocketAddrV4}
+use Rattle.toml.specs.Data.{Members, get_member}
+use Rattle.adapt_bytes.specs.declared.limits.TheConstants.{MAX_ALLOW_LIMIT, MAX_PREVIEW, MAX_WINDOW}
+use Rattle.span_bank.specs.declared.limits.TheConstants.{MAX_CAPACITY, MAX_ROWS}
+use Rattle.proxy_config.specs.declared.limits.TheConstants.{MAX_SHARDS}
+use Rattle.proxy_config.specs.declared.config.Config.{Config}
+use Rattle.proxy_config.specs.declared.dial.Dial.{Dial}
+use Rattle.proxy_config.specs.declared.host_table.Hosts.{Hosts}
+use Rattle.proxy_config.specs.declared.point.ServicePoint.{ServicePoint}
+use Rattle.proxy_config.specs.Values.{number_at, truth_or, HasAddress}
+use Rattle.proxy_config.specs.Ports.{IsAdmin, IsMetrics}
+use Rattle.proxy_config.specs.Log.{path_or_none}
+use Rattle.proxy_config.specs.Dial.{dial_or}
+use Rattle.proxy_config.specs.HostNames.{IsHostsOf, IsHostFault}
+use Rattle.proxy_config.specs.Services.{IsServiceOf, IsServiceFault}
+
+-- what the value of a key may be; a number has a range, and like a truth value a default
+pub data Kind : Type 0 where
+  number : (low high other : ℕ) → Kind
+  truth : (other : Bool) → Kind
+  address : Kind
+  admin_address : Kind
+  metrics_address : Kind
+  log_path : Kind
+  dial_time : Kind
+  host_table : Kind
+  service : Kind
+
+-- the values of a kind
+abbrev pub ValueOf : Kind → Type 0
+ValueOf (number low high other) = ℕ
+ValueOf (truth other) = Bool
+ValueOf address = SocketAddrV4
+ValueOf admin_address = SocketAddrV4
+ValueOf metrics_address = Option SocketAddrV4
+ValueOf log_path = Option (List ℕ)
+ValueOf dial_time = Dial
+ValueOf host_table = Hosts
+ValueOf service = Option ServicePoint
+
+-- the value that a document says for a key, its default where the key is missing
+abbrev pub Says : (kind : Kind) → List ℕ → Members → ValueOf kind → Type 0
+Says (number low high other) name document value = number_at name low high other document ≡ Some value
+Says (truth other) name document value = truth_or other (get_member name document) ≡ Some value
+Says address name document value = HasAddress name document value
+Says admin_address name document value = IsAdmin document value
+Says metrics_address name document value = IsMetrics document value
+Says log_path name document value = path_or_none (get_member name document) ≡ Some value
+Says dial_time name document value = dial_or (get_member name document) ≡ Some value
+Says host_table name document value = IsHostsOf document value
+Says service name document value = IsServiceOf name document value
+
+-- a key is good where the document says a value for it
+abbrev pub IsGood : Kind → List ℕ → Members → Type 0
+IsGood kind name document = (value : ValueOf kind) × Says kind name document value
+
+-- the key at fault where a key isn't good: this one, or one in its table
+abbrev pub IsFaultOf : Kind → List ℕ → Members → List ℕ → Type 0
+IsFaultOf host_table name document found = IsHostFault document found
+IsFaultOf service name document found = IsServiceFault name document found
+IsFaultOf kind name document found = (IsGood kind name document → ⊥) × (found ≡ name)
+
+-- a key: its name, the kind of its value, and where in a configuration its value goes
+pub record Row : Type 0 where
+  pub name : List ℕ
+  pub kind : Kind
+  pub goes : Config → ValueOf kind
+
+abbrev pub row : List ℕ → (kind : Kind) → (Config → ValueOf kind) → Row
+row name kind goes = record { name = name; kind = kind; goes = goes }
+
+abbrev pub table : List Row
+table =
+    row (codes "listen") address (λ c. c.listen)
+    ∷ row (codes "admin") admin_address (λ c. c.admin)
+    ∷ row (codes "shards") (number 1 MAX_SHARDS 2) (λ c. c.shards)
+    ∷ row (codes "capacity") (number 1 MAX_CAPACITY 16777216) (λ c. c.capacity)
+    ∷ row (codes "rows") (number 1 MAX_ROWS 256) (λ c. c.rows)
+    ∷ row (codes "journal") (number 1 65536 1024) (λ c. c.journal)
+    ∷ row (codes "deadline") (number 1 3600 60) (λ c. c.deadline)
+    ∷ row (codes "preview_limit") (number 0 MAX_PREVIEW 1024) (λ c. c.preview_limit)
+    ∷ row (codes "allow_limit") (number 0 MAX_ALLOW_LIMIT 65536) (λ c. c.allow_limit)
+    ∷ row (codes "window") (number 1 MAX_WINDOW 8192) (λ c. c.window)
+    ∷ row (codes "retry") (truth true) (λ c. c.retry)
+    ∷ row (codes "wait") (number 0 3600 0) (λ c. c.wait)
+    ∷ row (codes "log") log_path (λ c. option_map string_bytes c.log)
+    ∷ row (codes "log_query") (truth true) (λ c. c.log_query)
+    ∷ row (codes "metrics") metrics_address (λ c. c.metrics)
+    ∷ row (codes "dial") dial_time (λ c. c.dial)
+    ∷ row (codes "service_idle") (number 0 3600 60) (λ c. c.service_idle)
+    ∷ row (codes "options_ttl") (number 0 2147483648 0) (λ c. c.options_ttl)
+    ∷ row (codes "head_deadline") (number 0 3600 0) (λ c. c.head_deadline)
+    ∷ row (codes "connect_deadline") (number 0 3600 0) (λ c. c.connect_deadline)
+    ∷ row (codes "hosts") host_table (λ c. c.hosts)
+    ∷ row (codes "reqmod") service (λ c. c.reqmod)
+    ∷ row (codes "respmod") service (λ c. c.respmod)
+    ∷ []
+
+-- the names of the keys
+abbrev pub document_keys : List (List ℕ)
+document_keys = map (λ row. row.name) table
