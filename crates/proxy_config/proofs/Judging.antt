@@ -77,3 +77,8 @@ said (Some value) says is = sym is
 pub unsaid : {A : Type 0} (found says : Option A) → found ≡ says → IfNone found ((value : A) → says ≡ Some value → ⊥)
 unsaid None says is = λ value some. cc
 unsaid (Some value) says is = tt
+
+-- two facts, one after the other
+infixr 4 ◌&◌
+pub ◌&◌ : {P Q : Type 0} → P → Q → P × Q
+p & q = (p, q)

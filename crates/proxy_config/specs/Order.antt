@@ -2,20 +2,11 @@
 use Rattle.std.specs.Prelude.{◌≡◌, ℕ, ◌⊎◌, List, ◌++◌, Bool, if◌then◌else◌, Option, Some, None, MatchOption, IsSome, IsTrue, codes}
 use Rattle.std.specs.Ordering.{is_lt, nat_cmp}
 use Rattle.std.specs.Cmp.Lexicographic.{slice_cmp}
-use Rattle.std.specs.declared.net.socket_addr.SocketAddrV4.{SocketAddrV4}
 use Rattle.toml.specs.Data.{Members, get_member}
-use Rattle.proxy_config.specs.Values.{HasAddress}
 
 -- the key at fault: this one if it is bad, else one of the keys after it
 abbrev pub FirstOf : List ℕ → Type 0 → Type 0 → Type 0 → List ℕ → Type 0
 FirstOf key good bad later found = (bad × (found ≡ key)) ⊎ (good × later)
-
--- by a key that needs an address
-abbrev pub AddressFirst : List ℕ → Members → Type 0 → List ℕ → Type 0
-AddressFirst key document later found = FirstOf key
-    ((address : SocketAddrV4) × HasAddress key document address)
-    ((address : SocketAddrV4) → HasAddress key document address → ⊥)
-    later found
 
 -- by a key with a value that may be bad
 abbrev pub ValueFirst : {A : Type 0} → List ℕ → Option A → Type 0 → List ℕ → Type 0
