@@ -1,5 +1,7 @@
 //! Loops in threads, over loopback: they echo.
 
+ghost use Rattle.std.specs.Prelude.{⊤};
+
 use crate::streams::{gets, say};
 use event_loop::{
     AdminPorts, Admitted, Base, Driven, Ended, Entrance, Handed, Inbox, Request, Room, Told,
@@ -8,7 +10,7 @@ use event_loop::{
 use mio::net::TcpListener;
 use mio::{Registry, Token};
 use slab::Slab;
-use socket_wire::{Dial, MAX_KEY, Peer, Readiness, SocketWire, Stream, UserWire, token_of};
+use socket_wire::{Dial, Peer, Readiness, SocketWire, Stream, UserWire, token_of};
 use std::alloc::{AllocError, Global};
 use std::net::{Ipv4Addr, SocketAddr, TcpStream as Client};
 use std::sync::{Arc, Mutex, Wait};
@@ -16,6 +18,9 @@ use std::test::Fail;
 use std::time::Clock;
 use std::{io, thread};
 use wire_kit::{Got, Wire};
+
+/// How many connections may echo at once.
+const SEATS: usize = 16;
 
 /// A connection that echoes, and its readiness.
 #[derive(Drop)]
@@ -44,7 +49,7 @@ fn take_in(echo: &mut Echo, registry: &Registry, user: Handed) -> Result<usize, 
     let mut wire = SocketWire::new(Stream::accepted(stream), ready.clone()?);
     echo.all.reserve(1)?;
     let key = echo.all.vacant_key();
-    if key > MAX_KEY
+    if key >= SEATS
         || wire
             .register(registry, Token(token_of(key, Peer::User)))
             .is_err()
@@ -69,6 +74,18 @@ fn echo_once(wire: &mut UserWire) -> Got {
 }
 
 impl Work for Echo {
+    // it keeps no record
+    ghost past = { λ echo past. ⊤ };
+
+    ghost Part = { ⊤ };
+
+    // nothing is said of it
+    ghost part = { λ echo key. tt };
+
+    ghost bound = { λ echo. 16 };
+
+    ghost queues = { λ echo. 0 };
+
     fn admit<R: Wait + Dial + Clock>(
         &mut self,
         _rt: &R,
@@ -110,6 +127,9 @@ impl Work for Echo {
         key: usize,
         _now: u64,
     ) -> Driven {
+        if key >= SEATS {
+            return Driven::Over;
+        }
         for _ in 0..2 {
             let got = match self.all.get_mut(key) {
                 Some(conn) => echo_once(&mut conn.wire),
@@ -127,16 +147,26 @@ impl Work for Echo {
         Driven::CutShort
     }
 
+    fn give_way<R: Wait + Dial + Clock>(
+        &mut self,
+        _rt: &R,
+        _registry: &Registry,
+        key: usize,
+        _now: u64,
+    ) {
+        let _ = self.all.try_remove(key);
+    }
+
     fn queues(&self) -> usize {
         0
     }
 
-    fn first_of<R: Wait>(&self, _rt: &R, _queue: usize) -> Option<usize> {
+    fn first_of<R: Wait>(&mut self, _rt: &R, _queue: usize) -> Option<usize> {
         None
     }
 
     fn bound(&self) -> usize {
-        16
+        SEATS
     }
 
     fn is_idle(&self) -> bool {

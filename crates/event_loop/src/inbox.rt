@@ -66,14 +66,6 @@ impl Inbox {
         Ok(is_first)
     }
 
-    /// Hands a user in, and wakes the loop, unless others lie here: it was woken for those. `Err` as above.
-    pub fn hand<R: Wait>(&self, rt: &R, user: Handed) -> Result<(), AllocError> {
-        if self.lay(rt, user)? {
-            self.wake();
-        }
-        Ok(())
-    }
-
     /// Takes all that were handed in, the oldest first.
     pub fn take_all<R: Wait>(&self, rt: &R, alloc: Global) -> Vec<Handed> {
         let mut users = self.users.lock(rt);

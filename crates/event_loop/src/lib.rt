@@ -7,9 +7,12 @@
 mod askers;
 mod binding;
 mod ended;
+mod event;
 mod inbox;
 mod looping;
+mod mail;
 mod ports;
+mod reports;
 mod threads;
 mod work;
 

@@ -1,6 +1,9 @@
 //! A loop: its poll, its events, and whom it drives.
 
-ghost use Rattle.std.specs.Prelude.{◌<◌, length};
+ghost use Rattle.std.specs.Prelude.{◌≡◌, ◌<◌, [], ℕ, true, false, length, IfOk, OnOk, IsSomeAnd, ⊤};
+ghost use Rattle.std.specs.Duration.{as_nanos};
+ghost use Rattle.loop_parts.specs.Marks.{is_marked};
+ghost use Rattle.event_loop.specs.Turns.{Does, Did, Gets, IsTied, ServesRound, polled, second};
 
 mod draining;
 mod driving;
@@ -10,12 +13,13 @@ mod turning;
 
 use crate::askers::Askers;
 use crate::ended::LoopFault;
-use crate::inbox::{Handed, Inbox, begin, have_begun, stop_all};
+use crate::inbox::{Inbox, begin, have_begun, stop_all};
 use crate::ports::Ports;
-use crate::work::{Told, Work};
+use crate::reports::Reports;
+use crate::work::Work;
 use loop_parts::ReadyList;
-use mio::{Events, Poll, Token};
-use socket_wire::{Dial, peer_of};
+use mio::{Poll, Token};
+use socket_wire::Dial;
 use std::alloc::Global;
 use std::io::{self, ErrorKind};
 use std::sync::Wait;
@@ -30,28 +34,17 @@ pub(crate) const ADMIN: Token = Token(usize::MAX - 8);
 
 pub(crate) const METRICS: Token = Token(usize::MAX - 12);
 
-/// The largest number of events that a poll reports at once.
-const EVENTS: usize = 256;
-
 /// How many seconds the threads of all loops have to begin.
 const BEGIN: u64 = 5;
 
 /// The milliseconds of a second.
 const SECOND: u64 = 1000;
 
-/// An event, as the poll reported it.
-#[derive(Clone, Copy)]
-struct Event {
-    token: usize,
-    told: Told,
-}
-
 /// One thread's loop. It takes its memory before its first turn, and needs no more to go on.
 #[derive(Drop)]
 pub struct EventLoop<K> {
     poll: Poll,
-    events: Events,
-    seen: Vec<Event>,
+    reports: Reports,
     ports: Option<Ports>,
     /// The administrator's connections, and those that read the counters.
     admin: Askers,
@@ -80,11 +73,10 @@ impl<K: Work> EventLoop<K> {
         metrics: Askers,
         start: Instant,
         work: K,
-    ) -> Result<EventLoop<K>, K> {
-        let Ok(events) = Events::with_capacity(alloc, EVENTS) else {
-            return Err(work);
-        };
-        let Ok(seen) = Vec::with_capacity(alloc, EVENTS) else {
+    ) -> Result<EventLoop<K>, K>
+        ensures { IfOk result (λ loop. IsTied K.Work loop) }
+    {
+        let Ok(reports) = Reports::new(alloc) else {
             return Err(work);
         };
         let Ok(ready) = ReadyList::new(alloc, work.bound()) else {
@@ -92,8 +84,7 @@ impl<K: Work> EventLoop<K> {
         };
         Ok(EventLoop {
             poll,
-            events,
-            seen,
+            reports,
             ports,
             admin,
             metrics,
@@ -111,8 +102,7 @@ impl<K: Work> EventLoop<K> {
     pub fn into_work(self) -> K {
         let EventLoop {
             poll: _,
-            events: _,
-            seen: _,
+            reports: _,
             ports: _,
             admin: _,
             metrics: _,
@@ -128,12 +118,16 @@ impl<K: Work> EventLoop<K> {
     }
 
     /// The moment, in seconds.
-    fn now(&self) -> u64 {
+    fn now(&self) -> u64
+        ensures { result ≡ second self.now }
+    {
         self.elapsed / SECOND
     }
 
     /// Reads the clock.
-    fn read_clock<R: Clock>(&mut self, rt: &R) -> io::Result<()> {
+    fn read_clock<R: Clock>(&mut self, rt: &R) -> io::Result<()>
+        ensures { Does K.Work self.old self.new [] }
+    {
         let elapsed = self.start.elapsed(rt)?;
         self.elapsed = elapsed
             .as_secs()
@@ -156,7 +150,9 @@ impl<K: Work> EventLoop<K> {
     }
 
     /// How long the next wait may be, for all that the loop serves.
-    fn patience(&self) -> Option<Duration> {
+    fn patience(&self) -> Option<Duration>
+        ensures { (key : ℕ) → is_marked self.now.ready key ≡ true → IsSomeAnd result (λ patience. as_nanos patience ≡ 0) }
+    {
         let least = self.patience_of_exchanges();
         match self.work.patience() {
             Some(most) => {
@@ -171,7 +167,9 @@ impl<K: Work> EventLoop<K> {
     }
 
     /// How long the next wait may be: the deadlines of exchanges are whole seconds of the loop's clock.
-    fn patience_of_exchanges(&self) -> Option<Duration> {
+    fn patience_of_exchanges(&self) -> Option<Duration>
+        ensures { (key : ℕ) → is_marked self.now.ready key ≡ true → IsSomeAnd result (λ patience. as_nanos patience ≡ 0) }
+    {
         if !self.ready.is_empty() || self.admin.are_behind() || self.metrics.are_behind() {
             return Some(Duration::from_millis(0));
         }
@@ -222,27 +220,70 @@ impl<K: Work> EventLoop<K> {
     {
         begin(number, inboxes);
         for _ in rt.forever() {
-            let patience = self.patience();
-            self.poll.poll(&mut self.events, patience)?;
-            let before = self.now();
-            self.read_clock(rt)?;
-            if inboxes[number].is_stopping() {
+            if self.round(rt, alloc, number, inboxes)? {
                 return Ok(());
-            }
-            self.wait_for_all(inboxes)?;
-            if inboxes[number].is_draining() {
-                self.drain(rt, inboxes)?;
-            }
-            self.turn(rt, alloc, number, inboxes)?;
-            if before != self.now() {
-                self.drive_all(rt)?;
             }
         }
         unreachable!()
     }
 
+    /// Waits for events and serves a turn; all exchanges are driven once a second begins. True if the loop has to stop.
+    fn round<R: Wait + Dial + Clock>(
+        &mut self,
+        rt: &R,
+        alloc: Global,
+        number: usize,
+        inboxes: &[Inbox],
+    ) -> io::Result<bool>
+        requires { number < length inboxes.now }
+        ensures { IfOk result (λ stops. stops ≡ false
+            → Did K.Work (polled self.old self.new) self.new (ServesRound K.Work self.old self.new)) }
+    {
+        let patience = self.patience();
+        self.reports.wait(&mut self.poll, patience)?;
+        let before = self.now();
+        self.read_clock(rt)?;
+        if inboxes[number].is_stopping() {
+            return Ok(true);
+        }
+        self.wait_for_all(inboxes)?;
+        self.drain_if_asked(rt, number, inboxes)?;
+        self.turn(rt, alloc, number, inboxes)?;
+        self.drive_late(rt, before)?;
+        Ok(false)
+    }
+
+    /// Lets users go, if it was asked to.
+    fn drain_if_asked<R: Wait + Dial + Clock>(
+        &mut self,
+        rt: &R,
+        number: usize,
+        inboxes: &[Inbox],
+    ) -> io::Result<()>
+        requires { number < length inboxes.now }
+        ensures { Did K.Work self.old self.new (λ deeds. ⊤) }
+    {
+        if inboxes[number].is_draining() {
+            self.drain(rt, inboxes)?;
+        }
+        Ok(())
+    }
+
+    /// Drives all exchanges, for their deadlines, where the second is no longer this one.
+    fn drive_late<R: Wait + Dial + Clock>(&mut self, rt: &R, before: u64) -> io::Result<()>
+        ensures { Did K.Work self.old self.new (λ deeds. OnOk result ((second self.new ≡ before → ⊥)
+            → (key : ℕ) → key < K.bound self.old.work → Gets key deeds self.new.ready)) }
+    {
+        if before != self.now() {
+            self.drive_all(rt)?;
+        }
+        Ok(())
+    }
+
     /// Sees that every loop begins. `Err` where one hasn't for too long, as where the system gives no thread for it.
-    fn wait_for_all(&mut self, inboxes: &[Inbox]) -> io::Result<()> {
+    fn wait_for_all(&mut self, inboxes: &[Inbox]) -> io::Result<()>
+        ensures { Does K.Work self.old self.new [] }
+    {
         if self.complete || have_begun(inboxes) {
             self.complete = true;
             return Ok(());
@@ -251,23 +292,5 @@ impl<K: Work> EventLoop<K> {
             return Ok(());
         }
         Err(io::Error::from(ErrorKind::TimedOut))
-    }
-
-    /// Notes the events down, as plain words.
-    fn look(&mut self) {
-        self.seen.clear();
-        for event in &self.events {
-            if self.seen.len() < self.seen.capacity() {
-                self.seen.push_reserved(Event {
-                    token: event.token().0,
-                    told: Told {
-                        readable: event.is_readable(),
-                        writable: event.is_writable(),
-                        closed: event.is_read_closed() || event.is_error(),
-                        failed: event.is_write_closed() || event.is_error(),
-                    },
-                });
-            }
-        }
     }
 }

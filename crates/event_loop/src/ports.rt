@@ -1,9 +1,11 @@
 //! The users' port, of the one loop that serves it: users that connect are handed out in rotation. A loop that has no seat for one passes
 //! it on to the next.
 
-ghost use Rattle.std.specs.Prelude.{◌≡◌, ◌<◌, ◌%◌, ◌↔◌, true};
+ghost use Rattle.std.specs.Prelude.{◌≡◌, ◌<◌, ◌+◌, ◌-◌, ◌%◌, ◌^◌, [], Bool, false, Some, cond, min, nat_eq, nat_lt};
+ghost use Rattle.event_loop.specs.Mail.{Sends, HandsOut, asks, hands, is_own};
 
-use crate::inbox::{Handed, Inbox};
+use crate::inbox::Handed;
+use crate::mail::Mail;
 use loop_parts::{Accepted, Listening, Room};
 use mio::net::TcpStream;
 use std::sync::{Arc, Wait};
@@ -43,28 +45,38 @@ fn loop_of(number: u64, loops: usize) -> usize
     (number % loops as u64) as usize
 }
 
-/// The inbox of the loop whose turn it is, of the first ones of this number.
-fn inbox_of(number: u64, loops: usize, inboxes: &[Inbox]) -> Option<&Inbox> {
-    if loops == 0 {
-        return None;
-    }
-    inboxes.get(loop_of(number, loops))
+/// The loop after this one, of the first ones of this number.
+fn next_of(own: usize, loops: usize) -> usize
+    requires { 0 < loops }
+    ensures { result ≡ cond (nat_lt (own + 1) loops) (own + 1) 0 }
+{
+    if own < loops - 1 { own + 1 } else { 0 }
 }
 
-/// Whether it is the turn of the loop with this number.
-fn is_turn_of(own: usize, number: u64, loops: usize) -> bool
-    ensures { result ≡ true ↔ (0 < loops) × (own ≡ number % loops) }
+/// Hands a user to a loop, and wakes that one, unless it is the own one, or others lie in its inbox: it was woken for those. One for whom
+/// no memory is found is closed.
+fn hand_to<M: Mail, R: Wait>(rt: &R, mail: &mut M, to: usize, is_own: bool, user: Handed)
+    ensures { (alone : Bool) × Sends M.Mail mail.old mail.new (hands is_own to user.number alone) }
 {
-    loops > 0 && loop_of(number, loops) == own
+    let is_alone = match mail.lay(rt, to, user) {
+        Ok(is_alone) => is_alone,
+        Err(_) => false,
+    };
+    if is_alone && !is_own {
+        mail.wake(to);
+    }
 }
 
 /// Passes a user on to the loop after this one, which has no seat for it. One for whom no memory is found is closed.
-pub(crate) fn pass_on<R: Wait>(rt: &R, own: usize, inboxes: &[Inbox], user: Handed) {
+pub(crate) fn pass_on<M: Mail, R: Wait>(rt: &R, own: usize, mail: &mut M, user: Handed)
+    ensures { 0 < user.loops → (alone : Bool)
+        × Sends M.Mail mail.old mail.new (hands false (cond (nat_lt (own + 1) user.loops) (own + 1) 0) user.number alone) }
+{
     let mut user = user;
     user.tried = user.tried.saturating_add(1);
-    let next = (own as u64).saturating_add(1);
-    if let Some(inbox) = inbox_of(next, user.loops, inboxes) {
-        let _ = inbox.hand(rt, user);
+    if user.loops > 0 {
+        let to = next_of(own, user.loops);
+        hand_to(rt, mail, to, false, user);
     }
 }
 
@@ -109,9 +121,10 @@ impl Ports {
         }
     }
 
-    /// Takes in those that have connected, and closes the port: a further user is refused by the system.
-    pub fn close<R: Wait>(&mut self, rt: &R, inboxes: &[Inbox]) {
-        let _ = self.accept(rt, inboxes.len(), inboxes);
+    /// Takes in those that have connected, and closes the port: a further user is refused by the system. Each loop but that of the number
+    /// `own` is woken for them.
+    pub fn close<M: Mail, R: Wait>(&mut self, rt: &R, own: usize, mail: &mut M) {
+        let _ = self.accept(rt, own, mail);
         self.users = None;
     }
 
@@ -121,7 +134,9 @@ impl Ports {
     }
 
     /// The user who waits for room, or the next one.
-    fn next(&mut self) -> Accepted {
+    fn next(&mut self) -> Accepted
+        ensures { (self.new.accepted ≡ self.old.accepted) × (self.new.loops ≡ self.old.loops) }
+    {
         match self.waiting.take() {
             Some(stream) => Accepted::One(stream),
             None => match &mut self.users {
@@ -133,11 +148,14 @@ impl Ports {
 
     /// Accepts users while there is room for them, and hands them out in rotation. One for whom no memory is found is closed. Says
     /// whether the inbox of the number `own` has got one: its loop isn't woken for it.
-    pub fn accept<R: Wait>(&mut self, rt: &R, own: usize, inboxes: &[Inbox]) -> bool {
+    pub fn accept<M: Mail, R: Wait>(&mut self, rt: &R, own: usize, mail: &mut M) -> bool
+        ensures out { HandsOut M.Mail mail.old mail.new own self.old.loops self.old.accepted self.new.accepted result }
+        ensures loops { self.new.loops ≡ self.old.loops }
+    {
         let mut came = false;
         for _ in 0..ACCEPTS {
             match self.next() {
-                Accepted::One(stream) => match self.hand(rt, own, inboxes, stream) {
+                Accepted::One(stream) => match self.hand(rt, own, mail, stream) {
                     Turn::Own => came = true,
                     Turn::Other => {}
                     Turn::Waits => return came,
@@ -154,21 +172,39 @@ impl Ports {
 
     /// Asks the loop whose turn it is to make room, and wakes it. The one that serves the port isn't woken: it is asked at its next turn,
     /// after a pause, so that it doesn't ask itself again and again.
-    fn ask_for_room(&mut self, own: usize, inboxes: &[Inbox]) {
+    fn ask_for_room<M: Mail>(&mut self, own: usize, mail: &mut M)
+        ensures asks { 0 < self.old.loops
+            → Sends M.Mail mail.old mail.new (asks (nat_eq (self.new.asked % self.old.loops) own) (self.new.asked % self.old.loops)) }
+        ensures none { self.old.loops ≡ 0 → Sends M.Mail mail.old mail.new [] }
+        ensures kept { self.new ≡ record self.old { asked = self.new.asked } }
+    {
         self.asked = self.asked.wrapping_add(1);
-        if let Some(inbox) = inbox_of(self.asked, self.loops, inboxes) {
-            inbox.crowd();
-            if !is_turn_of(own, self.asked, self.loops) {
-                inbox.wake();
+        if self.loops > 0 {
+            let to = loop_of(self.asked, self.loops);
+            mail.crowd(to);
+            let is_own = to == own;
+            if !is_own {
+                mail.wake(to);
             }
         }
     }
 
     /// Hands a user to the loop whose turn it is. If there is no room for it, it waits, and a loop is asked to make some.
-    fn hand<R: Wait>(&mut self, rt: &R, own: usize, inboxes: &[Inbox], stream: TcpStream) -> Turn {
+    fn hand<M: Mail, R: Wait>(
+        &mut self,
+        rt: &R,
+        own: usize,
+        mail: &mut M,
+        stream: TcpStream,
+    ) -> Turn
+        ensures out { HandsOut M.Mail mail.old mail.new own self.old.loops self.old.accepted self.new.accepted (is_own result) }
+        ensures counted { (result ≡ Turn.Waits → ⊥) → self.new.accepted ≡ min (self.old.accepted + 1) (2 ^ 64 - 1) }
+        ensures waits { result ≡ Turn.Waits → (self.new.waiting ≡ Some stream) × (self.new.accepted ≡ self.old.accepted) }
+        ensures loops { self.new.loops ≡ self.old.loops }
+    {
         let Some(permit) = Room::enter(&self.room) else {
             self.waiting = Some(stream);
-            self.ask_for_room(own, inboxes);
+            self.ask_for_room(own, mail);
             return Turn::Waits;
         };
         self.accepted = self.accepted.saturating_add(1);
@@ -180,15 +216,12 @@ impl Ports {
             loops: self.loops,
             tried: 0,
         };
-        let Some(inbox) = inbox_of(number, self.loops, inboxes) else {
+        if self.loops == 0 {
             return Turn::Other;
-        };
-        if is_turn_of(own, number, self.loops) {
-            let _ = inbox.lay(rt, user);
-            Turn::Own
-        } else {
-            let _ = inbox.hand(rt, user);
-            Turn::Other
         }
+        let to = loop_of(number, self.loops);
+        let is_own = to == own;
+        hand_to(rt, mail, to, is_own, user);
+        if is_own { Turn::Own } else { Turn::Other }
     }
 }

@@ -1,5 +1,10 @@
 //! What an event loop drives.
 
+ghost use Rattle.std.specs.Prelude.{◌≡◌, ℕ, ◌<◌, List, true};
+ghost use Rattle.event_loop.specs.declared.inbox.Handed.{Handed as AnyHanded};
+ghost use Rattle.event_loop.specs.Deeds.{Deed, Adds, has_more};
+ghost use Rattle.event_loop.specs.Deeds.Deed.{TookIn, MadeRoom, Noted, Drove, GaveWay, Asked, Answered, EndedTurn, Drained, Halted};
+
 use crate::inbox::Handed;
 use loop_parts::Request;
 use mio::Registry;
@@ -28,8 +33,23 @@ pub enum Driven {
     Waiting,
     /// There is more to do: others get their turn first.
     CutShort,
+    /// There is more to do once the exchange under this other key is ended: its user has ended its bytes, and it has the connection that
+    /// this one wants.
+    Blocked(usize),
     /// It is over, and its key free.
     Over,
+}
+
+impl Driven {
+    /// Whether there is more to do.
+    pub fn has_more(self) -> bool
+        ensures { result ≡ has_more self }
+    {
+        match self {
+            Driven::CutShort | Driven::Blocked(_) => true,
+            Driven::Waiting | Driven::Over => false,
+        }
+    }
 }
 
 /// What became of a user that was handed in.
@@ -44,7 +64,22 @@ pub enum Admitted {
 
 /// What one thread drives: exchanges, each found by its key. Moments are seconds of the machine's clock, or milliseconds of it where
 /// their name says so.
+///
+/// Contracts see a work as its possible pasts: what a loop may have had it do so far, the newest deed first. A work that keeps no record
+/// may have had each past: there a clause about deeds says what its loop did.
 pub trait Work {
+    ghost past: { Self → List Deed → Type 0 };
+
+    // what there is of an exchange
+    ghost Part: { Type 0 };
+
+    // what there is of the exchange under a key
+    ghost part: { Self → ℕ → Part };
+
+    ghost bound: { Self → ℕ };
+
+    ghost queues: { Self → ℕ };
+
     /// Takes a user's connection in, with its number in the order of acceptance and its permit, which it has until it is
     /// over, and answers the key to be driven. It comes back where another loop may have a seat for it, and this one has none.
     fn admit<R: Wait + Dial + Clock>(
@@ -53,7 +88,10 @@ pub trait Work {
         registry: &Registry,
         user: Handed,
         millis: u64,
-    ) -> Admitted;
+    ) -> Admitted
+        ensures past { Adds (past self.old) (past self.new) (TookIn user.number result) }
+        ensures back { (other : AnyHanded) → result ≡ Admitted.Full other → other ≡ user }
+        ensures kept { (bound self.new ≡ bound self.old) × (queues self.new ≡ queues self.old) };
 
     /// Closes idle connections, or that of the user that can best be spared, so that another one has room. False if there is no
     /// such connection, or another thread has users that are spared first.
@@ -62,52 +100,82 @@ pub trait Work {
         rt: &R,
         registry: &Registry,
         millis: u64,
-    ) -> bool;
+    ) -> bool
+        ensures past { Adds (past self.old) (past self.new) (MadeRoom result) }
+        ensures kept { (bound self.new ≡ bound self.old) × (queues self.new ≡ queues self.old) };
 
     /// Takes note of an event of a connection. False if it says nothing new, so that the exchange needn't be driven.
-    fn note(&mut self, key: usize, peer: Peer, told: Told) -> bool;
+    fn note(&mut self, key: usize, peer: Peer, told: Told) -> bool
+        ensures past { Adds (past self.old) (past self.new) (Noted key peer told result) }
+        ensures still { (k : ℕ) → part self.new k ≡ part self.old k }
+        ensures kept { (bound self.new ≡ bound self.old) × (queues self.new ≡ queues self.old) };
 
-    /// Drives an exchange until each of its connections waits, or others should get their turn.
+    /// Drives an exchange until each of its connections waits, or others should get their turn. All other exchanges stay as they are.
     fn drive<R: Wait + Dial + Clock>(
         &mut self,
         rt: &R,
         registry: &Registry,
         key: usize,
         now: u64,
-    ) -> Driven;
+    ) -> Driven
+        ensures past { Adds (past self.old) (past self.new) (Drove key result) }
+        ensures others { (k : ℕ) → (k ≡ key → ⊥) → part self.new k ≡ part self.old k }
+        ensures there { has_more result ≡ true → key < bound self.old }
+        ensures kept { (bound self.new ≡ bound self.old) × (queues self.new ≡ queues self.old) };
+
+    /// Ends the exchange under this key, whose user has ended its bytes: another one wants the connection that it has. All others stay as
+    /// they are.
+    fn give_way<R: Wait + Dial + Clock>(
+        &mut self,
+        rt: &R,
+        registry: &Registry,
+        key: usize,
+        now: u64,
+    )
+        ensures past { Adds (past self.old) (past self.new) (GaveWay key) }
+        ensures others { (k : ℕ) → (k ≡ key → ⊥) → part self.new k ≡ part self.old k }
+        ensures kept { (bound self.new ≡ bound self.old) × (queues self.new ≡ queues self.old) };
 
     /// How many queues exchanges may wait in for what another exchange, of whichever thread, gives back.
-    fn queues(&self) -> usize;
+    fn queues(&self) -> usize
+        ensures { result ≡ queues self.now };
 
     /// The key of the exchange that is first in a queue, where it is one of this thread's: it is driven once the loop was
     /// woken.
-    fn first_of<R: Wait>(&self, rt: &R, queue: usize) -> Option<usize>;
+    fn first_of<R: Wait>(&mut self, rt: &R, queue: usize) -> Option<usize>
+        ensures past { Adds (past self.old) (past self.new) (Asked queue result) }
+        ensures still { (k : ℕ) → part self.new k ≡ part self.old k }
+        ensures kept { (bound self.new ≡ bound self.old) × (queues self.new ≡ queues self.old) };
 
     /// The keys that may be in use are below this number.
-    fn bound(&self) -> usize;
+    fn bound(&self) -> usize
+        ensures { result ≡ bound self.now };
 
     /// Whether there is no exchange.
     fn is_idle(&self) -> bool;
 
     /// The answer to a line of the admin port, or to a request for the counters. `Err` if no memory was found for it. `now` is the
     /// number of seconds since the loop's start.
-    fn answer<R: Wait>(
-        &mut self,
-        rt: &R,
-        request: Request,
-        now: u64,
-    ) -> Result<Vec<u8>, AllocError>;
+    fn answer<R: Wait>(&mut self, rt: &R, request: Request, now: u64) -> Result<Vec<u8>, AllocError>
+        ensures past { Adds (past self.old) (past self.new) (Answered request) }
+        ensures kept { (bound self.new ≡ bound self.old) × (queues self.new ≡ queues self.old) };
 
     /// How many milliseconds may pass before the next turn, whatever the exchanges wait for; none if that doesn't matter.
     fn patience(&self) -> Option<u64>;
 
     /// Is called at the end of each turn.
-    fn turn_over<R: Wait>(&mut self, rt: &R);
+    fn turn_over<R: Wait>(&mut self, rt: &R)
+        ensures past { Adds (past self.old) (past self.new) EndedTurn }
+        ensures kept { (bound self.new ≡ bound self.old) × (queues self.new ≡ queues self.old) };
 
     /// Takes note that no further user comes, and that each exchange is the last one of its connection from now on. All of them
     /// are driven after that.
-    fn drain(&mut self);
+    fn drain(&mut self)
+        ensures past { Adds (past self.old) (past self.new) Drained }
+        ensures kept { (bound self.new ≡ bound self.old) × (queues self.new ≡ queues self.old) };
 
     /// Ends all exchanges. Those whose users still have to get their refusal are driven on for a while.
-    fn halt<R: Wait + Dial + Clock>(&mut self, rt: &R, registry: &Registry, now: u64);
+    fn halt<R: Wait + Dial + Clock>(&mut self, rt: &R, registry: &Registry, now: u64)
+        ensures past { Adds (past self.old) (past self.new) Halted }
+        ensures kept { (bound self.new ≡ bound self.old) × (queues self.new ≡ queues self.old) };
 }

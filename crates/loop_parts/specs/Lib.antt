@@ -1,2 +1,3 @@
+pub mod Marks
 pub mod Requests
 pub mod Sparing

@@ -1,9 +1,8 @@
 //! Exchanges whose turns were cut short.
 
-ghost use Rattle.std.specs.Prelude.{◌≡◌, ◌<◌, ◌≤◌, IfOk, IsTrue, Contains, Some, true, false, length, slice_get, slice_set};
+ghost use Rattle.std.specs.Prelude.{◌≡◌, ◌<◌, ℕ, IfOk, IsTrue, Contains, true, false};
 
 use std::alloc::{AllocError, Global};
-use std::mem;
 
 /// The exchanges that were cut short so that others get their turn. An edge-triggered poll reports nothing twice, so they
 /// are driven on before the next wait. There is a mark for each key from the start, so that no memory is needed later.
@@ -16,9 +15,11 @@ pub struct ReadyList {
 }
 
 impl ReadyList {
+    ghost use Rattle.loop_parts.specs.Marks.{is_marked, count};
+
     /// A mark for each key, all unset. `Err` if no memory was found.
     pub fn new(alloc: Global, keys: usize) -> Result<ReadyList, AllocError>
-        ensures { IfOk result (λ list. length list.marked.items ≡ keys) }
+        ensures { IfOk result (λ list. count list ≡ keys) }
     {
         let marked = Vec::from_elem(alloc, false, keys)?;
         let any = marked.contains(&true);
@@ -27,7 +28,7 @@ impl ReadyList {
 
     /// Whether no exchange waits for a turn. It answers what `look` found last.
     pub fn is_empty(&self) -> bool
-        ensures { IsTrue result → Contains self.now.marked.items true → ⊥ }
+        ensures { IsTrue result → (key : ℕ) → is_marked self.now key ≡ false }
     {
         !self.any
     }
@@ -42,16 +43,16 @@ impl ReadyList {
 
     /// How many keys there are.
     pub fn keys(&self) -> usize
-        ensures { result ≡ length self.now.marked.items }
+        ensures { result ≡ count self.now }
     {
         self.marked.len()
     }
 
     /// Marks an exchange, which may be marked already.
     pub fn add(&mut self, key: usize)
-        ensures there { key < length self.old.marked.items
-            → self.new.marked.items ≡ slice_set self.old.marked.items key true }
-        ensures none { length self.old.marked.items ≤ key → self.new.marked.items ≡ self.old.marked.items }
+        ensures marked { key < count self.old → is_marked self.new key ≡ true }
+        ensures others { (other : ℕ) → (other ≡ key → ⊥) → is_marked self.new other ≡ is_marked self.old other }
+        ensures count { count self.new ≡ count self.old }
     {
         self.any = true;
         if let Some(mark) = self.marked.get_mut(key) {
@@ -59,18 +60,25 @@ impl ReadyList {
         }
     }
 
-    /// Takes the mark of an exchange, and says whether there was one.
-    pub fn take(&mut self, key: usize) -> bool
-        ensures there { key < length self.old.marked.items
-            → (self.new.marked.items ≡ slice_set self.old.marked.items key false)
-            × (slice_get self.old.marked.items key ≡ Some result) }
-        ensures none { length self.old.marked.items ≤ key
-            → (self.new.marked.items ≡ self.old.marked.items) × (result ≡ false) }
+    /// Whether an exchange is marked.
+    pub fn has(&self, key: usize) -> bool
+        ensures { result ≡ is_marked self.now key }
+    {
+        match self.marked.get(key) {
+            Some(mark) => *mark,
+            None => false,
+        }
+    }
+
+    /// Takes the mark of an exchange.
+    pub fn take(&mut self, key: usize)
+        ensures taken { is_marked self.new key ≡ false }
+        ensures others { (other : ℕ) → (other ≡ key → ⊥) → is_marked self.new other ≡ is_marked self.old other }
+        ensures count { count self.new ≡ count self.old }
     {
         self.any = true;
-        match self.marked.get_mut(key) {
-            Some(mark) => mem::replace(mark, false),
-            None => false,
+        if let Some(mark) = self.marked.get_mut(key) {
+            *mark = false;
         }
     }
 }

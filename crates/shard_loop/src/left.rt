@@ -1,6 +1,7 @@
 //! What is still out when the loops have ended.
 
-ghost use Rattle.std.specs.Prelude.{◌≡◌, All, IfOk, IsSome, None, Some};
+ghost use Rattle.std.specs.Prelude.{◌≡◌, ◌+◌, ◌-◌, ◌^◌, All, IfOk, IfSome, IsSome, None, Some, min, vec_len};
+ghost use Rattle.span_bank.specs.Stakes.{held_sum};
 ghost use Rattle.shard_loop.specs.Left.{HoldsNothing};
 
 use adapt_bytes::MAX_CONNECTIONS;
@@ -50,7 +51,9 @@ fn audit_pool<L: Ledger, R: Wait>(
     rt: &R,
     pool: Pool<Spare, L>,
     leases: Vec<Lease<L>>,
-) -> Option<u64> {
+) -> Option<u64>
+    ensures { IfSome result (λ leased. leased ≡ vec_len leases) }
+{
     match pool.audit(leases) {
         Ok(leased) => Some(leased),
         Err((pool, leases, _)) => {
@@ -74,6 +77,7 @@ fn end_stakes<B: Ledgers, R: Wait>(rt: &R, bank: &Bank<B>, stakes: Vec<Stake<B>>
 /// The sums of the open reservations, if all are here.
 fn audit_bank<B: Ledgers, R: Wait>(rt: &R, bank: Bank<B>, stakes: Vec<Stake<B>>) -> Option<Audit>
     requires { All HoldsNothing stakes.items }
+    ensures { IfSome result (λ audit. (audit.rows ≡ vec_len stakes) × (audit.held ≡ held_sum stakes.items)) }
 {
     match bank.audit(stakes) {
         Ok(audit) => Some(audit),
@@ -181,7 +185,11 @@ impl<B: Ledgers, Q: Ledger, A: Ledger> Left<B, Q, A> {
         request: Pool<Spare, Q>,
         response: Pool<Spare, A>,
     ) -> Result<Stopped, ServeFault>
-        ensures { IfOk result (λ stopped. stopped.fault ≡ self.fault) }
+        ensures fault { IfOk result (λ stopped. stopped.fault ≡ self.fault) }
+        ensures stakes { IfOk result (λ stopped. (stopped.audit.rows ≡ vec_len self.stakes)
+            × (stopped.audit.held ≡ held_sum self.stakes.items)) }
+        ensures leases { IfOk result (λ stopped. stopped.audit.leased
+            ≡ min (vec_len self.requests + vec_len self.responses) (2 ^ 64 - 1)) }
     {
         let Left {
             fault,

@@ -1,6 +1,8 @@
 //! The loop of the administrator: it takes no users, so what an answer costs keeps nobody waiting. It also looks after the idle
 //! connections to services.
 
+ghost use Rattle.std.specs.Prelude.{⊤};
+
 use event_loop::{Admitted, Driven, Handed, Request, Told, Work};
 use mio::Registry;
 use shard_desk::{Shares, pools_of};
@@ -117,6 +119,18 @@ impl<'a, S: Shares, F: Append> Office<'a, S, F> {
 }
 
 impl<'a, S: Shares + Drop, F: Append> Work for Office<'a, S, F> {
+    // it keeps no record
+    ghost past = { λ office past. ⊤ };
+
+    ghost Part = { ⊤ };
+
+    // it has no exchange
+    ghost part = { λ office key. tt };
+
+    ghost bound = { λ office. 1 };
+
+    ghost queues = { λ office. 0 };
+
     fn admit<R: Wait + Dial + Clock>(
         &mut self,
         _rt: &R,
@@ -152,11 +166,19 @@ impl<'a, S: Shares + Drop, F: Append> Work for Office<'a, S, F> {
         Driven::Waiting
     }
 
+    fn give_way<R: Wait + Dial + Clock>(
+        &mut self,
+        _rt: &R,
+        _registry: &Registry,
+        _key: usize,
+        _now: u64,
+    ) {}
+
     fn queues(&self) -> usize {
         0
     }
 
-    fn first_of<R: Wait>(&self, _rt: &R, _queue: usize) -> Option<usize> {
+    fn first_of<R: Wait>(&mut self, _rt: &R, _queue: usize) -> Option<usize> {
         None
     }
 

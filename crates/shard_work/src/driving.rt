@@ -172,18 +172,15 @@ fn wanted_point(phase: Phase) -> Option<Point> {
     }
 }
 
-/// Whether an exchange in this phase wants a connection to a service while none is free, and a user of its thread that has ended its
-/// bytes has one. That user gives way to it.
-fn is_in_want<S: Seating, R: Wait, G>(users: &mut S, at: &Spot<'_, R, G>, phase: Phase) -> bool {
-    let Some(point) = wanted_point(phase) else {
-        return false;
-    };
-    match users.seats().ended_with(point) {
-        Some(key) if users.seats().leases(at.key).is_none() && users.lacks(at.rt, point) => {
-            users.seats_mut().give_way(key);
-            true
-        }
-        _ => false,
+/// The user of the thread that has ended its bytes, and has a connection to a service that an exchange in this phase wants, while none is
+/// free. That user gives way to it.
+fn in_way<S: Seating, R: Wait, G>(users: &S, at: &Spot<'_, R, G>, phase: Phase) -> Option<usize> {
+    let point = wanted_point(phase)?;
+    let key = users.seats().ended_with(point)?;
+    if users.seats().leases(at.key).is_none() && users.lacks(at.rt, point) {
+        Some(key)
+    } else {
+        None
     }
 }
 
@@ -220,8 +217,8 @@ pub(crate) fn drive_on<E: Exchanges, R: Wait + Dial + Clock, G: Gate>(
     };
     for _ in 0..STEPS {
         let phase = exchange.phase();
-        if is_in_want(exchanges.users_mut(), at, phase) {
-            return Driven::CutShort;
+        if let Some(other) = in_way(exchanges.users(), at, phase) {
+            return Driven::Blocked(other);
         }
         let step = if is_round(phase) {
             if is_lost(exchanges.users(), at.rt, at.key, phase) {

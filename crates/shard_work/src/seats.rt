@@ -84,8 +84,6 @@ pub struct Seats {
     stays: u64,
     /// How many users that are served have ended their bytes.
     ended: usize,
-    /// The user that has to give way to one that was driven.
-    in_way: Option<usize>,
 }
 
 impl Seats {
@@ -101,7 +99,6 @@ impl Seats {
             refused: 0,
             stays: 0,
             ended: 0,
-            in_way: None,
         };
         let bound = seats.bound();
         seats.all.reserve(bound)?;
@@ -117,7 +114,6 @@ impl Seats {
             refused: 0,
             stays: 0,
             ended: 0,
-            in_way: None,
         };
         mem::replace(self, none)
     }
@@ -352,16 +348,6 @@ impl Seats {
             }
         }
         first
-    }
-
-    /// The user under this key has to give way to the one that is driven.
-    pub fn give_way(&mut self, key: usize) {
-        self.in_way = Some(key);
-    }
-
-    /// Who has to give way to the one that was driven.
-    pub fn take_in_way(&mut self) -> Option<usize> {
-        self.in_way.take()
     }
 
     /// A message waits for a connection to its service. One that waited before has waited since then.

@@ -1,7 +1,8 @@
 //! The work of one thread: its exchanges, each in a slot.
 
-ghost use Rattle.std.specs.Prelude.{◌≡◌, true};
-ghost use Rattle.shard_work.specs.Slots.{ChangesOnly};
+ghost use Rattle.std.specs.Prelude.{◌≡◌, ◌<◌, true, ⊤, length, slice_get};
+ghost use Rattle.event_loop.specs.Deeds.{has_more};
+ghost use Rattle.shard_work.specs.Slots.{ChangesOnly, Slot};
 
 use crate::driving::{drive_on, leave_on};
 use crate::exchanges::{Exchanges, Slotted};
@@ -36,6 +37,8 @@ pub struct Shard<'a, E: Exchanges, G> {
     alloc: Global,
     exchanges: E,
     slots: Slots<Box<E::Exchange>>,
+    /// How many queues there are for what another exchange gives back.
+    queues: usize,
     gate: &'a G,
     serving: Serving,
 }
@@ -51,10 +54,12 @@ impl<'a, E: Exchanges + Drop, G: Gate> Shard<'a, E, G> {
     /// A thread's work before the first user. `Err` where no memory was found.
     pub fn new(alloc: Global, exchanges: E, gate: &'a G) -> Result<Shard<'a, E, G>, AllocError> {
         let slots = Slots::new(alloc, exchanges.users().seats().bound())?;
+        let queues = exchanges.users().queues();
         Ok(Shard {
             alloc,
             exchanges,
             slots,
+            queues,
             gate,
             serving: Serving::Full,
         })
@@ -67,6 +72,7 @@ impl<'a, E: Exchanges + Drop, G: Gate> Shard<'a, E, G> {
             alloc: _,
             exchanges,
             slots,
+            queues: _,
             gate: _,
             serving: _,
         } = self;
@@ -79,7 +85,8 @@ impl<'a, E: Exchanges + Drop, G: Gate> Shard<'a, E, G> {
 
     /// Puts an exchange into the slot of its key, from which it was taken. What comes back, which is nothing, ends.
     fn keep<R: Wait + Dial + Clock>(&mut self, at: &Spot<'_, R, G>, exchange: Box<E::Exchange>)
-        ensures { ChangesOnly at.entry.now.key self.old.slots.all.items self.new.slots.all.items }
+        ensures only { ChangesOnly at.entry.now.key self.old.slots.all.items self.new.slots.all.items }
+        ensures queues { self.new.queues ≡ self.old.queues }
     {
         if let Some(old) = self.slots.place(at.key, exchange) {
             let mut old = old;
@@ -91,7 +98,9 @@ impl<'a, E: Exchanges + Drop, G: Gate> Shard<'a, E, G> {
     /// Drives the exchange under this key, which is the last one of its connection where users are let go. No other exchange is
     /// touched.
     fn drive_slot<R: Wait + Dial + Clock>(&mut self, at: &Spot<'_, R, G>) -> Driven
-        ensures { ChangesOnly at.entry.now.key self.old.slots.all.items self.new.slots.all.items }
+        ensures only { ChangesOnly at.entry.now.key self.old.slots.all.items self.new.slots.all.items }
+        ensures there { has_more result ≡ true → at.entry.now.key < length self.old.slots.all.items }
+        ensures queues { self.new.queues ≡ self.old.queues }
     {
         let Some(exchange) = self.slots.take(at.key) else {
             return Driven::Over;
@@ -113,21 +122,11 @@ impl<'a, E: Exchanges + Drop, G: Gate> Shard<'a, E, G> {
         }
     }
 
-    /// Ends the exchange of a user that has ended its bytes, where the one that was driven wants the connection that it has.
-    fn clear_way<R: Wait + Dial + Clock>(&mut self, at: &Spot<'_, R, G>) {
-        if let Some(key) = self.exchanges.users_mut().seats_mut().take_in_way() {
-            self.end_slot(&Spot {
-                rt: at.rt,
-                registry: at.registry,
-                gate: at.gate,
-                key,
-                now: at.now,
-            });
-        }
-    }
-
     /// Ends the exchange under this key, and all of its connections.
-    fn end_slot<R: Wait + Dial + Clock>(&mut self, at: &Spot<'_, R, G>) {
+    fn end_slot<R: Wait + Dial + Clock>(&mut self, at: &Spot<'_, R, G>)
+        ensures only { ChangesOnly at.entry.now.key self.old.slots.all.items self.new.slots.all.items }
+        ensures queues { self.new.queues ≡ self.old.queues }
+    {
         if let Some(exchange) = self.slots.take(at.key) {
             let mut exchange = exchange;
             self.exchanges.act(at, &mut exchange, Task::Lose);
@@ -138,7 +137,10 @@ impl<'a, E: Exchanges + Drop, G: Gate> Shard<'a, E, G> {
 
     /// Ends the exchange under this key, because the proxy stops. It stays where its user is still to be refused, or has got all and
     /// its connection is being closed: were it closed at once, the user might lose what it hasn't read yet.
-    fn halt_slot<R: Wait + Dial + Clock>(&mut self, at: &Spot<'_, R, G>) {
+    fn halt_slot<R: Wait + Dial + Clock>(&mut self, at: &Spot<'_, R, G>)
+        ensures only { ChangesOnly at.entry.now.key self.old.slots.all.items self.new.slots.all.items }
+        ensures queues { self.new.queues ≡ self.old.queues }
+    {
         let Some(exchange) = self.slots.take(at.key) else {
             return;
         };
@@ -152,7 +154,11 @@ impl<'a, E: Exchanges + Drop, G: Gate> Shard<'a, E, G> {
     }
 
     /// Drives on an exchange at a stop: its user takes its refusal, and may still send. Once it sends no more all is given back.
-    fn take_leave<R: Wait + Dial + Clock>(&mut self, at: &Spot<'_, R, G>) -> Driven {
+    fn take_leave<R: Wait + Dial + Clock>(&mut self, at: &Spot<'_, R, G>) -> Driven
+        ensures only { ChangesOnly at.entry.now.key self.old.slots.all.items self.new.slots.all.items }
+        ensures there { has_more result ≡ true → at.entry.now.key < length self.old.slots.all.items }
+        ensures queues { self.new.queues ≡ self.old.queues }
+    {
         let Some(exchange) = self.slots.take(at.key) else {
             return Driven::Over;
         };
@@ -172,7 +178,9 @@ impl<'a, E: Exchanges + Drop, G: Gate> Shard<'a, E, G> {
 
     /// The key of the user that can best be spared, of all or of those that have ended and idle ones. One whose request has just come
     /// isn't.
-    fn best_spared(&mut self, only_idle: bool, millis: u64) -> Option<usize> {
+    fn best_spared(&mut self, only_idle: bool, millis: u64) -> Option<usize>
+        ensures { (self.new.slots ≡ self.old.slots) × (self.new.queues ≡ self.old.queues) }
+    {
         let youth = self.exchanges.users().seats().youth(millis);
         let mut best = None;
         for key in 0..self.slots.count() {
@@ -204,7 +212,9 @@ impl<'a, E: Exchanges + Drop, G: Gate> Shard<'a, E, G> {
         registry: &Registry,
         only_idle: bool,
         millis: u64,
-    ) -> bool {
+    ) -> bool
+        ensures { (length self.new.slots.all.items ≡ length self.old.slots.all.items) × (self.new.queues ≡ self.old.queues) }
+    {
         let Some(key) = self.best_spared(only_idle, millis) else {
             return false;
         };
@@ -228,7 +238,9 @@ impl<'a, E: Exchanges + Drop, G: Gate> Shard<'a, E, G> {
         registry: &Registry,
         is_first_round: bool,
         millis: u64,
-    ) -> bool {
+    ) -> bool
+        ensures { (length self.new.slots.all.items ≡ length self.old.slots.all.items) × (self.new.queues ≡ self.old.queues) }
+    {
         self.exchanges.users().seats().has_room()
             || self.spare_user(rt, registry, is_first_round, millis)
     }
@@ -243,6 +255,18 @@ impl<'a, E: Exchanges + Drop, G: Gate> Shard<'a, E, G> {
 }
 
 impl<'a, E: Exchanges + Drop, G: Gate> Work for Shard<'a, E, G> {
+    // it keeps no record
+    ghost past = { λ shard past. ⊤ };
+
+    ghost Part = { Slot E.Exchange };
+
+    // what lies in its slot
+    ghost part = { λ shard key. slice_get shard.slots.all.items key };
+
+    ghost bound = { λ shard. length shard.slots.all.items };
+
+    ghost queues = { λ shard. shard.queues };
+
     fn admit<R: Wait + Dial + Clock>(
         &mut self,
         rt: &R,
@@ -338,20 +362,33 @@ impl<'a, E: Exchanges + Drop, G: Gate> Work for Shard<'a, E, G> {
             now,
         };
         match self.serving {
-            Serving::Full | Serving::Draining => {
-                let driven = self.drive_slot(&at);
-                self.clear_way(&at);
-                driven
-            }
+            Serving::Full | Serving::Draining => self.drive_slot(&at),
             Serving::Stopped => self.take_leave(&at),
         }
     }
 
-    fn queues(&self) -> usize {
-        self.exchanges.users().queues()
+    fn give_way<R: Wait + Dial + Clock>(
+        &mut self,
+        rt: &R,
+        registry: &Registry,
+        key: usize,
+        now: u64,
+    ) {
+        let gate = self.gate;
+        self.end_slot(&Spot {
+            rt,
+            registry,
+            gate,
+            key,
+            now,
+        });
     }
 
-    fn first_of<R: Wait>(&self, rt: &R, queue: usize) -> Option<usize> {
+    fn queues(&self) -> usize {
+        self.queues
+    }
+
+    fn first_of<R: Wait>(&mut self, rt: &R, queue: usize) -> Option<usize> {
         self.exchanges.users().first_of(rt, queue)
     }
 

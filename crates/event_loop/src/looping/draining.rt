@@ -1,7 +1,12 @@
 //! The end of a loop's users, one after another.
 
+ghost use Rattle.std.specs.Prelude.{[], ◌∷◌, ⊤};
+ghost use Rattle.event_loop.specs.Deeds.Deed.{Drained};
+ghost use Rattle.event_loop.specs.Turns.{Does, Did};
+
 use crate::inbox::{Inbox, stop_all};
 use crate::looping::EventLoop;
+use crate::mail::Inboxes;
 use crate::work::Work;
 use socket_wire::Dial;
 use std::io;
@@ -15,13 +20,11 @@ impl<K: Work> EventLoop<K> {
         &mut self,
         rt: &R,
         inboxes: &[Inbox],
-    ) -> io::Result<()> {
+    ) -> io::Result<()>
+        ensures { Did K.Work self.old self.new (λ deeds. ⊤) }
+    {
         if !self.draining {
-            self.draining = true;
-            if let Some(ports) = &mut self.ports {
-                ports.close(rt, inboxes);
-            }
-            self.work.drain();
+            self.begin_drain(rt, inboxes);
             self.drive_all(rt)?;
         }
         if let Some(ports) = &self.ports
@@ -30,5 +33,16 @@ impl<K: Work> EventLoop<K> {
             stop_all(inboxes);
         }
         Ok(())
+    }
+
+    /// Closes the users' port, and has each exchange be the last one of its connection.
+    fn begin_drain<R: Wait + Dial + Clock>(&mut self, rt: &R, inboxes: &[Inbox])
+        ensures { Does K.Work self.old self.new (Drained ∷ []) }
+    {
+        self.draining = true;
+        if let Some(ports) = &mut self.ports {
+            ports.close(rt, inboxes.len(), &mut Inboxes::new(inboxes));
+        }
+        self.work.drain();
     }
 }

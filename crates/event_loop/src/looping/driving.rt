@@ -1,5 +1,10 @@
 //! Which exchanges a loop drives in a turn.
 
+ghost use Rattle.std.specs.Prelude.{◌≡◌, ◌<◌, [], ◌∷◌, ℕ, true, OnOk};
+ghost use Rattle.loop_parts.specs.Marks.{is_marked};
+ghost use Rattle.event_loop.specs.Deeds.Deed.{Drove};
+ghost use Rattle.event_loop.specs.Turns.{Does, Did, Drives, Gets, IsDriven, IsAsked, ways};
+
 use crate::looping::EventLoop;
 use crate::work::{Driven, Work};
 use socket_wire::Dial;
@@ -8,19 +13,55 @@ use std::sync::Wait;
 use std::time::Clock;
 
 impl<K: Work> EventLoop<K> {
-    /// Drives an exchange, and marks it if others get their turn first.
-    pub(super) fn drive<R: Wait + Dial + Clock>(&mut self, rt: &R, key: usize) -> io::Result<()> {
-        self.read_clock(rt)?;
+    /// Drives an exchange at the moment that was read last, and marks it if others get their turn first.
+    fn drive_one<R: Wait + Dial + Clock>(&mut self, rt: &R, key: usize) -> Driven
+        ensures { Does K.Work self.old self.new (Drove key result ∷ []) }
+    {
         let now = self.now();
-        match self.work.drive(rt, self.poll.registry(), key, now) {
-            Driven::CutShort => self.ready.add(key),
-            Driven::Waiting | Driven::Over => {}
+        let driven = self.work.drive(rt, self.poll.registry(), key, now);
+        if driven.has_more() {
+            self.ready.add(key);
         }
+        driven
+    }
+
+    /// Ends the exchange that blocked the one that was driven, if one did.
+    fn clear_way<R: Wait + Dial + Clock>(&mut self, rt: &R, driven: Driven)
+        ensures { Does K.Work self.old self.new (ways driven) }
+    {
+        let now = self.now();
+        match driven {
+            Driven::Blocked(other) => self.work.give_way(rt, self.poll.registry(), other, now),
+            Driven::CutShort | Driven::Waiting | Driven::Over => {}
+        }
+    }
+
+    /// Drives an exchange at the moment that was read last. One that blocks it ends.
+    fn drive_now<R: Wait + Dial + Clock>(&mut self, rt: &R, key: usize)
+        ensures { Did K.Work self.old self.new (Drives key) }
+    {
+        let driven = self.drive_one(rt, key);
+        self.clear_way(rt, driven);
+    }
+
+    /// Drives an exchange, unless it has a mark: then it is driven in the next turn, before which no time is waited. So others wait for one
+    /// drive of an exchange that has much to do, and not for one by each of its events.
+    pub(super) fn drive<R: Wait + Dial + Clock>(&mut self, rt: &R, key: usize) -> io::Result<()>
+        ensures { Did K.Work self.old self.new (λ deeds. OnOk result (Gets key deeds self.new.ready)) }
+    {
+        if self.ready.has(key) {
+            return Ok(());
+        }
+        self.read_clock(rt)?;
+        self.drive_now(rt, key);
         Ok(())
     }
 
     /// Drives those that are first in a queue: what they wait for may have come back.
-    pub(super) fn drive_first<R: Wait + Dial + Clock>(&mut self, rt: &R) -> io::Result<()> {
+    pub(super) fn drive_first<R: Wait + Dial + Clock>(&mut self, rt: &R) -> io::Result<()>
+        ensures { Did K.Work self.old self.new (λ deeds. OnOk result ((queue : ℕ)
+            → queue < K.queues self.old.work → IsAsked queue deeds self.new.ready)) }
+    {
         for queue in 0..self.work.queues() {
             if let Some(key) = self.work.first_of(rt, queue) {
                 self.drive(rt, key)?;
@@ -30,13 +71,18 @@ impl<K: Work> EventLoop<K> {
     }
 
     /// Drives those that were cut short.
-    pub(super) fn drive_ready<R: Wait + Dial + Clock>(&mut self, rt: &R) -> io::Result<()> {
+    pub(super) fn drive_ready<R: Wait + Dial + Clock>(&mut self, rt: &R) -> io::Result<()>
+        ensures { Did K.Work self.old self.new (λ deeds. OnOk result ((key : ℕ)
+            → is_marked self.old.ready key ≡ true → IsDriven key deeds)) }
+    {
         if self.ready.is_empty() {
             return Ok(());
         }
         for key in 0..self.ready.keys() {
-            if self.ready.take(key) {
-                self.drive(rt, key)?;
+            if self.ready.has(key) {
+                self.read_clock(rt)?;
+                self.ready.take(key);
+                self.drive_now(rt, key);
             }
         }
         self.ready.look();
@@ -44,7 +90,10 @@ impl<K: Work> EventLoop<K> {
     }
 
     /// Drives all, for their deadlines.
-    pub(super) fn drive_all<R: Wait + Dial + Clock>(&mut self, rt: &R) -> io::Result<()> {
+    pub(super) fn drive_all<R: Wait + Dial + Clock>(&mut self, rt: &R) -> io::Result<()>
+        ensures { Did K.Work self.old self.new (λ deeds. OnOk result ((key : ℕ)
+            → key < K.bound self.old.work → Gets key deeds self.new.ready)) }
+    {
         for key in 0..self.work.bound() {
             self.drive(rt, key)?;
         }

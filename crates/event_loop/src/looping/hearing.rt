@@ -1,5 +1,8 @@
 //! The administrator's part in a loop, and that of those who read the counters.
 
+ghost use Rattle.std.specs.Prelude.{⊤};
+ghost use Rattle.event_loop.specs.Turns.{Answers, Did};
+
 use crate::askers::Askers;
 use crate::inbox::{Inbox, drain_all, stop_all};
 use crate::looping::EventLoop;
@@ -24,7 +27,9 @@ fn hear_each(askers: &mut Askers, inboxes: &[Inbox]) -> [Option<Request>; MAX_AS
 }
 
 /// Hears the connections of one port, where one may have said more, and answers them.
-fn serve<K: Work, R: Wait>(rt: &R, work: &mut K, askers: &mut Askers, inboxes: &[Inbox], now: u64) {
+fn serve<K: Work, R: Wait>(rt: &R, work: &mut K, askers: &mut Askers, inboxes: &[Inbox], now: u64)
+    ensures { Answers K.Work work.old work.new }
+{
     if askers.catch_up() {
         let asked = hear_each(askers, inboxes);
         answer_each(rt, work, askers, &asked, now);
@@ -38,7 +43,9 @@ fn answer_each<K: Work, R: Wait>(
     askers: &mut Askers,
     asked: &[Option<Request>; MAX_ASKERS],
     now: u64,
-) {
+)
+    ensures { Answers K.Work work.old work.new }
+{
     for (key, request) in asked.iter().enumerate() {
         match request {
             Some(Request::Bad) => askers.say(key, b"bad\n"),
@@ -53,7 +60,9 @@ fn answer_each<K: Work, R: Wait>(
 
 impl<K: Work> EventLoop<K> {
     /// Hears one line of each connection of the administrator that may have said more, and one request of those that read the counters.
-    pub(super) fn hear<R: Wait>(&mut self, rt: &R, inboxes: &[Inbox]) {
+    pub(super) fn hear<R: Wait>(&mut self, rt: &R, inboxes: &[Inbox])
+        ensures { Did K.Work self.old self.new (λ deeds. ⊤) }
+    {
         let now = self.now();
         serve(rt, &mut self.work, &mut self.admin, inboxes, now);
         serve(rt, &mut self.work, &mut self.metrics, inboxes, now);

@@ -1,9 +1,13 @@
 //! A turn of a loop: what is served between two waits.
 
-ghost use Rattle.std.specs.Prelude.{◌<◌, length};
+ghost use Rattle.std.specs.Prelude.{◌≡◌, ◌<◌, [], ◌∷◌, ℕ, true, All, length, IfOk, OnOk, ⊤};
+ghost use Rattle.event_loop.specs.Deeds.Deed.{MadeRoom};
+ghost use Rattle.event_loop.specs.Turns.{Does, Did, AreServed, IsServed, IsAsked, IsAdmitted, Serves};
 
+use crate::event::Event;
 use crate::inbox::{Handed, Inbox};
-use crate::looping::{ADMIN, Event, EventLoop, LISTENER, METRICS, WAKER};
+use crate::looping::{ADMIN, EventLoop, LISTENER, METRICS, WAKER};
+use crate::mail::Inboxes;
 use crate::ports::pass_on;
 use crate::work::{Admitted, Work};
 use loop_parts::MAX_ASKERS;
@@ -24,28 +28,64 @@ impl<K: Work> EventLoop<K> {
         inboxes: &[Inbox],
     ) -> io::Result<()>
         requires { number < length inboxes.now }
+        ensures { Did K.Work self.old self.new (λ deeds.
+            OnOk result (Serves K.Work self.old self.new self.old.reports.seen.items deeds)) }
     {
         self.drive_ready(rt)?;
-        self.look();
         let woken = self.serve_seen(rt, alloc, number, inboxes)?;
         self.hear(rt, inboxes);
-        if inboxes[number].take_crowded() && self.make_room(rt) {
-            inboxes[0].wake();
-        }
-        if woken {
-            self.drive_first(rt)?;
-        }
+        self.crowd_out(rt, number, inboxes);
+        self.wake_up(rt, woken)?;
         self.ask_ports(rt, alloc, number, inboxes);
-        if woken || self.laid {
-            self.laid = false;
-            self.take_in(rt, number, inboxes, inboxes[number].take_all(rt, alloc))?;
-        }
+        self.take_handed(rt, alloc, woken, number, inboxes)?;
         self.work.turn_over(rt);
         Ok(())
     }
 
+    /// Makes room for a user, if the loop was asked to.
+    fn crowd_out<R: Wait + Dial + Clock>(&mut self, rt: &R, number: usize, inboxes: &[Inbox])
+        requires { number < length inboxes.now }
+        ensures { Did K.Work self.old self.new (λ deeds. ⊤) }
+    {
+        if inboxes[number].take_crowded() && self.make_room(rt) {
+            inboxes[0].wake();
+        }
+    }
+
+    /// Drives those that are first in a queue, where the loop was woken.
+    fn wake_up<R: Wait + Dial + Clock>(&mut self, rt: &R, woken: bool) -> io::Result<()>
+        ensures { Did K.Work self.old self.new (λ deeds. OnOk result (woken ≡ true → (queue : ℕ)
+            → queue < K.queues self.old.work → IsAsked queue deeds self.new.ready)) }
+    {
+        if woken {
+            self.drive_first(rt)?;
+        }
+        Ok(())
+    }
+
+    /// Takes in the users that lie in the inbox, where the loop was woken, or has laid some there itself.
+    fn take_handed<R: Wait + Dial + Clock>(
+        &mut self,
+        rt: &R,
+        alloc: Global,
+        woken: bool,
+        number: usize,
+        inboxes: &[Inbox],
+    ) -> io::Result<()>
+        requires { number < length inboxes.now }
+        ensures { Did K.Work self.old self.new (λ deeds. ⊤) }
+    {
+        if woken || self.laid {
+            self.laid = false;
+            self.take_in(rt, number, inboxes, inboxes[number].take_all(rt, alloc))?;
+        }
+        Ok(())
+    }
+
     /// Has its work make room for another user. False where there is none to be made.
-    fn make_room<R: Wait + Dial + Clock>(&mut self, rt: &R) -> bool {
+    fn make_room<R: Wait + Dial + Clock>(&mut self, rt: &R) -> bool
+        ensures { Does K.Work self.old self.new (MadeRoom result ∷ []) }
+    {
         let millis = self.elapsed;
         self.work.make_room(rt, self.poll.registry(), millis)
     }
@@ -57,13 +97,13 @@ impl<K: Work> EventLoop<K> {
         alloc: Global,
         number: usize,
         inboxes: &[Inbox],
-    ) -> io::Result<bool> {
+    ) -> io::Result<bool>
+        ensures { Did K.Work self.old self.new (λ deeds.
+            IfOk result (λ woken. AreServed self.old.reports.seen.items woken deeds self.new.ready)) }
+    {
         let mut woken = false;
-        for at in 0..self.seen.len() {
-            let Some(event) = self.seen.get(at) else {
-                break;
-            };
-            let event = *event;
+        for at in 0..self.reports.count() {
+            let event = self.reports.get(at);
             if event.token == WAKER.0 {
                 woken = true;
             } else {
@@ -81,7 +121,9 @@ impl<K: Work> EventLoop<K> {
         number: usize,
         inboxes: &[Inbox],
         event: Event,
-    ) -> io::Result<()> {
+    ) -> io::Result<()>
+        ensures { Did K.Work self.old self.new (λ deeds. OnOk result (IsServed event deeds self.new.ready)) }
+    {
         if event.token == LISTENER.0 {
             self.accept(rt, number, inboxes);
             return Ok(());
@@ -115,16 +157,21 @@ impl<K: Work> EventLoop<K> {
     }
 
     /// Accepts users.
-    fn accept<R: Wait>(&mut self, rt: &R, number: usize, inboxes: &[Inbox]) {
+    fn accept<R: Wait>(&mut self, rt: &R, number: usize, inboxes: &[Inbox])
+        ensures { Does K.Work self.old self.new [] }
+    {
+        let mut mail = Inboxes::new(inboxes);
         if let Some(ports) = &mut self.ports
-            && ports.accept(rt, number, inboxes)
+            && ports.accept(rt, number, &mut mail)
         {
             self.laid = true;
         }
     }
 
     /// Asks the ports for connections that no event reports.
-    fn ask_ports<R: Wait>(&mut self, rt: &R, alloc: Global, number: usize, inboxes: &[Inbox]) {
+    fn ask_ports<R: Wait>(&mut self, rt: &R, alloc: Global, number: usize, inboxes: &[Inbox])
+        ensures { Does K.Work self.old self.new [] }
+    {
         self.admin.accept_more(alloc, self.poll.registry());
         self.metrics.accept_more(alloc, self.poll.registry());
         if let Some(ports) = &self.ports
@@ -141,12 +188,16 @@ impl<K: Work> EventLoop<K> {
         number: usize,
         inboxes: &[Inbox],
         users: Vec<Handed>,
-    ) -> io::Result<()> {
+    ) -> io::Result<()>
+        ensures { Did K.Work self.old self.new (λ deeds.
+            OnOk result (All (λ user. IsAdmitted user.number deeds self.new.ready) users.items)) }
+    {
+        let mut mail = Inboxes::new(inboxes);
         for user in users {
             let millis = self.elapsed;
             match self.work.admit(rt, self.poll.registry(), user, millis) {
                 Admitted::Seated(key) => self.drive(rt, key)?,
-                Admitted::Full(user) => pass_on(rt, number, inboxes, user),
+                Admitted::Full(user) => pass_on(rt, number, &mut mail, user),
                 Admitted::Closed => {}
             }
         }

@@ -1,0 +1,42 @@
+-- What a loop has its work do.
+use Rattle.std.specs.Prelude.{ℕ, Bool, true, false, List, ◌∷◌, Option}
+use Rattle.socket_wire.specs.declared.token.Peer.{Peer}
+use Rattle.loop_parts.specs.declared.admin_lines.Request.{Request}
+use Rattle.event_loop.specs.declared.work.Told.{Told}
+use Rattle.event_loop.specs.declared.work.Driven.{Driven}
+use Rattle.event_loop.specs.declared.work.Driven.TheVariants.{Waiting, CutShort, Blocked, Over}
+use Rattle.event_loop.specs.declared.work.Admitted.{Admitted}
+
+-- a call of the work that changes it, with what it answered
+pub data Deed : Type 0 where
+  -- the user of this number was taken in, or passed on, or closed
+  TookIn : ℕ → Admitted → Deed
+  -- it was asked for room for a user, and there is some or not
+  MadeRoom : Bool → Deed
+  -- an event of this peer of the exchange under this key was noted, and was news or not
+  Noted : ℕ → Peer → Told → Bool → Deed
+  -- the exchange under this key was driven so far
+  Drove : ℕ → Driven → Deed
+  -- the exchange under this key was ended, since another one wants what it has
+  GaveWay : ℕ → Deed
+  -- a queue was asked for the exchange that is first in it
+  Asked : ℕ → Option ℕ → Deed
+  -- a line of the administrator was answered
+  Answered : Request → Deed
+  -- a turn was over
+  EndedTurn : Deed
+  -- users are let go from now on
+  Drained : Deed
+  -- all exchanges were ended
+  Halted : Deed
+
+-- one more deed, whatever was done before
+abbrev pub Adds : (before after : List Deed → Type 0) → Deed → Type 0
+Adds before after deed = (past : List Deed) → before past → after (deed ∷ past)
+
+-- there is more to do, once others have had their turn
+abbrev pub has_more : Driven → Bool
+has_more CutShort = true
+has_more (Blocked other) = true
+has_more Waiting = false
+has_more Over = false

@@ -1,0 +1,5 @@
+pub mod Deeds
+pub mod Mail
+pub mod Reports
+pub mod Sendings
+pub mod Turns

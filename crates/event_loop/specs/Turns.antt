@@ -1,0 +1,147 @@
+-- What a loop did in a call: its deeds, and whom it owes another turn.
+use Rattle.std.specs.Prelude.{◌≡◌, ℕ, ◌+◌, ◌*◌, ◌≤◌, ◌<◌, ◌⊎◌, Bool, true, false, cond, nat_eq, List, [], ◌∷◌, ◌++◌, All, map, ◌/◌, Some, None}
+use Rattle.mio.specs.Events.{items}
+use Rattle.socket_wire.specs.declared.token.Peer.{Peer}
+use Rattle.socket_wire.specs.Token.{peer_number}
+use Rattle.loop_parts.specs.declared.ready_list.ReadyList.{ReadyList}
+use Rattle.loop_parts.specs.Marks.{is_marked, count}
+use Rattle.event_loop.specs.declared.work.Driven.{Driven}
+use Rattle.event_loop.specs.declared.work.Driven.TheVariants.{Waiting, CutShort, Blocked, Over}
+use Rattle.event_loop.specs.declared.work.Work.{Ghosts as Work}
+use Rattle.event_loop.specs.declared.work.Admitted.TheVariants.{Seated, Full, Closed}
+use Rattle.event_loop.specs.declared.inbox.Handed.{Handed}
+use Rattle.event_loop.specs.declared.event.Event.{Event}
+use Rattle.event_loop.specs.declared.looping.EventLoop.{EventLoop}
+use Rattle.event_loop.specs.declared.looping.TheConstants.{WAKER, SECOND}
+use Rattle.event_loop.specs.Reports.{words_of}
+use Rattle.event_loop.specs.Deeds.{Deed, has_more}
+use Rattle.event_loop.specs.Deeds.Deed.{TookIn, MadeRoom, Noted, Drove, GaveWay, Asked, Answered, EndedTurn, Drained, Halted}
+
+-- whether the exchange under this key is owed a turn after the deed: if it was driven, by how far, else as before
+abbrev pub owes_after : Bool → ℕ → Deed → Bool
+owes_after before key (Drove other driven) = cond (nat_eq other key) (has_more driven) before
+owes_after before key (TookIn number admitted) = before
+owes_after before key (MadeRoom there) = before
+owes_after before key (Noted other peer told news) = before
+owes_after before key (GaveWay other) = before
+owes_after before key (Asked queue first) = before
+owes_after before key (Answered request) = before
+owes_after before key EndedTurn = before
+owes_after before key Drained = before
+owes_after before key Halted = before
+
+-- so after these deeds, the newest first
+abbrev pub owes : Bool → ℕ → List Deed → Bool
+owes before key [] = before
+owes before key (deed ∷ deeds) = owes_after (owes before key deeds) key deed
+
+-- there is a mark for each key
+abbrev pub IsTied : {K : Type 0} → Work K → EventLoop K → Type 0
+IsTied w loop = w.bound loop.work ≤ count loop.ready
+
+-- a work did these deeds, the newest first, and has as many keys and queues as before
+pub record Works {K : Type 0} (w : Work K) (old new : K) (deeds : List Deed) : Type 0 where
+  pub past : (past : List Deed) → w.past old past → w.past new (deeds ++ past)
+  pub bound : w.bound new ≡ w.bound old
+  pub queues : w.queues new ≡ w.queues old
+
+-- a loop had its work do these deeds, and marked whom it owes another turn
+pub record Does {K : Type 0} (w : Work K) (old new : EventLoop K) (deeds : List Deed) : Type 0 where
+  pub works : Works w old.work new.work deeds
+  pub owed : IsTied w old → (key : ℕ) → owes (is_marked old.ready key) key deeds ≡ true → is_marked new.ready key ≡ true
+  pub marks : count new.ready ≡ count old.ready
+  -- it didn't poll
+  pub reports : new.reports ≡ old.reports
+
+-- it had its work do deeds of which this holds, where there is a mark for each key
+pub record Did {K : Type 0} (w : Work K) (old new : EventLoop K) (Holds : List Deed → Type 0) : Type 0 where
+  pub deeds : List Deed
+  pub does : Does w old new deeds
+  pub holds : IsTied w old → Holds deeds
+
+-- answers to the administrator, which drive nobody
+pub record Answers {K : Type 0} (w : Work K) (old new : K) : Type 0 where
+  pub deeds : List Deed
+  pub works : Works w old new deeds
+  pub idle : (before : Bool) (key : ℕ) → owes before key deeds ≡ before
+
+-- this deed stands among those
+pub record Stands (deed : Deed) (deeds : List Deed) : Type 0 where
+  pub later : List Deed
+  pub before : List Deed
+  pub is : deeds ≡ later ++ (deed ∷ before)
+
+-- the exchange under this key was driven
+abbrev pub IsDriven : ℕ → List Deed → Type 0
+IsDriven key deeds = (driven : Driven) × Stands (Drove key driven) deeds
+
+-- one that blocks the driven exchange gives way
+abbrev pub ways : Driven → List Deed
+ways (Blocked other) = GaveWay other ∷ []
+ways CutShort = []
+ways Waiting = []
+ways Over = []
+
+-- it was driven, and then one that blocks it gave way; nothing else was done
+pub record Drives (key : ℕ) (deeds : List Deed) : Type 0 where
+  pub driven : Driven
+  pub is : deeds ≡ ways driven ++ (Drove key driven ∷ [])
+
+-- it was driven, or has a mark: it is driven in the next turn, before which no time is waited
+abbrev pub Gets : ℕ → List Deed → ReadyList → Type 0
+Gets key deeds ready = IsDriven key deeds ⊎ (is_marked ready key ≡ true)
+
+-- after this deed, the exchange under this key gets a turn
+pub record IsDue (key : ℕ) (deed : Deed) (deeds : List Deed) (ready : ReadyList) : Type 0 where
+  pub later : List Deed
+  pub before : List Deed
+  pub is : deeds ≡ later ++ (deed ∷ before)
+  pub gets : Gets key later ready
+
+-- the event was noted, if it is of an exchange, which gets a turn after that, if it was news
+abbrev pub IsServed : Event → List Deed → ReadyList → Type 0
+IsServed event deeds ready = (key : ℕ) (peer : Peer) → event.token ≡ 4 * key + peer_number peer
+    → Stands (Noted key peer event.told false) deeds ⊎ IsDue key (Noted key peer event.told true) deeds ready
+
+-- the queue was asked, and the exchange that is first in it gets a turn after that, if it is of this loop
+abbrev pub IsAsked : ℕ → List Deed → ReadyList → Type 0
+IsAsked queue deeds ready = Stands (Asked queue None) deeds ⊎ ((key : ℕ) × IsDue key (Asked queue (Some key)) deeds ready)
+
+-- the user of this number was taken in, and its exchange gets a turn after that, or it was passed on, or closed
+abbrev pub IsAdmitted : ℕ → List Deed → ReadyList → Type 0
+IsAdmitted number deeds ready = ((key : ℕ) × IsDue key (TookIn number (Seated key)) deeds ready)
+    ⊎ ((user : Handed) × Stands (TookIn number (Full user)) deeds)
+    ⊎ Stands (TookIn number Closed) deeds
+
+-- each event was served, and where the loop wasn't woken none of them says that it was
+pub record AreServed (events : List Event) (woken : Bool) (deeds : List Deed) (ready : ReadyList) : Type 0 where
+  pub served : All (λ event. IsServed event deeds ready) events
+  pub woke : woken ≡ false → All (λ event. event.token ≡ WAKER.0 → ⊥) events
+
+-- one of the events says that the loop was woken
+abbrev pub IsWoken : List Event → Type 0
+IsWoken events = All (λ event. event.token ≡ WAKER.0 → ⊥) events → ⊥
+
+-- what a loop does of which these events were reported
+pub record Serves {K : Type 0} (w : Work K) (old new : EventLoop K) (events : List Event) (deeds : List Deed) : Type 0 where
+  -- each exchange that was owed a turn is driven
+  pub ready : (key : ℕ) → is_marked old.ready key ≡ true → IsDriven key deeds
+  -- each event is served
+  pub served : All (λ event. IsServed event deeds new.ready) events
+  -- where one of them says that the loop was woken, each queue is asked
+  pub asked : IsWoken events → (queue : ℕ) → queue < w.queues old.work → IsAsked queue deeds new.ready
+
+-- the second of the loop's clock
+abbrev pub second : {K : Type 0} → EventLoop K → ℕ
+second loop = loop.elapsed / SECOND
+
+-- the old loop, once the poll has reported what the new one knows
+abbrev pub polled : {K : Type 0} → (old new : EventLoop K) → EventLoop K
+polled old new = record old { reports = new.reports }
+
+-- what a round does: it polls, and serves a turn
+pub record ServesRound {K : Type 0} (w : Work K) (old new : EventLoop K) (deeds : List Deed) : Type 0 where
+  -- that of the events that its poll has reported
+  pub turn : Serves w old new (map words_of (items new.reports.events)) deeds
+  -- once a second begins, each exchange gets a turn
+  pub seconds : (second new ≡ second old → ⊥) → (key : ℕ) → key < w.bound old.work → Gets key deeds new.ready
