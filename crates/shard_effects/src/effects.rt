@@ -49,6 +49,9 @@ pub trait Holder: InHand {
     // so may that on which a service was asked for its options and answered this
     ghost usable_after: { Self → AnyResponse → Bool };
 
+    // a round of turns of the message that moves leads from the one to the other
+    ghost rounds: { Self → Self → Type 0 };
+
     // what the course is told of the message that moves where nothing else ends it: by how its transaction ended
     ghost ends: { Self → AnyEnd → Type 0 };
 
@@ -138,6 +141,15 @@ pub trait Effects<P>: Holder {
     // what a point's service said of its options was read of this answer, and is kept: the surroundings before and after that
     ghost learns: { Self.Outside → Self.Outside → P → AnyPoint → AnyResponse → Type 0 };
 
+    // the leased connection that is held is one of this point's service
+    ghost leases: { Self → AnyPoint → Type 0 };
+
+    // the service of this point is asked for its options: the request for that is to be sent
+    ghost asks: { Self → Self.Outside → AnyPoint → Type 0 };
+
+    // the connection to the origin leads where the plan of its message says: what is held before it is opened and after that
+    ghost dials: { Self → Self → Type 0 };
+
     // the leased connection that is held was put back, or its lease given up: the surroundings before that and after it
     ghost puts: { Self → Self.Outside → Self.Outside → P → Type 0 };
 
@@ -169,6 +181,7 @@ pub trait Effects<P>: Holder {
     fn lend(&mut self, at: &P, out: &mut Self::Outside, point: Point) -> Result<bool, LendFault>
         requires { (Self.hand self.old).leased ≡ false }
         ensures lent { is_ok result ≡ (Self.hand self.new).leased }
+        ensures point { IfOk result (λ _. leases self.new point) }
         ensures kept { KeepsButLease (Self.hand self.old) (Self.hand self.new) };
 
     /// Leases a connection to a message that waits, once it is its turn. With a connection it has left the queue.
@@ -180,6 +193,7 @@ pub trait Effects<P>: Holder {
     ) -> Result<bool, LendFault>
         requires { (Self.hand self.old).leased ≡ false }
         ensures lent { is_ok result ≡ (Self.hand self.new).leased }
+        ensures point { IfOk result (λ _. leases self.new point) }
         ensures kept { KeepsButLease (Self.hand self.old) (Self.hand self.new) };
 
     /// Has a message wait for a connection. False where it may not.
@@ -190,6 +204,7 @@ pub trait Effects<P>: Holder {
 
     /// Begins to ask the point's service for its options.
     fn ask(&mut self, at: &P, out: &Self::Outside, point: Point) -> Result<(), Reason>
+        ensures asks { IfOk result (λ _. asks self.new out.now point) }
         ensures suits { IfErr result (λ reason. lies_elsewhere reason ≡ true) }
         ensures kept { Keeps (Self.hand self.old) (Self.hand self.new) };
 
@@ -225,6 +240,7 @@ pub trait Effects<P>: Holder {
     fn dial(&mut self, at: &P, out: &mut Self::Outside) -> Result<(), Reason>
         requires { ((Self.hand self.old).origin ≡ false) × ((Self.hand self.old).moving ≡ false) }
         ensures opened { is_ok result ≡ (Self.hand self.new).origin }
+        ensures leads { IfOk result (λ _. dials self.old self.new) }
         ensures suits { IfErr result (λ reason. lies_elsewhere reason ≡ true) }
         ensures kept { KeepsButOrigin (Self.hand self.old) (Self.hand self.new) };
 
@@ -240,6 +256,7 @@ pub trait Effects<P>: Holder {
     fn round<R: Wait>(&mut self, rt: &R, at: &P, out: &mut Self::Outside, may_renew: bool) -> Round
         requires { (Self.hand self.old).moving ≡ true }
         ensures kept { Keeps (Self.hand self.old) (Self.hand self.new) }
+        ensures rounds { Self.rounds self.old self.new }
         ensures renewed { result ≡ Round.Broken → may_renew ≡ true };
 
     /// Takes the transaction apart of a message that is over, or ends by this. What it stood over comes back.

@@ -5,9 +5,14 @@ use Rattle.exchange_core.specs.declared.event.Event.TheVariants.{Sent, Begun, An
 use Rattle.exchange_core.specs.declared.phase.Phase.{Phase}
 use Rattle.exchange_core.specs.declared.phase.Phase.TheVariants.{Idle, Head, Refusing, Closing, Gone}
 use Rattle.exchange_core.specs.declared.course.Course.{Course}
-use Rattle.exchange_core.specs.Course.{is_leased, is_ready, is_mid_text}
-use Rattle.exchange_core.specs.May.{may_come, is_at_gate, is_moving, is_refusing, is_gone}
+use Rattle.exchange_core.specs.declared.connection.Connection.{Connection}
+use Rattle.exchange_core.specs.declared.connection.Connection.TheVariants.{Absent, Ready, InUse, Spent}
+use Rattle.exchange_core.specs.declared.event.RefusalCause.{RefusalCause}
+use Rattle.exchange_core.specs.Course.{is_leased, is_mid_text}
+use Rattle.exchange_core.specs.May.{may_come, is_at_gate, is_moving, is_refusing, is_gone, is_idle, is_answer}
 use Rattle.exchange_core.specs.Dues.{status_of}
+use Rattle.shard_effects.specs.declared.ends.End.{End}
+use Rattle.shard_effects.specs.declared.ends.End.TheVariants as ends
 use Rattle.shard_effects.specs.declared.ends.EndedBy.{EndedBy}
 use Rattle.shard_effects.specs.declared.ends.EndedBy.TheVariants as ended
 
@@ -28,14 +33,19 @@ ends_message _ = false
 abbrev pub Holds : Course → Course → Type 0
 Holds old new = (is_leased new.connection ≡ is_leased old.connection) × (new.stake ≡ old.stake) × (new.origin ≡ old.origin)
 
--- the service has said all, and its connection may serve again
-abbrev pub usable_in : Option Bool → Bool
-usable_in None = false
-usable_in (Some usable) = usable
+-- A connection on which a request is under way stays so, or the service has said all on it: then it is ready for others exactly where it
+-- may serve again. Any other one stays what it was.
+abbrev pub IsServedBy : (usable : Bool) → (old new : Connection) → Type 0
+IsServedBy usable (InUse reused) (InUse again) = ⊤
+IsServedBy usable (InUse reused) (Ready again) = usable ≡ true
+IsServedBy usable (InUse reused) Spent = usable ≡ false
+IsServedBy usable (InUse reused) Absent = ⊥
+IsServedBy usable old new = new ≡ old
 
--- a connection that wasn't ready to serve is so now only where it may serve again
-abbrev pub IsReadiedBy : (usable : Bool) → Course → Course → Type 0
-IsReadiedBy usable old new = usable ≡ false → is_ready old.connection ≡ false → is_ready new.connection ≡ false
+-- what it is once that was told, where the service has said all
+abbrev pub IsToldServed : (served : Option Bool) → (old new : Connection) → Type 0
+IsToldServed None old new = new ≡ old
+IsToldServed (Some usable) old new = IsServedBy usable old new
 
 -- the message goes on
 abbrev pub Stays : Course → Course → Type 0
@@ -59,6 +69,19 @@ abbrev pub IsOwedBy : EndedBy → (old new : Course) → Type 0
 IsOwedBy ended.Deadline old new = IsOwed old new 504
 IsOwedBy ended.Stop old new = IsOwed old new 503
 IsOwedBy _ old new = ⊤
+
+-- A message is over, to whose user a byte of an answer went or not, with one of these ends. A user that got such a byte isn't refused;
+-- another one is, where the message failed, with the status of just that cause. A further request is read only after an answer that keeps
+-- the connection, and a response is waited for only where its request was sent.
+pub record IsEnded (may : End → Type 0) (answered : Bool) (old new : Course) : Type 0 where
+  pub end : End
+  pub is_so : may end
+  pub over : moves new ≡ false
+  pub alone : answered ≡ true → is_refusing new.phase ≡ false
+  pub owed : (why : RefusalCause) → end ≡ ends.Failed why → answered ≡ false → IsOwed old new (status_of why)
+  pub lost : end ≡ ends.Lost → is_gone new.phase ≡ true
+  pub keeps : is_idle new.phase ≡ true → end ≡ ends.Answered true
+  pub awaits : is_answer new.phase ≡ true → end ≡ ends.Sent true
 
 -- nothing is due for the user any more, but for a refusal
 abbrev pub is_stopped : Course → Bool

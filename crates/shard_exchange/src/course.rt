@@ -8,9 +8,9 @@ ghost use Rattle.exchange_core.specs.Dues.{due_of, status_of};
 ghost use Rattle.exchange_core.specs.declared.due.Due.TheVariants as dues;
 ghost use Rattle.exchange_core.specs.declared.event.Event.TheVariants.{Failed, Begun, Stop};
 ghost use Rattle.exchange_core.specs.declared.event.RefusalCause.TheVariants.{Elsewhere};
-ghost use Rattle.exchange_core.specs.May.{may_come, is_gone, is_head, is_idle, is_refusing};
+ghost use Rattle.exchange_core.specs.May.{may_come, is_answer, is_gone, is_head, is_idle, is_refusing};
 ghost use Rattle.exchange_core.specs.Log.{Goes};
-ghost use Rattle.shard_exchange.specs.Ends.{moves, ends_message, usable_in, Stays, Leaves, IsOwed, Halts, IsReadiedBy};
+ghost use Rattle.shard_exchange.specs.Ends.{moves, ends_message, Stays, Leaves, IsOwed, Halts, IsToldServed};
 
 use exchange_core::{Event, Exchange, Phase, RefusalCause};
 use shard_effects::{End, Report};
@@ -67,6 +67,7 @@ fn tell_end(course: &mut Exchange, end: End)
     ensures owed { (why : AnyCause) → end ≡ End.Failed why → IsOwed course.old course.new (status_of why) }
     ensures alone { course.old.begun ≡ true → is_refusing course.new.phase ≡ false }
     ensures keeps { is_idle course.new.phase ≡ true → end ≡ End.Answered true }
+    ensures awaits { is_answer course.new.phase ≡ true → end ≡ End.Sent true }
 {
     match end {
         End::Sent { has_memory } => {
@@ -86,7 +87,7 @@ fn tell_end(course: &mut Exchange, end: End)
 fn tell_served(course: &mut Exchange, served: Option<bool>)
     requires moves { moves course.old ≡ true }
     ensures goes { Goes course.old course.new }
-    ensures readied { IsReadiedBy (usable_in served) course.old course.new }
+    ensures served { IsToldServed served course.old.connection course.new.connection }
     ensures stays { Stays course.old course.new }
     ensures begun { course.new.begun ≡ course.old.begun }
     ensures text { is_mid_text course.new ≡ is_mid_text course.old }
@@ -116,13 +117,14 @@ fn tell_cut(course: &mut Exchange, cuts: bool)
 
 /// Tells the course of a transaction that is over. A user to whom a byte of an answer went gets no refusal after it. One to whom none
 /// went gets the refusal of the cause by which its message failed, or of the stop. A further request is read only after an answer that
-/// keeps its connection. The service's connection serves again only where the report says so.
+/// keeps its connection, and a response is waited for only where its request was sent. The service's connection serves again exactly
+/// where the report says so.
 pub(crate) fn tell(course: &mut Exchange, report: Report)
     requires moves { moves course.old ≡ true }
     requires runs { course.old.stopping ≡ false }
     ensures goes { Goes course.old course.new }
     ensures leaves { Leaves course.old course.new }
-    ensures readied { IsReadiedBy (usable_in report.served) course.old course.new }
+    ensures served { IsToldServed report.served course.old.connection course.new.connection }
     ensures lost { report.end ≡ End.Lost → is_gone course.new.phase ≡ true }
     ensures stops { report.end ≡ End.Stopped → Halts course.old course.new false }
     ensures stopped { report.end ≡ End.Stopped → report.has_answered ≡ false → IsOwed course.old course.new 503 }
@@ -130,6 +132,7 @@ pub(crate) fn tell(course: &mut Exchange, report: Report)
         → IsOwed course.old course.new (status_of why) }
     ensures alone { report.has_answered ≡ true → is_refusing course.new.phase ≡ false }
     ensures keeps { is_idle course.new.phase ≡ true → report.end ≡ End.Answered true }
+    ensures awaits { is_answer course.new.phase ≡ true → report.end ≡ End.Sent true }
 {
     if tell_begun(course, report.has_answered) {
         tell_served(course, report.served);

@@ -16,6 +16,7 @@ impl<H: Holder> Exchange<H> {
     ghost use Rattle.exchange_core.specs.Dues.{due_of, fails_of};
     ghost use Rattle.exchange_core.specs.Log.{Goes};
     ghost use Rattle.exchange_core.specs.declared.due.Due.TheVariants as dues;
+    ghost use Rattle.shard_exchange.specs.Outcomes.{IsLent};
     ghost use Rattle.shard_exchange.specs.Steps.{Heeds, GoesOn};
 
     /// Leases a connection of the service, or has the message wait for one where all are leased.
@@ -23,6 +24,7 @@ impl<H: Holder> Exchange<H> {
     where
         H: Effects<P>,
         requires due { due_of self.old.course ≡ dues.Lend }
+        ensures lent { IsLent (H.leases self.new.holdings) self.old.course self.new.course }
         ensures goes { GoesOn self.old.course self.new.course }
         ensures on { result ≡ Step.On }
     {
@@ -42,6 +44,7 @@ impl<H: Holder> Exchange<H> {
     where
         H: Effects<P>,
         requires due { due_of self.old.course ≡ dues.Lend }
+        ensures unlent { self.new.course.connection ≡ self.old.course.connection }
         ensures goes { GoesOn self.old.course self.new.course }
         ensures on { result ≡ Step.On }
     {
@@ -58,6 +61,7 @@ impl<H: Holder> Exchange<H> {
         H: Effects<P>,
         requires due { due_of self.old.course ≡ dues.Await }
         requires fits { fails_of dues.Await (cause_of reason) ≡ true }
+        ensures unlent { self.new.course.connection ≡ self.old.course.connection }
         ensures goes { Goes self.old.course self.new.course }
         ensures owed { IsOwed self.old.course self.new.course (status_of reason) }
         ensures on { result ≡ Step.On }
@@ -71,6 +75,7 @@ impl<H: Holder> Exchange<H> {
     where
         H: Effects<P>,
         requires due { due_of self.old.course ≡ dues.Await }
+        ensures unlent { self.new.course.connection ≡ self.old.course.connection }
         ensures goes { Goes self.old.course self.new.course }
         ensures late { H.is_late out.old at.now ≡ true → is_mid_text self.old.course ≡ false
             → is_refusing self.new.course.phase ≡ true }
@@ -91,6 +96,7 @@ impl<H: Holder> Exchange<H> {
         H: Effects<P>,
         requires due { due_of self.old.course ≡ dues.Await }
         requires free { is_leased self.old.course.connection ≡ false }
+        ensures lent { IsLent (H.leases self.new.holdings) self.old.course self.new.course }
         ensures goes { Goes self.old.course self.new.course }
         ensures heeds { Heeds (H.is_late out.new at.now) self.new.course result }
     {

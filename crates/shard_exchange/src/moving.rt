@@ -1,6 +1,6 @@
 //! Messages that move: their transactions start, turn and end.
 
-ghost use Rattle.std.specs.Prelude.{◌≡◌, true, false};
+ghost use Rattle.std.specs.Prelude.{◌≡◌, ◌⊎◌, ◌&&◌, ◌||◌, if◌then◌else◌, true, false};
 
 use crate::course::tell;
 use crate::exchange::Exchange;
@@ -11,9 +11,13 @@ use std::sync::Wait;
 impl<H: Holder> Exchange<H> {
     ghost use Rattle.exchange_core.specs.Dues.{due_of};
     ghost use Rattle.exchange_core.specs.Log.{Goes};
-    ghost use Rattle.exchange_core.specs.May.{is_gone, is_refusing};
+    ghost use Rattle.exchange_core.specs.Course.{after};
+    ghost use Rattle.exchange_core.specs.May.{may_come, is_gone, is_moving, is_refusing};
     ghost use Rattle.exchange_core.specs.declared.due.Due.TheVariants as dues;
-    ghost use Rattle.shard_exchange.specs.Ends.{moves, Halts, IsOwedBy, IsReadiedBy};
+    ghost use Rattle.exchange_core.specs.declared.event.Event.TheVariants.{Begun, Renewed};
+    ghost use Rattle.shard_effects.specs.Ends.{IfItself};
+    ghost use Rattle.shard_exchange.specs.Ends.{moves, Halts, IsEnded, IsOwedBy, IsServedBy};
+    ghost use Rattle.shard_exchange.specs.Outcomes.{has_answer, IsGated, IsTurned};
     ghost use Rattle.shard_exchange.specs.Steps.{Heeds, GoesOn};
 
     /// Starts the transaction of a message that has all that it needs. Where it can't begin, the message fails.
@@ -41,6 +45,7 @@ impl<H: Holder> Exchange<H> {
         H: Effects<P>,
         requires due { due_of self.old.course ≡ dues.AskGate }
         requires runs { self.old.course.stopping ≡ false }
+        ensures gated { IsGated (H.ends self.old.holdings) (H.answered self.old.holdings) self.old.course self.new.course }
         ensures goes { GoesOn self.old.course self.new.course }
         ensures on { result ≡ Step.On }
     {
@@ -58,6 +63,7 @@ impl<H: Holder> Exchange<H> {
         H: Effects<P>,
         requires due { due_of self.old.course ≡ dues.Turn }
         requires runs { self.old.course.stopping ≡ false }
+        ensures turned { IsTurned H.rounds H.answered H.reusable H.ends (λ out. H.is_late out at.now) self.old.holdings self.old.course self.new.course }
         ensures goes { Goes self.old.course self.new.course }
         ensures heeds { Heeds (H.is_late out.new at.now) self.new.course result }
     {
@@ -81,11 +87,12 @@ impl<H: Holder> Exchange<H> {
     fn round<P, R: Wait>(&mut self, rt: &R, at: &P, out: &mut H::Outside) -> Round
     where
         H: Effects<P>,
-        requires { moves self.old.course ≡ true }
+        requires { is_moving self.old.course.phase ≡ true }
         ensures goes { Goes self.old.course self.new.course }
-        ensures moves { moves self.new.course ≡ true }
-        ensures runs { self.old.course.stopping ≡ self.new.course.stopping }
-        ensures still { result ≡ Round.Waiting → self.new.course ≡ self.old.course }
+        ensures rounds { H.rounds self.old.holdings self.new.holdings }
+        ensures still { (result ≡ Round.Broken → ⊥) → self.new.course ≡ self.old.course }
+        ensures renewed { (self.new.course ≡ self.old.course) ⊎ (self.new.course ≡ after self.old.course Renewed) }
+        ensures moves { is_moving self.new.course.phase ≡ true }
     {
         let may_renew = self.course.may(Event::Renewed);
         let round = self.holdings.round(rt, at, out, may_renew);
@@ -97,12 +104,11 @@ impl<H: Holder> Exchange<H> {
 
     /// Reports the first byte of an answer, where it went out now. Says whether it did.
     fn note_answer(&mut self) -> bool
-        requires { moves self.old.course ≡ true }
+        requires { is_moving self.old.course.phase ≡ true }
         ensures goes { Goes self.old.course self.new.course }
-        ensures moves { moves self.new.course ≡ true }
         ensures held { self.new.holdings ≡ self.old.holdings }
-        ensures line { self.new.course.connection ≡ self.old.course.connection }
-        ensures none { result ≡ false → self.new.course ≡ self.old.course }
+        ensures says { result ≡ (H.answered self.old.holdings && may_come self.old.course Begun) }
+        ensures told { self.new.course ≡ (if result then after self.old.course Begun else self.old.course) }
     {
         let begins = self.holdings.has_answered() && self.course.may(Event::Begun);
         if begins {
@@ -113,9 +119,10 @@ impl<H: Holder> Exchange<H> {
 
     /// Reports that the service has said all, whose connection is for others then, where its exchange was whole. Says whether it has.
     fn note_service(&mut self) -> bool
-        requires { moves self.old.course ≡ true }
+        requires { is_moving self.old.course.phase ≡ true }
         ensures goes { Goes self.old.course self.new.course }
-        ensures readied { IsReadiedBy (H.reusable self.old.holdings) self.old.course self.new.course }
+        ensures served { IsServedBy (H.reusable self.old.holdings) self.old.course.connection self.new.course.connection }
+        ensures kept { (self.new.course.phase ≡ self.old.course.phase) × (self.new.course.begun ≡ self.old.course.begun) }
         ensures none { result ≡ false → self.new.course ≡ self.old.course }
     {
         let Some(usable) = self.holdings.free_service() else {
@@ -130,9 +137,11 @@ impl<H: Holder> Exchange<H> {
 
     /// Reports what a round came to that isn't over. Says whether there was anything to report.
     fn note_round(&mut self) -> bool
-        requires { moves self.old.course ≡ true }
+        requires { is_moving self.old.course.phase ≡ true }
         ensures goes { Goes self.old.course self.new.course }
-        ensures readied { IsReadiedBy (H.reusable self.old.holdings) self.old.course self.new.course }
+        ensures phase { self.new.course.phase ≡ self.old.course.phase }
+        ensures begun { self.new.course.begun ≡ (self.old.course.begun || (H.answered self.old.holdings && has_answer self.old.course.phase)) }
+        ensures served { IsServedBy (H.reusable self.old.holdings) self.old.course.connection self.new.course.connection }
         ensures none { result ≡ false → self.new.course ≡ self.old.course }
     {
         let begins = self.note_answer();
@@ -150,11 +159,12 @@ impl<H: Holder> Exchange<H> {
         requires runs { self.old.course.stopping ≡ false }
         ensures goes { Goes self.old.course self.new.course }
         ensures over { moves self.new.course ≡ false }
-        ensures readied { IsReadiedBy (H.reusable self.old.holdings) self.old.course self.new.course }
+        ensures served { IsServedBy (H.reusable self.old.holdings) self.old.course.connection self.new.course.connection }
         ensures lost { by ≡ EndedBy.User → is_gone self.new.course.phase ≡ true }
         ensures stops { by ≡ EndedBy.Stop → Halts self.old.course self.new.course false }
         ensures alone { H.answered self.old.holdings ≡ true → is_refusing self.new.course.phase ≡ false }
         ensures owed { H.answered self.old.holdings ≡ false → IsOwedBy by self.old.course self.new.course }
+        ensures told { IfItself by (IsEnded (H.ends self.old.holdings) (H.answered self.old.holdings) self.old.course self.new.course) }
     {
         let report = self.holdings.settle(rt, at, out, by);
         tell(&mut self.course, report);

@@ -11,7 +11,7 @@ use trace_core::Point;
 impl<H: Holder> Exchange<H> {
     ghost use Rattle.exchange_core.specs.Dues.{due_of};
     ghost use Rattle.exchange_core.specs.declared.due.Due.TheVariants as dues;
-    ghost use Rattle.shard_exchange.specs.Outcomes.{IsPlanned, IsReserved};
+    ghost use Rattle.shard_exchange.specs.Outcomes.{IsDialed, IsPlanned, IsReserved};
     ghost use Rattle.shard_exchange.specs.Steps.{GoesOn};
 
     /// Plans the message, or finds that its service is to be asked for its options first.
@@ -61,6 +61,7 @@ impl<H: Holder> Exchange<H> {
     where
         H: Effects<P>,
         requires due { due_of self.old.course ≡ dues.Dial }
+        ensures dialed { IsDialed (H.dials self.old.holdings self.new.holdings) self.old.course self.new.course }
         ensures goes { GoesOn self.old.course self.new.course }
         ensures on { result ≡ Step.On }
     {

@@ -14,7 +14,7 @@ impl<H: Holder> Exchange<H> {
     ghost use Rattle.exchange_core.specs.May.{may_come};
     ghost use Rattle.exchange_core.specs.declared.event.Event.TheVariants.{Renewed};
     ghost use Rattle.exchange_core.specs.declared.due.Due.TheVariants as dues;
-    ghost use Rattle.shard_exchange.specs.Outcomes.{IsHeard};
+    ghost use Rattle.shard_exchange.specs.Outcomes.{IsAsked, IsHeard};
     ghost use Rattle.shard_exchange.specs.Steps.{Heeds, GoesOn};
 
     /// Begins to ask the service for its options.
@@ -22,6 +22,7 @@ impl<H: Holder> Exchange<H> {
     where
         H: Effects<P>,
         requires due { due_of self.old.course ≡ dues.Ask }
+        ensures asked { IsAsked (H.asks self.new.holdings out.new) self.old.course self.new.course }
         ensures goes { GoesOn self.old.course self.new.course }
         ensures on { result ≡ Step.On }
     {
@@ -40,7 +41,7 @@ impl<H: Holder> Exchange<H> {
     where
         H: Effects<P>,
         requires due { due_of self.old.course ≡ dues.Hear }
-        ensures heard { IsHeard (H.learns out.old out.new at.now) self.old.course self.new.course }
+        ensures heard { IsHeard (H.learns out.old out.new at.now) H.usable_after self.old.course self.new.course }
         ensures goes { Goes self.old.course self.new.course }
         ensures heeds { Heeds (H.is_late out.new at.now) self.new.course result }
     {
@@ -58,7 +59,7 @@ impl<H: Holder> Exchange<H> {
     where
         H: Effects<P>,
         requires due { due_of self.old.course ≡ dues.Hear }
-        ensures heard { IsHeard (H.learns out.old out.new at.now) self.old.course self.new.course }
+        ensures heard { IsHeard (H.learns out.old out.new at.now) H.usable_after self.old.course self.new.course }
         ensures goes { Goes self.old.course self.new.course }
         ensures on { result ≡ Step.On }
     {

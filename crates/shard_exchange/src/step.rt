@@ -1,7 +1,7 @@
 //! The steps of an exchange: what is due is done.
 
 ghost use Rattle.std.specs.Prelude.{◌≡◌, ◌↔◌, true, false};
-ghost use Rattle.shard_exchange.specs.Ends.{is_closing, Halts};
+ghost use Rattle.shard_exchange.specs.Ends.{is_closing, moves, Halts};
 
 use crate::exchange::Exchange;
 use exchange_core::{Due, Phase};
@@ -11,7 +11,8 @@ use std::sync::Wait;
 impl<H: Holder> Exchange<H> {
     ghost use Rattle.exchange_core.specs.Dues.{due_of, is_over, is_wait};
     ghost use Rattle.exchange_core.specs.Log.{Goes};
-    ghost use Rattle.shard_exchange.specs.Outcomes.{Does};
+    ghost use Rattle.exchange_core.specs.May.{is_refusing};
+    ghost use Rattle.shard_exchange.specs.Outcomes.{Does, IsAsked, IsDialed, IsGated, IsHeard, IsLent, IsPlanned, IsTurned};
     ghost use Rattle.shard_exchange.specs.Steps.{Heeds, IsDone, GoesOn};
 
     /// Does a task, and says how far that came. An exchange that only closes isn't stopped: it goes on with that.
@@ -25,9 +26,15 @@ impl<H: Holder> Exchange<H> {
         ensures waits { task ≡ Task.Step → result ≡ Step.Waits → is_wait (due_of self.new.course) ≡ true }
         ensures over { result ≡ Step.Over → is_over self.new.course ≡ true }
         ensures lost { task ≡ Task.Lose → is_over self.new.course ≡ true }
-        ensures does { task ≡ Task.Step → Does (H.plans self.old.holdings self.new.holdings out.old at.now) (H.learns out.old out.new at.now)
+        ensures does { task ≡ Task.Step → Does (IsPlanned (H.plans self.old.holdings self.new.holdings out.old at.now) self.old.course self.new.course)
+            (IsLent (H.leases self.new.holdings) self.old.course self.new.course) (IsAsked (H.asks self.new.holdings out.new) self.old.course self.new.course)
+            (IsHeard (H.learns out.old out.new at.now) H.usable_after self.old.course self.new.course)
+            (IsDialed (H.dials self.old.holdings self.new.holdings) self.old.course self.new.course)
+            (IsGated (H.ends self.old.holdings) (H.answered self.old.holdings) self.old.course self.new.course)
+            (IsTurned H.rounds H.answered H.reusable H.ends (λ out. H.is_late out at.now) self.old.holdings self.old.course self.new.course)
             (H.user_past self.old.holdings) (H.user_past self.new.holdings) (H.hand self.old.holdings) (H.hand self.new.holdings) self.old.course self.new.course (due_of self.old.course) }
         ensures stops { task ≡ Task.Halt → is_closing self.old.course.phase ≡ false → Halts self.old.course self.new.course (H.has_begun self.old.holdings) }
+        ensures alone { task ≡ Task.Halt → moves self.old.course ≡ true → H.answered self.old.holdings ≡ true → is_refusing self.new.course.phase ≡ false }
     {
         let course = self.course.course();
         let is_stopped = course.stopping || course.phase == Phase::Gone;
@@ -51,7 +58,12 @@ impl<H: Holder> Exchange<H> {
         ensures late { result ≡ Step.Waits → H.is_late out.new at.now ≡ false }
         ensures waits { result ≡ Step.Waits → is_wait (due_of self.new.course) ≡ true }
         ensures over { result ≡ Step.Over ↔ is_over self.new.course ≡ true }
-        ensures does { Does (H.plans self.old.holdings self.new.holdings out.old at.now) (H.learns out.old out.new at.now)
+        ensures does { Does (IsPlanned (H.plans self.old.holdings self.new.holdings out.old at.now) self.old.course self.new.course)
+            (IsLent (H.leases self.new.holdings) self.old.course self.new.course) (IsAsked (H.asks self.new.holdings out.new) self.old.course self.new.course)
+            (IsHeard (H.learns out.old out.new at.now) H.usable_after self.old.course self.new.course)
+            (IsDialed (H.dials self.old.holdings self.new.holdings) self.old.course self.new.course)
+            (IsGated (H.ends self.old.holdings) (H.answered self.old.holdings) self.old.course self.new.course)
+            (IsTurned H.rounds H.answered H.reusable H.ends (λ out. H.is_late out at.now) self.old.holdings self.old.course self.new.course)
             (H.user_past self.old.holdings) (H.user_past self.new.holdings) (H.hand self.old.holdings) (H.hand self.new.holdings) self.old.course self.new.course (due_of self.old.course) }
     {
         let step = self.do_due(rt, at, out);
@@ -68,7 +80,12 @@ impl<H: Holder> Exchange<H> {
         H: Effects<P>,
         ensures goes { GoesOn self.old.course self.new.course }
         ensures heeds { Heeds (H.is_late out.new at.now) self.new.course result }
-        ensures does { Does (H.plans self.old.holdings self.new.holdings out.old at.now) (H.learns out.old out.new at.now)
+        ensures does { Does (IsPlanned (H.plans self.old.holdings self.new.holdings out.old at.now) self.old.course self.new.course)
+            (IsLent (H.leases self.new.holdings) self.old.course self.new.course) (IsAsked (H.asks self.new.holdings out.new) self.old.course self.new.course)
+            (IsHeard (H.learns out.old out.new at.now) H.usable_after self.old.course self.new.course)
+            (IsDialed (H.dials self.old.holdings self.new.holdings) self.old.course self.new.course)
+            (IsGated (H.ends self.old.holdings) (H.answered self.old.holdings) self.old.course self.new.course)
+            (IsTurned H.rounds H.answered H.reusable H.ends (λ out. H.is_late out at.now) self.old.holdings self.old.course self.new.course)
             (H.user_past self.old.holdings) (H.user_past self.new.holdings) (H.hand self.old.holdings) (H.hand self.new.holdings) self.old.course self.new.course (due_of self.old.course) }
     {
         match self.course.due() {

@@ -3,7 +3,7 @@
 ghost use Rattle.std.specs.Prelude.{◌≡◌, ◌&&◌, ◌||◌, Some, None, true, false};
 ghost use Rattle.exchange_core.specs.declared.event.Event.TheVariants.{Stop};
 ghost use Rattle.exchange_core.specs.declared.due.Due.TheVariants as dues;
-ghost use Rattle.exchange_core.specs.May.{may_come, is_gone, is_head, is_idle};
+ghost use Rattle.exchange_core.specs.May.{may_come, is_gone, is_head, is_idle, is_refusing};
 ghost use Rattle.exchange_core.specs.Dues.{due_of, is_over};
 ghost use Rattle.exchange_core.specs.Log.{Goes};
 ghost use Rattle.shard_exchange.specs.Ends.{moves, Frees, Halts, is_stopped};
@@ -43,6 +43,7 @@ impl<H: Holder> Exchange<H> {
         requires may { may_come self.old.course Stop ≡ true }
         ensures goes { Goes self.old.course self.new.course }
         ensures stops { Halts self.old.course self.new.course false }
+        ensures alone { H.answered self.old.holdings ≡ true → is_refusing self.new.course.phase ≡ false }
     {
         self.settle(rt, at, out, EndedBy::Stop);
         H::note_stop(at, out, &self.course);
@@ -90,6 +91,7 @@ impl<H: Holder> Exchange<H> {
         H: Effects<P>,
         ensures goes { Goes self.old.course self.new.course }
         ensures stops { Halts self.old.course self.new.course (H.has_begun self.old.holdings) }
+        ensures alone { moves self.old.course ≡ true → H.answered self.old.holdings ≡ true → is_refusing self.new.course.phase ≡ false }
     {
         let _ = self.course.course();
         if !self.course.may(Event::Stop) {
@@ -121,6 +123,7 @@ impl<H: Holder> Exchange<H> {
         H: Effects<P>,
         ensures goes { Goes self.old.course self.new.course }
         ensures stops { Halts self.old.course self.new.course (H.has_begun self.old.holdings) }
+        ensures alone { moves self.old.course ≡ true → H.answered self.old.holdings ≡ true → is_refusing self.new.course.phase ≡ false }
         ensures gone { is_gone self.new.course.phase ≡ true → is_over self.new.course ≡ true }
         ensures over { result ≡ Step.Over → is_over self.new.course ≡ true }
     {

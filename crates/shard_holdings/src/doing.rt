@@ -1,7 +1,8 @@
 //! What is done with the surroundings.
 
 ghost use Rattle.std.specs.Prelude.{◌≡◌, is_some, true, false, IfSome};
-ghost use Rattle.shard_outside.specs.Learning.{IsLearned};
+ghost use Rattle.shard_message.specs.Dialed.{LeadsAsPlanned};
+ghost use Rattle.shard_outside.specs.Learning.{IsAsking, IsLearned};
 ghost use Rattle.shard_outside.specs.Planning.{PlansBy};
 
 use crate::holdings::Holdings;
@@ -29,7 +30,8 @@ fn take_in<P, O: Outside<P>>(
     lease: O::Lease,
 ) -> bool
     requires { is_some slot.old ≡ false }
-    ensures { is_some slot.new ≡ true }
+    ensures kept { is_some slot.new ≡ true }
+    ensures leased { IfSome slot.new (λ leased. leased.lease ≡ lease) }
 {
     let reused = O::is_reused(&lease);
     let wire = Some(wire);
@@ -44,6 +46,12 @@ impl<P, O: Outside<P>> Effects<P> for Holdings<O> {
         PlansBy (O.config_is out) (O.limits_are out) (O.book_is out) (O.now_is out at) asked message.value old.planned new.planned result) };
 
     ghost learns = { λ old new at point answer. IsLearned (O.config_is old) (O.now_is old at) (O.keeps old new at point) point answer };
+
+    ghost leases = { λ held point. IfSome held.connection (λ leased. O.point_of leased.lease ≡ point) };
+
+    ghost asks = { λ held out point. IfSome held.asking (λ side. IsAsking (O.config_is out) point side.value.waiting) };
+
+    ghost dials = { λ old new. IfSome new.origin (λ origin. LeadsAsPlanned (λ room. room.planned) (O.leads origin) old.room) };
 
     ghost puts = { λ held old new at. IfSome held.connection (λ leased. IfSome leased.wire (λ wire. O.puts old new at wire leased.lease)) };
 

@@ -1,6 +1,6 @@
 //! What is done over what is held alone.
 
-ghost use Rattle.std.specs.Prelude.{is_some, false, None, Some, ⊤};
+ghost use Rattle.std.specs.Prelude.{◌≡◌, is_some, false, None, Some, ⊤};
 ghost use Rattle.shard_effects.specs.Hand.{hand_of};
 ghost use Rattle.shard_effects.specs.Saying.{past_of};
 ghost use Rattle.shard_outside.specs.Usable.{usable_by};
@@ -35,6 +35,8 @@ impl<O: Kinds> Holder for Holdings<O> {
     ghost user_past = { λ held. past_of O.User.past held.user };
 
     ghost usable_after = { λ held answer. usable_by (λ side. side.value.raw) held.asking answer };
+
+    ghost rounds = { λ old new. (new.user ≡ old.user) × (new.message ≡ old.message) × (new.planned ≡ old.planned) × (new.asking ≡ old.asking) × (new.room ≡ old.room) × (new.origin ≡ old.origin) };
 
     ghost ends = { λ held end. elim held.tx [
       | None ↦ ⊤

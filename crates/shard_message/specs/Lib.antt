@@ -1,4 +1,5 @@
 pub mod Begun
+pub mod Dialed
 pub mod Ended
 pub mod Lines
 pub mod Outset

@@ -1,11 +1,12 @@
 //! A reservation for a message.
 
-ghost use Rattle.std.specs.Prelude.{◌≡◌, ◌≤◌, IfErr, None, true};
+ghost use Rattle.std.specs.Prelude.{◌≡◌, ◌≤◌, IfErr, IfOk, None, true};
 ghost use Rattle.std.specs.Option.{ForSome};
 ghost use Rattle.span_bank.specs.declared.limits.TheConstants.{MAX_CAPACITY};
 ghost use Rattle.exchange_core.specs.declared.event.RefusalCause.TheVariants.{Scarce};
 ghost use Rattle.plan_rules.specs.Claims.{claim_of};
 ghost use Rattle.shard_effects.specs.Reasons.{cause_of, lies_elsewhere};
+ghost use Rattle.shard_message.specs.Dialed.{LeadsAsPlanned};
 
 use plan_rules::{Limits, claim};
 use shard_effects::{Reason, open_reason};
@@ -83,7 +84,8 @@ pub fn dial_for<P, O: Outside<P>>(
     out: &mut O,
     room: &Option<Room<O::Ledgers>>,
 ) -> Result<O::Origin, Reason>
-    ensures { IfErr result (λ reason. lies_elsewhere reason ≡ true) }
+    ensures leads { IfOk result (λ origin. LeadsAsPlanned (λ room. room.planned) (O.leads origin) room.now) }
+    ensures suits { IfErr result (λ reason. lies_elsewhere reason ≡ true) }
 {
     let address = match room {
         Some(

@@ -1,9 +1,13 @@
 -- What a service said of its options, once it was asked (RFC 3507, section 4.10.2).
-use Rattle.std.specs.Prelude.{◌≡◌, ℕ, ◌<◌, Some, None, IsSome}
+use Rattle.std.specs.Prelude.{◌≡◌, ℕ, ◌<◌, List, Some, None, IsSome, string_bytes}
+use Rattle.std.specs.Net.Socket.{v4_port}
 use Rattle.trace_core.specs.declared.history.Point.{Point}
 use Rattle.icap_head.specs.Heads.{Response}
 use Rattle.options_book.specs.Options.{Options, IsRecordOf}
+use Rattle.icap_client.specs.Asking.{options_request}
 use Rattle.proxy_config.specs.declared.config.Config.{Config}
+use Rattle.proxy_config.specs.declared.point.ServicePoint.{ServicePoint}
+use Rattle.shard_outside.specs.Planning.{service_of}
 
 -- these are the options that were said, which last for so many seconds where the service said no time; for ever where they are 0
 pub record LastsFor (seconds : ℕ) (said kept : Options) : Type 0 where
@@ -22,3 +26,11 @@ pub record IsLearned (config_is : Config → Type 0) (now_is : ℕ → Type 0) (
   pub kept : Options
   pub lasts : LastsFor config.options_ttl said kept
   pub keeps_it : keeps kept
+
+-- The service of this point is asked for its options: the request for that, of this configuration, is what is to be sent.
+pub record IsAsking (config_is : Config → Type 0) (point : Point) (waiting : List ℕ) : Type 0 where
+  pub config : Config
+  pub config_at : config_is config
+  pub service : ServicePoint
+  pub service_is : service_of config point ≡ Some service
+  pub text : waiting ≡ options_request (string_bytes service.host) (v4_port service.address) (string_bytes service.path)

@@ -1,9 +1,11 @@
 //! Asking a service for its options.
 
-ghost use Rattle.std.specs.Prelude.{◌≡◌, IfOk, IfErr, true};
+ghost use Rattle.std.specs.Prelude.{◌≡◌, IfOk, IfErr, IfSome, string_bytes, true};
+ghost use Rattle.std.specs.Net.Socket.{v4_port};
+ghost use Rattle.icap_client.specs.Asking.{options_request};
 ghost use Rattle.icap_head.specs.Heads.{response_parts};
 ghost use Rattle.shard_effects.specs.Reasons.{lies_elsewhere};
-ghost use Rattle.shard_outside.specs.Learning.{IsLearned};
+ghost use Rattle.shard_outside.specs.Learning.{IsAsking, IsLearned};
 ghost use Rattle.shard_outside.specs.Usable.{usable_by};
 
 use crate::outside::Outside;
@@ -12,20 +14,19 @@ use crate::slots::lay;
 use icap_client::OptionsSide;
 use icap_head::IcapResponse;
 use options_book::read_record;
+use proxy_config::ServicePoint;
 use proxy_rules::{ask_options, is_reusable_after_options};
 use shard_effects::{OptionsTurn, Reason, record_reason};
+use std::alloc::Global;
 use std::boxed::Box;
 use trace_core::Point;
 use wire_kit::Wire;
 
-/// Who asks the service of a point for its options. `Err` where there is no service, or no memory was found.
-fn asker<P, O: Outside<P>>(out: &O, point: Point) -> Result<Box<OptionsSide>, Reason>
-    ensures { IfErr result (λ reason. lies_elsewhere reason ≡ true) }
+/// Who asks a service for its options.
+fn asker_of(alloc: Global, service: &ServicePoint) -> Result<Box<OptionsSide>, Reason>
+    ensures asks { IfOk result (λ side. side.value.waiting ≡ options_request (string_bytes service.now.host) (v4_port service.now.address) (string_bytes service.now.path)) }
+    ensures suits { IfErr result (λ reason. lies_elsewhere reason ≡ true) }
 {
-    let Some(service) = service_of(out.config(), point) else {
-        return Err(Reason::Service);
-    };
-    let alloc = out.alloc();
     let Ok(side) = ask_options(alloc, service) else {
         return Err(Reason::NoMemory);
     };
@@ -35,13 +36,25 @@ fn asker<P, O: Outside<P>>(out: &O, point: Point) -> Result<Box<OptionsSide>, Re
     }
 }
 
+/// Who asks the service of a point for its options. `Err` where there is no service, or no memory was found.
+fn asker<P, O: Outside<P>>(out: &O, point: Point) -> Result<Box<OptionsSide>, Reason>
+    ensures asks { IfOk result (λ side. IsAsking (O.config_is out.now) point side.value.waiting) }
+    ensures suits { IfErr result (λ reason. lies_elsewhere reason ≡ true) }
+{
+    match service_of(out.config(), point) {
+        Some(service) => asker_of(out.alloc(), service),
+        None => Err(Reason::Service),
+    }
+}
+
 /// Begins to ask the service of a point for its options.
 pub fn begin_asking<P, O: Outside<P>>(
     out: &O,
     point: Point,
     asking: &mut Option<Box<OptionsSide>>,
 ) -> Result<(), Reason>
-    ensures { IfErr result (λ reason. lies_elsewhere reason ≡ true) }
+    ensures asks { IfOk result (λ _. IfSome asking.new (λ side. IsAsking (O.config_is out.now) point side.value.waiting)) }
+    ensures suits { IfErr result (λ reason. lies_elsewhere reason ≡ true) }
 {
     match asker(out, point) {
         Ok(side) => {

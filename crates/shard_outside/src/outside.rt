@@ -6,6 +6,7 @@ ghost use Rattle.plan_rules.specs.declared.limits.Limits.{Limits as AnyLimits};
 ghost use Rattle.proxy_config.specs.declared.config.Config.{Config as AnyConfig};
 ghost use Rattle.service_lines.specs.declared.book.PointBook.{PointBook as AnyBook};
 ghost use Rattle.shard_effects.specs.Reasons.{lies_elsewhere};
+ghost use Rattle.std.specs.declared.net.socket_addr.SocketAddrV4.{SocketAddrV4 as AnyAddress};
 ghost use Rattle.trace_core.specs.declared.history.Point.{Point as AnyPoint};
 
 use crate::reusable::Reusable;
@@ -83,6 +84,9 @@ pub trait Outside<P>: Kinds {
     // what the service of a point said is kept: before and after that
     ghost keeps: { Self → Self → P → AnyPoint → AnyOptions → Type 0 } = { λ _ _ _ _ _. ⊤ };
 
+    // this connection to an origin leads there
+    ghost leads: { Self.Origin → AnyAddress → Type 0 } = { λ _ _. ⊤ };
+
     // this connection was opened just now
     ghost is_opened: { Self → P → Self.Service → Type 0 } = { λ _ _ _. ⊤ };
 
@@ -157,7 +161,8 @@ pub trait Outside<P>: Kinds {
 
     /// Opens a connection to an origin.
     fn dial(&mut self, at: &P, address: SocketAddrV4) -> Result<Self::Origin, Reason>
-        ensures { IfErr result (λ reason. lies_elsewhere reason ≡ true) };
+        ensures leads { IfOk result (λ origin. leads origin address) }
+        ensures suits { IfErr result (λ reason. lies_elsewhere reason ≡ true) };
 
     /// Whether the transaction of a message may move.
     fn may_pass(&mut self, at: &P) -> bool;

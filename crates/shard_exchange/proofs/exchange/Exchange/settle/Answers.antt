@@ -3,7 +3,7 @@ use Rattle.exchange_core.specs.declared.course.Course.{Course}
 use Rattle.exchange_core.specs.declared.event.RefusalCause.{RefusalCause}
 use Rattle.exchange_core.specs.declared.event.RefusalCause.TheVariants as causes
 use Rattle.exchange_core.specs.Dues.{status_of}
-use Rattle.shard_effects.specs.Ends.{EndsBy}
+use Rattle.shard_effects.specs.Ends.{EndsBy, IfItself}
 use Rattle.shard_effects.specs.declared.ends.End.{End}
 use Rattle.shard_effects.specs.declared.ends.End.TheVariants as ends
 use Rattle.shard_effects.specs.declared.ends.EndedBy.{EndedBy}
@@ -26,3 +26,27 @@ returns-clause-owed g c = λ none.
     let unanswered = report.ensures.answered ∙ none in
     owed_by c.args.by report.result.end c.args.self.now.course c.tell.new.course report.ensures.ends
     (λ why e. c.tell.ensures.owed why e unanswered (report.ensures.cuts unanswered)) (λ e. c.tell.ensures.stopped e unanswered)
+
+-- where nothing else ended it, the message is over with the end that was told
+itself : (by : EndedBy) (told : Type 0) (ended_so : Type 0) → IfItself by told → (told → ended_so) → IfItself by ended_so
+itself ended.Itself told ended_so t f = f t
+itself ended.Gate told ended_so t f = f t
+itself ended.Deadline told ended_so t f = tt
+itself ended.Stop told ended_so t f = tt
+itself ended.User told ended_so t f = tt
+
+pub returns-clause-told : goal.returns-clause-told
+returns-clause-told g c =
+    let report = c.settle-report in
+    let tells = c.tell.ensures in
+    itself c.args.by _ _ report.ensures.told
+    (λ is_so. record {
+      end = report.result.end;
+      is_so = is_so;
+      over = tells.leaves.1;
+      alone = λ some. tells.alone (report.ensures.answered ∙ some);
+      owed = λ why e none. let unanswered = report.ensures.answered ∙ none in tells.owed why e unanswered (report.ensures.cuts unanswered);
+      lost = tells.lost;
+      keeps = tells.keeps;
+      awaits = tells.awaits;
+    })

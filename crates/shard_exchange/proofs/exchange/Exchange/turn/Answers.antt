@@ -1,4 +1,17 @@
+use Rattle.std.proofs.Common.{◌≡◌, ◌⊎◌, inl, inr, Bool, true, false, ◌&&◌, ◌||◌, subst, sym, ap, ◌∙◌, refl}
+use Rattle.std.proofs.lemmas.Bool.{false≢true}
+use Rattle.exchange_core.specs.declared.connection.Connection.{Connection}
+use Rattle.exchange_core.specs.declared.connection.Connection.TheVariants.{Absent, Ready, InUse, Spent}
+use Rattle.exchange_core.specs.declared.course.Course.{Course}
+use Rattle.exchange_core.specs.declared.event.Event.TheVariants.{Renewed}
+use Rattle.exchange_core.specs.declared.phase.Phase.{Phase}
+use Rattle.exchange_core.specs.declared.phase.Phase.TheVariants.{Moving}
+use Rattle.exchange_core.specs.Course.{after, renewed}
+use Rattle.exchange_core.specs.May.{is_at_gate, is_moving, is_refusing}
 use Rattle.exchange_core.proofs.Stepping.{goes_on}
+use Rattle.shard_effects.specs.declared.ends.End.{End}
+use Rattle.shard_exchange.specs.Ends.{IsServedBy}
+use Rattle.shard_exchange.specs.Outcomes.{has_answer, IsTurned}
 use Rattle.shard_exchange.proofs.exchange.Exchange.turn.Goals as goal
 
 pub returns-in-Over-clause-goes : goal.returns-in-Over-clause-goes
@@ -9,3 +22,73 @@ returns-in-Moved-clause-goes g c = goes_on _ _ _ c.round.ensures.goes c.note_rou
 
 pub returns-else-not-note_round-clause-goes : goal.returns-else-not-note_round-clause-goes
 returns-else-not-note_round-clause-goes g c = goes_on _ _ _ c.round.ensures.goes c.note_round-in_default.ensures.goes
+
+-- a connection that broke was in use, and so is the fresh one in its place
+served_anew : (usable : Bool) (old new : Connection) → IsServedBy usable (renewed old) new → IsServedBy usable old new
+served_anew usable Absent new h = h
+served_anew usable (Ready reused) new h = h
+served_anew usable (InUse reused) Absent h = h
+served_anew usable (InUse reused) (Ready again) h = h
+served_anew usable (InUse reused) (InUse again) h = h
+served_anew usable (InUse reused) Spent h = h
+served_anew usable Spent new h = h
+
+not_refusing : (p : Phase) → is_moving p ≡ true → is_refusing p ≡ false
+not_refusing (Moving point offered) h = refl
+not_refusing _ h = cc
+
+still_moves : (gate moving : Bool) → moving ≡ true → (gate || moving) ≡ false → false ≡ true
+still_moves true moving h k = sym k
+still_moves false moving h k = sym k ∙ h
+
+-- what a round came to that isn't over
+record Noted (answered usable : Bool) (mid new : Course) : Type 0 where
+  moves : is_moving mid.phase ≡ true
+  phase : new.phase ≡ mid.phase
+  begun : new.begun ≡ (mid.begun || (answered && has_answer mid.phase))
+  served : IsServedBy usable mid.connection new.connection
+
+noted_anew : (answered usable : Bool) (old new : Course) → Noted answered usable (after old Renewed) new → Noted answered usable old new
+noted_anew answered usable old new n = record {
+  moves = n.moves;
+  phase = n.phase;
+  begun = n.begun;
+  served = served_anew usable old.connection new.connection n.served;
+}
+
+from_here : (answered usable : Bool) (old mid new : Course) → (mid ≡ old) ⊎ (mid ≡ after old Renewed) → Noted answered usable mid new → Noted answered usable old new
+from_here answered usable old mid new (inl e) n = subst (λ (c : Course). Noted answered usable c new) e n
+from_here answered usable old mid new (inr e) n = noted_anew answered usable old new (subst (λ (c : Course). Noted answered usable c new) e n)
+
+moving_on : {H O : Type 0} (rounds : H → H → Type 0) (answered reusable : H → Bool) (ends : H → End → Type 0) (late : O → Bool) (held turned : H) (old new : Course)
+    → rounds held turned → Noted (answered turned) (reusable turned) old new → IsTurned rounds answered reusable ends late held old new
+moving_on rounds answered reusable ends late held turned old new r n =
+    let moves = ap (λ (p : Phase). is_moving p) n.phase ∙ n.moves in
+    record {
+      turned = turned;
+      round = r;
+      begun = λ m. n.begun;
+      alone = λ a. not_refusing new.phase moves;
+      served = n.served;
+      over = λ m. absurd (false≢true (still_moves (is_at_gate new.phase) (is_moving new.phase) moves m));
+    }
+
+pub returns-in-Moved-clause-turned : goal.returns-in-Moved-clause-turned
+returns-in-Moved-clause-turned g c =
+    moving_on _ _ _ _ _ _ c.round.new.self.holdings _ _ c.round.ensures.rounds (from_here _ _ _ c.round.new.self.course _ c.round.ensures.renewed
+    (record {
+      moves = c.round.ensures.moves;
+      phase = c.note_round.ensures.phase;
+      begun = c.note_round.ensures.begun;
+      served = c.note_round.ensures.served;
+    }))
+
+pub returns-else-not-note_round-clause-turned : goal.returns-else-not-note_round-clause-turned
+returns-else-not-note_round-clause-turned g c =
+    moving_on _ _ _ _ _ _ c.round.new.self.holdings _ _ c.round.ensures.rounds (from_here _ _ _ c.round.new.self.course _ c.round.ensures.renewed
+    (record {
+      moves = c.round.ensures.moves;
+      phase = c.note_round-in_default.ensures.phase;
+      begun = c.note_round-in_default.ensures.begun;
+      served = c.note_round-in_default.ensures.served;
+    }))
