@@ -1,3 +1,5 @@
 pub mod Books
+pub mod Calls
+pub mod Latest
 pub mod Lending
 pub mod Limits

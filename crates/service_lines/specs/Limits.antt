@@ -1,9 +1,10 @@
 -- The maximum that a pool was set to.
-use Rattle.std.specs.Prelude.{ℕ}
+use Rattle.std.specs.Prelude.{◌≡◌, ℕ, Option, MatchOption}
 use Rattle.trace_core.specs.declared.history.Point.{Point}
 use Rattle.trace_core.specs.declared.history.Point.TheVariants.{Reqmod, Respmod}
 use Rattle.service_lines.specs.declared.leased.Limit.{Limit}
 use Rattle.service_lines.specs.declared.leased.Limit.TheVariants.{Request, Response}
+use Rattle.service_lines.specs.declared.leased.Maximum.{Maximum}
 
 -- the point whose pool it is
 abbrev pub limited_point : {Q A : Type 0} → Limit Q A → Point
@@ -14,3 +15,7 @@ limited_point (Response set) = Respmod
 abbrev pub maximum_of : {Q A : Type 0} → Limit Q A → ℕ
 maximum_of (Request set) = set.maximum
 maximum_of (Response set) = set.maximum
+
+-- the pool of this point was set, to this maximum
+abbrev pub IsSetTo : Point → ℕ → Option Maximum → Type 0
+IsSetTo point connections set = MatchOption set ⊥ (λ m. (m.point ≡ point) × (m.connections ≡ connections))

@@ -37,7 +37,13 @@ pub trait Edge: Copy + Drop {
     /// A connection that lies idle in a pool, with its place among the descriptors.
     type Idle: Drop;
 
+    /// That a thread was woken. Only `wake` makes one.
+    type Woken: Drop;
+
     ghost since: { Self.Idle → ℕ };
+
+    // the number of the thread that was woken
+    ghost thread_of: { Self.Woken → ℕ };
 
     /// The moment since which a connection lies idle, in seconds.
     fn since(idle: &Self::Idle) -> u64
@@ -47,7 +53,8 @@ pub trait Edge: Copy + Drop {
     fn is_quiet(&self, idle: &Self::Idle) -> bool;
 
     /// Ends the wait of a thread, so that its first waiter is driven.
-    fn wake(&self, thread: usize);
+    fn wake(&self, thread: usize) -> Self::Woken
+        ensures { thread_of result ≡ thread };
 
     /// Whether only idle connections keep the next user out.
     fn is_crowded(&self) -> bool;

@@ -2,6 +2,7 @@
 
 ghost use Rattle.std.specs.Prelude.{◌≡◌};
 ghost use Rattle.service_lines.specs.Lending.{point_of, is_reused};
+ghost use Rattle.service_lines.specs.Limits.{limited_point, maximum_of};
 
 use service_pool::{Lease, SetTo};
 use std::sync::ledger::Ledger;
@@ -41,6 +42,27 @@ impl<Q: Ledger, A: Ledger> Leased<Q, A> {
 pub enum Limit<Q: Ledger, A: Ledger> {
     Request(SetTo<Q>),
     Response(SetTo<A>),
+}
+
+/// That the pool of a point was set to a maximum, and to which. It is made of a `Limit` alone.
+#[derive(Clone, Copy, Debug, PartialEq, Eq, Drop)]
+pub struct Maximum {
+    point: Point,
+    connections: u64,
+}
+
+impl<Q: Ledger, A: Ledger> Limit<Q, A> {
+    /// The same, by its point, where it is this maximum.
+    pub(crate) fn maximum(&self, connections: u64) -> Maximum
+        requires { connections ≡ maximum_of self.now }
+        ensures { (result.point ≡ limited_point self.now) × (result.connections ≡ connections) }
+    {
+        let point = match self {
+            Limit::Request(_) => Point::Reqmod,
+            Limit::Response(_) => Point::Respmod,
+        };
+        Maximum { point, connections }
+    }
 }
 
 /// A connection to a service, with its lease.

@@ -2,11 +2,13 @@
 
 ghost use Rattle.std.specs.Prelude.{◌≡◌, ◌↔◌, false, List, Err, Ok, IfOk, IfSome, OnOk, ◌∷◌};
 ghost use Rattle.service_lines.specs.declared.connector.Act.{Act as AnyAct};
+ghost use Rattle.service_lines.specs.Calls.{Calls};
 ghost use Rattle.service_lines.specs.Lending.{point_of, is_reused, fault_in, Tells, HasLease, IsOf, FindsYoung, FindsLeading, Leads, after_take, after_lend, TakesLive, Lends, Reopens, LaysDown, PutsBack};
 
 use crate::connector::{Act, Connector, Edge, Keeper, LendFault};
 use crate::leased::{Found, Leased, LeasedConnection};
 use crate::pools::Pools;
+use crate::queues::{Call, Turn};
 use adapt_bytes::MAX_CONNECTIONS;
 use std::sync::Wait;
 use std::sync::ledger::Ledger;
@@ -131,19 +133,24 @@ impl<'a, E: Edge, Q: Ledger, A: Ledger> Pools<'a, E, Q, A> {
         }
     }
 
-    /// Lends a connection to a point's service, which is there, at this moment, in seconds: an idle one first, whoever waits.
+    /// Lends a connection to a point's service, which is there, at this moment, in seconds: an idle one first. It is the turn of the one
+    /// who gets it.
     fn lend_now<R: Wait, C: Connector<E>>(
         &self,
         rt: &R,
         connector: &mut C,
         point: Point,
         place: C::Place,
+        turn: Turn,
         now: u64,
     ) -> Result<LeasedConnection<C::Used, Q, A>, LendFault>
+        requires { turn.seconds ≡ self.now.waiting.seconds }
         ensures leads { Leads (C.leads place) result }
         ensures point { IsOf point result }
         ensures lends { Lends now self.now.idle_seconds (C.past connector.old) (C.past connector.new) result }
     {
+        // That it is had is all that is asked of it.
+        drop(turn);
         let found = self.take_live(rt, connector, point, place, now);
         self.lend_found(rt, connector, place, found)
     }
@@ -162,10 +169,10 @@ impl<'a, E: Edge, Q: Ledger, A: Ledger> Pools<'a, E, Q, A> {
         ensures point { IsOf point result }
         ensures lends { Lends now self.now.idle_seconds (C.past connector.old) (C.past connector.new) result }
     {
-        if self.waiting.is_awaited(rt, point) {
-            return Err(LendFault::Busy);
+        match self.waiting.turn_of(rt, point, None) {
+            Some(turn) => self.lend_now(rt, connector, point, place, turn, now),
+            None => Err(LendFault::Busy),
         }
-        self.lend_now(rt, connector, point, place, now)
     }
 
     /// Lends a connection to one who waits, once it is its turn. With a connection it has left the queue, and the next one is called.
@@ -182,10 +189,10 @@ impl<'a, E: Edge, Q: Ledger, A: Ledger> Pools<'a, E, Q, A> {
         ensures point { IsOf point result }
         ensures lends { Lends now self.now.idle_seconds (C.past connector.old) (C.past connector.new) result }
     {
-        if !self.waiting.is_first(rt, point, waiter) {
+        let Some(turn) = self.waiting.turn_of(rt, point, Some(waiter)) else {
             return Err(LendFault::Busy);
-        }
-        let lent = self.lend_now(rt, connector, point, place, now);
+        };
+        let lent = self.lend_now(rt, connector, point, place, turn, now);
         if lent.is_ok() {
             self.waiting.leave(rt, point, waiter);
         }
@@ -243,8 +250,9 @@ impl<'a, E: Edge, Q: Ledger, A: Ledger> Pools<'a, E, Q, A> {
         connector: &mut C,
         connection: LeasedConnection<C::Used, Q, A>,
         now: u64,
-    )
-        ensures { PutsBack self.now.idle_seconds (C.past connector.old) (C.past connector.new) }
+    ) -> Option<Call<E::Woken>>
+        ensures asked { PutsBack self.now.idle_seconds (C.past connector.old) (C.past connector.new) }
+        ensures calls { Calls E.thread_of self.now.waiting.seconds result }
     {
         let LeasedConnection { wire, lease } = connection;
         match lay_down(connector, wire, self.idle_seconds > 0, now) {
@@ -259,11 +267,12 @@ impl<'a, E: Edge, Q: Ledger, A: Ledger> Pools<'a, E, Q, A> {
         rt: &R,
         connector: &mut C,
         connection: LeasedConnection<C::Used, Q, A>,
-    )
-        ensures { (p : List AnyAct) → C.past connector.old p → C.past connector.new (Act.Closed ∷ p) }
+    ) -> Option<Call<E::Woken>>
+        ensures asked { (p : List AnyAct) → C.past connector.old p → C.past connector.new (Act.Closed ∷ p) }
+        ensures calls { Calls E.thread_of self.now.waiting.seconds result }
     {
         let LeasedConnection { wire, lease } = connection;
         connector.close(wire);
-        self.give_up(rt, lease);
+        self.give_up(rt, lease)
     }
 }

@@ -6,6 +6,7 @@
 
 mod book;
 mod connector;
+mod latest;
 mod leased;
 mod lending;
 mod pools;
@@ -13,7 +14,8 @@ mod queues;
 
 pub use book::PointBook;
 pub use connector::{Act, Connector, Edge, Keeper, LendFault};
-pub use leased::{Found, Leased, LeasedConnection, Limit};
+pub use latest::Latest;
+pub use leased::{Found, Leased, LeasedConnection, Limit, Maximum};
 pub use pools::Pools;
-pub use queues::{POINTS, Queues, Waiting};
+pub use queues::{Call, Handover, POINTS, Queues, Waiting};
 pub use std::alloc::AllocError as NoMemory;

@@ -2,12 +2,13 @@
 
 ghost use Rattle.std.specs.Prelude.{◌≡◌, ◌↔◌, ◌≤◌, true, false, Some, None, IfOk, OnOk, OnErr};
 ghost use Rattle.service_lines.specs.Lending.{Tells, IsYoung, FindsYoung, point_of, is_reused};
-ghost use Rattle.service_lines.specs.Limits.{limited_point, maximum_of};
+ghost use Rattle.service_lines.specs.Calls.{Calls};
+ghost use Rattle.service_lines.specs.Limits.{limited_point, maximum_of, IsSetTo};
 
 use crate::book::PointBook;
 use crate::connector::Edge;
 use crate::leased::{Found, Leased, Limit};
-use crate::queues::Waiting;
+use crate::queues::{Call, Waiting};
 use adapt_bytes::MAX_CONNECTIONS;
 use options_book::Record;
 use service_pool::{Checked, Pool, Taken};
@@ -116,23 +117,32 @@ impl<'a, E: Edge, Q: Ledger, A: Ledger> Pools<'a, E, Q, A> {
     }
 
     /// Puts a connection that lies idle back, for the one that waits longest. One that is too many is closed.
-    pub(crate) fn put_idle<R: Wait>(&self, rt: &R, idle: E::Idle, lease: Leased<Q, A>) {
+    pub(crate) fn put_idle<R: Wait>(
+        &self,
+        rt: &R,
+        idle: E::Idle,
+        lease: Leased<Q, A>,
+    ) -> Option<Call<E::Woken>>
+        ensures { Calls E.thread_of self.now.waiting.seconds result }
+    {
         let point = lease.point();
         match lease {
             Leased::Request(lease) => drop(self.request.put(rt, idle, lease)),
             Leased::Response(lease) => drop(self.response.put(rt, idle, lease)),
         }
-        self.waiting.call(rt, point);
+        self.waiting.call(rt, point)
     }
 
     /// Gives up the lease of a connection that is closed: the one that waits longest may open another.
-    pub fn give_up<R: Wait>(&self, rt: &R, lease: Leased<Q, A>) {
+    pub fn give_up<R: Wait>(&self, rt: &R, lease: Leased<Q, A>) -> Option<Call<E::Woken>>
+        ensures { Calls E.thread_of self.now.waiting.seconds result }
+    {
         let point = lease.point();
         match lease {
             Leased::Request(lease) => self.request.give_up(rt, lease),
             Leased::Response(lease) => self.response.give_up(rt, lease),
         }
-        self.waiting.call(rt, point);
+        self.waiting.call(rt, point)
     }
 
     /// Whether a fresh connection may be opened in place of one that broke.
@@ -177,23 +187,24 @@ impl<'a, E: Edge, Q: Ledger, A: Ledger> Pools<'a, E, Q, A> {
     }
 
     /// Sets how many connections to a point's service may be open, and closes idle ones that are too many. Which pool's maximum was set,
-    /// and to what.
+    /// and to what, and who was called.
     pub fn set_max<R: Wait>(
         &self,
         rt: &R,
         alloc: Global,
         point: Point,
         maximum: u64,
-    ) -> Result<Limit<Q, A>, AllocError>
+    ) -> Result<(Limit<Q, A>, Option<Call<E::Woken>>), AllocError>
         requires { maximum ≤ MAX_CONNECTIONS }
-        ensures { IfOk result (λ limit. (limited_point limit ≡ point) × (maximum_of limit ≡ maximum)) }
+        ensures limits { IfOk result (λ set. (limited_point set.0 ≡ point) × (maximum_of set.0 ≡ maximum)) }
+        ensures calls { IfOk result (λ set. Calls E.thread_of self.now.waiting.seconds set.1) }
     {
         let limit = match point {
             Point::Reqmod => Limit::Request(self.request.set_max(rt, alloc, maximum)?.limit()),
             Point::Respmod => Limit::Response(self.response.set_max(rt, alloc, maximum)?.limit()),
         };
-        self.waiting.call(rt, point);
-        Ok(limit)
+        let call = self.waiting.call(rt, point);
+        Ok((limit, call))
     }
 
     /// Keeps what a service said, once its pool has the maximum that it says. Which pool's maximum was set, and to what. `Err` where no
@@ -210,10 +221,11 @@ impl<'a, E: Edge, Q: Ledger, A: Ledger> Pools<'a, E, Q, A> {
         requires { maximum ≤ MAX_CONNECTIONS }
         ensures limits { IfOk result (λ limit. (limited_point limit ≡ point) × (maximum_of limit ≡ maximum)) }
         ensures kept { OnOk result ((book.new.said ≡ Some said) × (book.new.tag ≡ None) × (book.new.stale ≡ false)) }
+        ensures set { OnOk result (IsSetTo point maximum book.new.maximum) }
         ensures same { OnErr result (book.new ≡ book.old) }
     {
-        let limit = self.set_max(rt, alloc, point, maximum)?;
-        book.keep(said);
+        let (limit, _) = self.set_max(rt, alloc, point, maximum)?;
+        book.keep_with(said, limit.maximum(maximum));
         Ok(limit)
     }
 }

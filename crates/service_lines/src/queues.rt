@@ -4,13 +4,15 @@
 //! make one free calls the first one, and the first one calls the next when it leaves: so none is called in vain for long,
 //! and no connection lies idle while somebody waits.
 
-ghost use Rattle.std.specs.Prelude.{◌≡◌, false, None};
+ghost use Rattle.std.specs.Prelude.{◌≡◌, ◌↔◌, false, None, IfSome};
+ghost use Rattle.std.specs.Option.{ForSome, ForNone};
+ghost use Rattle.service_lines.specs.Calls.{Calls, Wakes};
 
 use crate::connector::Edge;
 use std::alloc::{AllocError, Global};
 use std::sync::{Mutex, Wait};
 use trace_core::Point;
-use wait_queue::{WaitQueue, Waiter};
+use wait_queue::{First, Next, WaitQueue, Waiter};
 
 /// The points, each with a queue: that of this number.
 pub const POINTS: [Point; 2] = [Point::Reqmod, Point::Respmod];
@@ -30,6 +32,31 @@ impl Queues {
             response: Mutex::new(WaitQueue::new(alloc, most)?),
         })
     }
+}
+
+/// A call of whoever was first in a queue: that one's thread was woken, if somebody waited.
+#[derive(Drop)]
+pub struct Call<W> {
+    first: First,
+    woken: Option<W>,
+}
+
+/// A turn that was handed on by one who left a queue: the next one's thread was woken, if it was that one's turn and somebody waited.
+#[derive(Drop)]
+pub struct Handover<W> {
+    next: Next,
+    woken: Option<W>,
+}
+
+/// The turn of one who may take a connection: of one who waits, or of one who comes.
+#[derive(Drop)]
+pub(crate) struct Turn {
+    seconds: u64,
+    who: Option<Waiter>,
+    found: Option<First>,
+    // It was found first in the queue, or came while nobody was found there; there is no queue where exchanges wait for no second.
+    ghost first: { ForSome found (λ first. first.waiter ≡ who) },
+    ghost off: { ForNone found (seconds ≡ 0) },
 }
 
 /// How exchanges wait: the queues, what wakes the threads, and for how long.
@@ -62,9 +89,43 @@ impl<'a, E: Edge> Waiting<'a, E> {
     }
 
     /// Ends the wait of the thread of an exchange, if there is one.
-    fn wake(&self, waiter: Option<Waiter>) {
-        if let Some(waiter) = waiter {
-            self.edge.wake(waiter.thread);
+    fn wake(&self, waiter: Option<Waiter>) -> Option<E::Woken>
+        ensures { Wakes E.thread_of waiter result }
+    {
+        match waiter {
+            Some(waiter) => Some(self.edge.wake(waiter.thread)),
+            None => None,
+        }
+    }
+
+    /// Who is first in a queue. `None` where exchanges don't wait.
+    fn first<R: Wait>(&self, rt: &R, point: Point) -> Option<First>
+        ensures off { self.now.seconds ≡ 0 ↔ result ≡ None }
+    {
+        if self.seconds == 0 {
+            return None;
+        }
+        let first = self.queue(point).lock(rt).first();
+        Some(first)
+    }
+
+    /// The turn of one who waits, or of one who comes, to take a connection: the first one may, or one who comes while nobody waits.
+    pub(crate) fn turn_of<R: Wait>(&self, rt: &R, point: Point, who: Option<Waiter>) -> Option<Turn>
+        ensures { IfSome result (λ turn. (turn.seconds ≡ self.now.seconds) × (turn.who ≡ who)) }
+    {
+        let found = self.first(rt, point);
+        let is_turn = match &found {
+            Some(first) => first.waiter() == who,
+            None => who.is_none(),
+        };
+        if is_turn {
+            Some(Turn {
+                seconds: self.seconds,
+                who,
+                found,
+            })
+        } else {
+            None
         }
     }
 
@@ -77,7 +138,10 @@ impl<'a, E: Edge> Waiting<'a, E> {
     pub fn is_awaited<R: Wait>(&self, rt: &R, point: Point) -> bool
         ensures off { self.now.seconds ≡ 0 → result ≡ false }
     {
-        self.seconds > 0 && !self.queue(point).lock(rt).is_empty()
+        match self.first(rt, point) {
+            Some(first) => !first.is_nobody(),
+            None => false,
+        }
     }
 
     /// Joins a queue. False where exchanges don't wait, or too many do already.
@@ -87,35 +151,31 @@ impl<'a, E: Edge> Waiting<'a, E> {
         self.seconds > 0 && self.queue(point).lock(rt).join(waiter).is_ok()
     }
 
-    /// Whether it is this one's turn.
-    pub fn is_first<R: Wait>(&self, rt: &R, point: Point, waiter: Waiter) -> bool {
-        self.queue(point).lock(rt).is_first(waiter)
-    }
-
     /// The key of the one whose turn it is, where it is of this thread.
     pub fn first_of<R: Wait>(&self, rt: &R, point: Point, thread: usize) -> Option<usize>
         ensures off { self.now.seconds ≡ 0 → result ≡ None }
     {
-        if self.seconds == 0 {
-            return None;
-        }
-        match self.queue(point).lock(rt).first() {
+        match self.first(rt, point)?.waiter() {
             Some(waiter) if waiter.thread == thread => Some(waiter.key),
             _ => None,
         }
     }
 
     /// Leaves a queue. Where it was this one's turn, the next one is called.
-    pub fn leave<R: Wait>(&self, rt: &R, point: Point, waiter: Waiter) {
+    pub fn leave<R: Wait>(&self, rt: &R, point: Point, waiter: Waiter) -> Handover<E::Woken>
+        ensures { Wakes E.thread_of result.next.waiter result.woken }
+    {
         let next = self.queue(point).lock(rt).leave(waiter);
-        self.wake(next);
+        let woken = self.wake(next.waiter());
+        Handover { next, woken }
     }
 
-    /// Calls the one whose turn it is: a connection may be free.
-    pub fn call<R: Wait>(&self, rt: &R, point: Point) {
-        if self.seconds > 0 {
-            let first = self.queue(point).lock(rt).first();
-            self.wake(first);
-        }
+    /// Calls the one whose turn it is: a connection may be free. `None` where exchanges don't wait.
+    pub fn call<R: Wait>(&self, rt: &R, point: Point) -> Option<Call<E::Woken>>
+        ensures { Calls E.thread_of self.now.seconds result }
+    {
+        let first = self.first(rt, point)?;
+        let woken = self.wake(first.waiter());
+        Some(Call { first, woken })
     }
 }

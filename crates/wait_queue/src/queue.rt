@@ -14,6 +14,43 @@ pub struct Waiter {
     pub key: usize,
 }
 
+/// Who is first in a queue at a moment, if somebody is. Only a queue makes one.
+#[derive(Clone, Copy, Debug, PartialEq, Eq, Drop)]
+pub struct First {
+    waiter: Option<Waiter>,
+}
+
+impl First {
+    /// Who it is.
+    pub fn waiter(&self) -> Option<Waiter>
+        ensures { result ≡ self.now.waiter }
+    {
+        self.waiter
+    }
+
+    /// Whether nobody waits.
+    pub fn is_nobody(&self) -> bool
+        ensures { IsTrue result ↔ (self.now.waiter ≡ None) }
+    {
+        self.waiter.is_none()
+    }
+}
+
+/// Whose turn it is once somebody has left, if it was that one's turn before. Only a queue makes one.
+#[derive(Clone, Copy, Debug, PartialEq, Eq, Drop)]
+pub struct Next {
+    waiter: Option<Waiter>,
+}
+
+impl Next {
+    /// Who it is.
+    pub fn waiter(&self) -> Option<Waiter>
+        ensures { result ≡ self.now.waiter }
+    {
+        self.waiter
+    }
+}
+
 /// Why an exchange can't wait.
 #[derive(Clone, Copy, Debug, PartialEq, Eq, Drop)]
 pub enum JoinFault {
@@ -33,7 +70,7 @@ pub enum JoinFault {
 /// assert_eq!(rt; queue.join(second), Ok(()));
 /// assert_eq!(rt; queue.join(Waiter { thread: 1, key: 5 }), Err(JoinFault::Full));
 /// // Once the first has left, it is the second one's turn.
-/// assert_eq!(rt; queue.leave(first), Some(second));
+/// assert_eq!(rt; queue.leave(first).waiter(), Some(second));
 /// ```
 #[derive(Debug, Drop)]
 pub struct WaitQueue {
@@ -67,12 +104,14 @@ impl WaitQueue {
     }
 
     /// Who has waited longest.
-    pub fn first(&self) -> Option<Waiter>
-        ensures { result ≡ slice_get self.now.waiting.items 0 }
+    pub fn first(&self) -> First
+        ensures { result.waiter ≡ slice_get self.now.waiting.items 0 }
     {
         match self.waiting.first() {
-            Some(waiter) => Some(*waiter),
-            None => None,
+            Some(waiter) => First {
+                waiter: Some(*waiter),
+            },
+            None => First { waiter: None },
         }
     }
 
@@ -103,13 +142,15 @@ impl WaitQueue {
     }
 
     /// Leaves, from wherever it stands; the others keep their order. Answers whose turn it is now, where it was first itself.
-    pub fn leave(&mut self, waiter: Waiter) -> Option<Waiter>
+    pub fn leave(&mut self, waiter: Waiter) -> Next
         ensures others { self.new.waiting.items ≡ filter (is_another waiter) self.old.waiting.items }
-        ensures next { result ≡ (if is_first waiter self.old.waiting.items then slice_get self.new.waiting.items 0 else None) }
+        ensures next { result.waiter ≡ (if is_first waiter self.old.waiting.items then slice_get self.new.waiting.items 0 else None) }
         ensures most { self.new.most ≡ self.old.most }
     {
         let was_first = self.is_first(waiter);
         self.waiting.retain(|other| other.thread != waiter.thread || other.key != waiter.key);
-        if was_first { self.first() } else { None }
+        Next {
+            waiter: if was_first { self.first().waiter } else { None },
+        }
     }
 }

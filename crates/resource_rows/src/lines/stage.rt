@@ -84,7 +84,11 @@ pub struct Memory<'a> {
 impl<'a> Edge for Memory<'a> {
     type Idle = Idle<'a>;
 
+    type Woken = usize;
+
     ghost since = { λ idle. idle.since };
+
+    ghost thread_of = { λ thread. thread };
 
     fn since(idle: &Idle<'a>) -> u64 {
         idle.since
@@ -94,12 +98,13 @@ impl<'a> Edge for Memory<'a> {
         self.stage.is_quiet(idle.number)
     }
 
-    fn wake(&self, thread: usize) {
+    fn wake(&self, thread: usize) -> usize {
         let digit = thread as u64 % 10;
         let woken = self.stage.woken.get();
         self.stage
             .woken
             .set(woken.saturating_mul(10).saturating_add(digit));
+        thread
     }
 
     fn is_crowded(&self) -> bool {
