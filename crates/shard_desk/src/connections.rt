@@ -1,20 +1,26 @@
 //! Connections to services and origins, as the exchanges of a thread use them.
 
-ghost use Rattle.std.specs.Prelude.{◌≡◌, Option, Some, IfOk, IfErr, true};
+ghost use Rattle.std.specs.Prelude.{◌≡◌, ℕ, [], Option, None, Some, IfOk, IfErr, OnErr, true};
 ghost use Rattle.std.specs.declared.net.socket_addr.SocketAddrV4.{SocketAddrV4 as AnyAddress};
 ghost use Rattle.shard_effects.specs.Reasons.{lies_elsewhere};
 ghost use Rattle.proxy_config.specs.declared.config.Config.{Config as AnyConfig};
 ghost use Rattle.trace_core.specs.declared.history.Point.{Point as AnyPoint};
-ghost use Rattle.service_lines.specs.Lending.{point_of, IsOf, Leads};
+ghost use Rattle.service_lines.specs.declared.connector.Act.TheVariants.{Opened};
+ghost use Rattle.service_lines.specs.declared.latest.Latest.{Latest as AnyLatest};
+ghost use Rattle.service_lines.specs.Latest.{IsLatest};
+ghost use Rattle.service_lines.specs.Lending.{point_of, IsOf, Leads, Lends};
+ghost use Rattle.shard_desk.specs.Asked.{LendsBy, FailsBy, PutsBy};
+ghost use Rattle.shard_desk.specs.Books.{Keeps, HasKept};
 ghost use Rattle.shard_desk.specs.Places.{place_at};
+ghost use Rattle.shard_outside.specs.Planning.{service_of as service_at};
 
 use crate::pools::{Berth, Port, dial, dial_late, pools_of};
 use crate::shared::Shares;
 use event_loop::Room;
 use options_book::Record;
-use proxy_config::{Config, Dial as DialTime};
+use proxy_config::{Config, Dial as DialTime, ServicePoint};
 use proxy_rules::pool_maximum;
-use service_lines::{Leased, LeasedConnection, LendFault, PointBook};
+use service_lines::{Latest, Leased, LeasedConnection, LendFault, PointBook};
 use shard_effects::Reason;
 use shard_outside::service_of;
 use shard_work::{Seats, Spot};
@@ -35,6 +41,10 @@ fn lent_of<Q: Ledger, A: Ledger>(
 ) -> Lent<Q, A>
     ensures point { (point : AnyPoint) → IsOf point lent → IfOk result (λ lent. point_of lent.1 ≡ point) }
     ensures leads { (place : Option AnyAddress) → Leads (λ wire. wire.stream.to ≡ place) lent → IfOk result (λ lent. lent.0.stream.to ≡ place) }
+    ensures lends { (now : ℕ) → (most : ℕ) → (old : AnyLatest) → (asked : AnyLatest) → IsLatest old [] → Lends now most (IsLatest old) (IsLatest asked) lent
+        → IfOk result (λ lent. LendsBy now most asked lent.1) }
+    ensures fails { (now : ℕ) → (most : ℕ) → (old : AnyLatest) → (asked : AnyLatest) → IsLatest old [] → Lends now most (IsLatest old) (IsLatest asked) lent
+        → IfErr result (FailsBy asked) }
 {
     match lent {
         Ok(LeasedConnection { wire, lease }) => Ok((wire, lease)),
@@ -79,13 +89,16 @@ fn berth_of<'r, 'a, R, G>(
     seats: &mut Seats,
     at: &Spot<'r, R, G>,
     room: &'a Arc<Room>,
-) -> Berth<'r, 'a> {
+) -> Berth<'r, 'a>
+    ensures { IsLatest result.asked [] }
+{
     let registry = at.registry;
     Berth {
         registry,
         key: at.key,
         seats: seats.lend(),
         room,
+        asked: Latest::new(),
     }
 }
 
@@ -94,7 +107,9 @@ fn port_of<'r, 'a, R: Dial, G>(
     seats: &mut Seats,
     at: &Spot<'r, R, G>,
     room: &'a Arc<Room>,
-) -> Port<'r, 'a, R> {
+) -> Port<'r, 'a, R>
+    ensures { IsLatest result.berth.asked [] }
+{
     let rt = at.rt;
     let berth = berth_of(seats, at, room);
     Port { rt, berth }
@@ -112,16 +127,20 @@ pub(crate) fn waiter_of<S: Shares>(shared: &S, key: usize) -> Waiter {
 pub(crate) fn lend_now<S: Shares, R: Wait + Dial, G>(
     shared: &S,
     seats: &mut Seats,
+    asked: &mut Latest,
     at: &Spot<'_, R, G>,
     point: Point,
 ) -> Lent<S::Requests, S::Responses>
     ensures point { IfOk result (λ lent. point_of lent.1 ≡ point) }
     ensures leads { IfOk result (λ lent. (config : AnyConfig) × S.config_is shared.now config × (lent.0.stream.to ≡ place_at config point)) }
+    ensures lends { IfOk result (λ lent. (config : AnyConfig) × S.config_is shared.now config × LendsBy at.entry.now.now config.service_idle asked.new lent.1) }
+    ensures fails { IfErr result (FailsBy asked.new) }
 {
     let place = address_of(shared.config(), point);
     let mut port = port_of(seats, at, shared.room());
     let lent = pools_of(shared).lend(at.rt, &mut port, point, place, at.now);
     *seats = port.berth.seats;
+    *asked = port.berth.asked;
     lent_of(lent)
 }
 
@@ -129,17 +148,21 @@ pub(crate) fn lend_now<S: Shares, R: Wait + Dial, G>(
 pub(crate) fn lend_waiting<S: Shares, R: Wait + Dial, G>(
     shared: &S,
     seats: &mut Seats,
+    asked: &mut Latest,
     at: &Spot<'_, R, G>,
     point: Point,
 ) -> Lent<S::Requests, S::Responses>
     ensures point { IfOk result (λ lent. point_of lent.1 ≡ point) }
     ensures leads { IfOk result (λ lent. (config : AnyConfig) × S.config_is shared.now config × (lent.0.stream.to ≡ place_at config point)) }
+    ensures lends { IfOk result (λ lent. (config : AnyConfig) × S.config_is shared.now config × LendsBy at.entry.now.now config.service_idle asked.new lent.1) }
+    ensures fails { IfErr result (FailsBy asked.new) }
 {
     let waiter = waiter_of(shared, at.key);
     let place = address_of(shared.config(), point);
     let mut port = port_of(seats, at, shared.room());
     let lent = pools_of(shared).lend_in_turn(at.rt, &mut port, point, place, waiter, at.now);
     *seats = port.berth.seats;
+    *asked = port.berth.asked;
     lent_of(lent)
 }
 
@@ -147,16 +170,19 @@ pub(crate) fn lend_waiting<S: Shares, R: Wait + Dial, G>(
 pub(crate) fn lend_anew<S: Shares, R: Wait + Dial, G>(
     shared: &S,
     seats: &mut Seats,
+    asked: &mut Latest,
     at: &Spot<'_, R, G>,
     lease: &mut Leased<S::Requests, S::Responses>,
 ) -> Result<ServiceWire, LendFault>
     ensures point { point_of lease.new ≡ point_of lease.old }
     ensures leads { IfOk result (λ wire. (config : AnyConfig) × S.config_is shared.now config × (wire.stream.to ≡ place_at config (point_of lease.new))) }
+    ensures opened { IfOk result (λ _. asked.new.last ≡ Some (Opened None)) }
 {
     let place = address_of(shared.config(), lease.point());
     let mut port = port_of(seats, at, shared.room());
     let wire = pools_of(shared).reopen(at.rt, &mut port, place, lease);
     *seats = port.berth.seats;
+    *asked = port.berth.asked;
     wire
 }
 
@@ -164,32 +190,55 @@ pub(crate) fn lend_anew<S: Shares, R: Wait + Dial, G>(
 pub(crate) fn put_back<S: Shares, R: Wait, G>(
     shared: &S,
     seats: &mut Seats,
+    asked: &mut Latest,
     at: &Spot<'_, R, G>,
     wire: ServiceWire,
     lease: Leased<S::Requests, S::Responses>,
-) {
+)
+    ensures { (config : AnyConfig) × S.config_is shared.now config × PutsBy config.service_idle asked.new }
+{
     let mut berth = berth_of(seats, at, shared.room());
     let connection = LeasedConnection { wire, lease };
     pools_of(shared).put(at.rt, &mut berth, connection, at.now);
     *seats = berth.seats;
+    *asked = berth.asked;
 }
 
 /// Keeps what a point's service said, once its pool has the maximum that it says. `Err` where no memory was found: then nothing has
 /// changed.
+fn keep_of<S: Shares, R: Wait, G>(
+    shared: &S,
+    at: &Spot<'_, R, G>,
+    alloc: Global,
+    point: Point,
+    service: &ServicePoint,
+    book: &mut PointBook,
+    said: Record,
+) -> Result<(), AllocError>
+    ensures kept { IfOk result (λ _. HasKept point service.now said book.new) }
+    ensures same { OnErr result (book.new ≡ book.old) }
+{
+    let maximum = pool_maximum(Some(&said), service);
+    match pools_of(shared).keep(at.rt, alloc, point, maximum, book, said) {
+        Ok(_) => Ok(()),
+        Err(fault) => Err(fault),
+    }
+}
+
+/// Keeps what the service of a point said, where it has one. The rest is as above.
 pub(crate) fn keep_record<S: Shares, R: Wait, G>(
     shared: &S,
     at: &Spot<'_, R, G>,
     alloc: Global,
     point: Point,
     book: &mut PointBook,
-    record: Record,
-) -> Result<(), AllocError> {
-    let Some(service) = service_of(shared.config(), point) else {
-        return Ok(());
-    };
-    let maximum = pool_maximum(Some(&record), service);
-    match pools_of(shared).keep(at.rt, alloc, point, maximum, book, record) {
-        Ok(_) => Ok(()),
-        Err(fault) => Err(fault),
+    said: Record,
+) -> Result<(), AllocError>
+    ensures keeps { IfOk result (λ _. (config : AnyConfig) × S.config_is shared.now config × Keeps point (service_at config point) said book.old book.new) }
+    ensures same { OnErr result (book.new ≡ book.old) }
+{
+    match service_of(shared.config(), point) {
+        Some(service) => keep_of(shared, at, alloc, point, service, book, said),
+        None => Ok(()),
     }
 }

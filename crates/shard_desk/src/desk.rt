@@ -1,5 +1,7 @@
 //! What the exchanges of one thread have in common.
 
+ghost use Rattle.std.specs.Prelude.{◌≡◌};
+
 use crate::pools::pools_of;
 use crate::reporter::Reporter;
 use crate::shared::Shares;
@@ -9,7 +11,7 @@ use mio::net::TcpStream;
 use plan_rules::Limits;
 use proxy_config::Config;
 use proxy_rules::limits_of;
-use service_lines::{Edge, POINTS, PointBook};
+use service_lines::{Edge, Latest, POINTS, PointBook};
 use shard_report::Count;
 use shard_work::{Purpose, Seating, Seats, Terms};
 use std::alloc::{AllocError, Global};
@@ -31,6 +33,8 @@ pub struct Desk<S> {
     pub(crate) reporter: Reporter,
     pub(crate) request_book: PointBook,
     pub(crate) response_book: PointBook,
+    /// What a connector was asked last, where a connection to a service was lent or put back.
+    pub(crate) asked: Latest,
     pub(crate) scratch: Vec<u8>,
 }
 
@@ -64,15 +68,9 @@ impl<S: Shares> Desk<S> {
             reporter,
             request_book: PointBook::new(),
             response_book: PointBook::new(),
+            asked: Latest::new(),
             scratch,
         })
-    }
-
-    /// Takes note that the exchange under this key has a connection to the service of a point, where one was lent to it.
-    pub(crate) fn note_lease(&mut self, key: usize, point: Point, is_lent: bool) {
-        if is_lent {
-            self.seats.lease(key, Some(point));
-        }
     }
 
     /// What the service of a point said last, to be changed.
@@ -91,14 +89,35 @@ impl<S: Shares> Desk<S> {
     }
 
     /// Has the services asked again before the next message is planned, where the administrator wants that.
-    pub(crate) fn heed_refresh(&mut self) {
-        let number = self.shared.number();
-        if let Some(inbox) = self.shared.inboxes().get(number)
-            && inbox.take_refresh()
-        {
-            self.request_book.expire();
-            self.response_book.expire();
-        }
+    pub(crate) fn heed_refresh(&mut self)
+        ensures { self.new.shared ≡ self.old.shared }
+    {
+        heed_refresh(
+            &self.shared,
+            &mut self.request_book,
+            &mut self.response_book,
+        );
+    }
+}
+
+/// Has the services asked again whose books these are, where the administrator wants that.
+pub(crate) fn heed_refresh<S: Shares>(
+    shared: &S,
+    requests: &mut PointBook,
+    responses: &mut PointBook,
+) {
+    if let Some(inbox) = shared.inboxes().get(shared.number())
+        && inbox.take_refresh()
+    {
+        requests.expire();
+        responses.expire();
+    }
+}
+
+/// Takes note that the exchange under this key has a connection to the service of a point, where one was lent to it.
+pub(crate) fn note_lease(seats: &mut Seats, key: usize, point: Point, is_lent: bool) {
+    if is_lent {
+        seats.lease(key, Some(point));
     }
 }
 

@@ -1,14 +1,20 @@
 //! The surroundings of an exchange over sockets.
 
-ghost use Rattle.std.specs.Prelude.{◌≡◌, ◌||◌, ⊤};
-ghost use Rattle.shard_work.specs.Seats.{is_late, is_overdue};
+ghost use Rattle.std.specs.Prelude.{◌≡◌, ◌||◌, Some, None, IfOk, IfErr, true};
+ghost use Rattle.proxy_config.specs.declared.config.Config.{Config as AnyConfig};
+ghost use Rattle.service_lines.specs.declared.connector.Act.TheVariants.{Opened};
 ghost use Rattle.service_lines.specs.Lending.{point_of};
-ghost use Rattle.shard_desk.specs.Books.{book_at};
+ghost use Rattle.shard_effects.specs.Reasons.{lies_elsewhere};
+ghost use Rattle.shard_work.specs.Seats.{is_late, is_overdue};
+ghost use Rattle.shard_outside.specs.Planning.{service_of as service_at};
+ghost use Rattle.shard_desk.specs.Asked.{LendsBy, FailsBy, PutsBy};
+ghost use Rattle.shard_desk.specs.Books.{book_at, KeepsAt};
+ghost use Rattle.shard_desk.specs.Places.{place_at};
 
 use crate::connections::{
     keep_record, lend_anew, lend_now, lend_waiting, open_origin, put_back, waiter_of,
 };
-use crate::desk::Desk;
+use crate::desk::{Desk, heed_refresh, note_lease};
 use crate::pools::pools_of;
 use crate::shared::Shares;
 use crate::words::asked_word;
@@ -58,6 +64,13 @@ impl<'r, S: Shares, R: Wait + Dial + Clock, G: Gate> Outside<Spot<'r, R, G>> for
     ghost book_is = { λ desk point book. book ≡ book_at desk.request_book desk.response_book point };
 
     ghost now_is = { λ desk at now. now ≡ at.now };
+
+    ghost keeps = { λ old new at point said. (config : AnyConfig) × S.config_is old.shared config
+        × KeepsAt point (service_at config point) said (book_at old.request_book old.response_book) (book_at new.request_book new.response_book) };
+
+    ghost is_opened = { λ desk at connection. desk.asked.last ≡ Some (Opened None) };
+
+    ghost puts = { λ old new at connection lease. (config : AnyConfig) × S.config_is old.shared config × PutsBy config.service_idle new.asked };
 
     fn alloc(&self) -> Global {
         self.alloc
@@ -136,9 +149,14 @@ impl<'r, S: Shares, R: Wait + Dial + Clock, G: Gate> Outside<Spot<'r, R, G>> for
         &mut self,
         at: &Spot<'r, R, G>,
         point: Point,
-    ) -> Result<(ServiceWire, Leased<S::Requests, S::Responses>), LendFault> {
-        let lent = lend_now(&self.shared, &mut self.seats, at, point);
-        self.note_lease(at.key, point, lent.is_ok());
+    ) -> Result<(ServiceWire, Leased<S::Requests, S::Responses>), LendFault>
+        ensures point { IfOk result (λ lent. point_of lent.1 ≡ point) }
+        ensures leads { IfOk result (λ lent. (config : AnyConfig) × S.config_is self.old.shared config × (lent.0.stream.to ≡ place_at config point)) }
+        ensures lends { IfOk result (λ lent. (config : AnyConfig) × S.config_is self.old.shared config × LendsBy at.entry.now.now config.service_idle self.new.asked lent.1) }
+        ensures fails { IfErr result (FailsBy self.new.asked) }
+    {
+        let lent = lend_now(&self.shared, &mut self.seats, &mut self.asked, at, point);
+        note_lease(&mut self.seats, at.key, point, lent.is_ok());
         lent
     }
 
@@ -146,10 +164,19 @@ impl<'r, S: Shares, R: Wait + Dial + Clock, G: Gate> Outside<Spot<'r, R, G>> for
         &mut self,
         at: &Spot<'r, R, G>,
         point: Point,
-    ) -> Result<(ServiceWire, Leased<S::Requests, S::Responses>), LendFault> {
-        self.heed_refresh();
-        let lent = lend_waiting(&self.shared, &mut self.seats, at, point);
-        self.note_lease(at.key, point, lent.is_ok());
+    ) -> Result<(ServiceWire, Leased<S::Requests, S::Responses>), LendFault>
+        ensures point { IfOk result (λ lent. point_of lent.1 ≡ point) }
+        ensures leads { IfOk result (λ lent. (config : AnyConfig) × S.config_is self.old.shared config × (lent.0.stream.to ≡ place_at config point)) }
+        ensures lends { IfOk result (λ lent. (config : AnyConfig) × S.config_is self.old.shared config × LendsBy at.entry.now.now config.service_idle self.new.asked lent.1) }
+        ensures fails { IfErr result (FailsBy self.new.asked) }
+    {
+        heed_refresh(
+            &self.shared,
+            &mut self.request_book,
+            &mut self.response_book,
+        );
+        let lent = lend_waiting(&self.shared, &mut self.seats, &mut self.asked, at, point);
+        note_lease(&mut self.seats, at.key, point, lent.is_ok());
         lent
     }
 
@@ -171,8 +198,12 @@ impl<'r, S: Shares, R: Wait + Dial + Clock, G: Gate> Outside<Spot<'r, R, G>> for
         &mut self,
         at: &Spot<'r, R, G>,
         lease: &mut Leased<S::Requests, S::Responses>,
-    ) -> Result<ServiceWire, LendFault> {
-        lend_anew(&self.shared, &mut self.seats, at, lease)
+    ) -> Result<ServiceWire, LendFault>
+        ensures point { point_of lease.new ≡ point_of lease.old }
+        ensures leads { IfOk result (λ wire. (config : AnyConfig) × S.config_is self.old.shared config × (wire.stream.to ≡ place_at config (point_of lease.new))) }
+        ensures opened { IfOk result (λ _. self.new.asked.last ≡ Some (Opened None)) }
+    {
+        lend_anew(&self.shared, &mut self.seats, &mut self.asked, at, lease)
     }
 
     fn is_reused(lease: &Leased<S::Requests, S::Responses>) -> bool {
@@ -185,11 +216,18 @@ impl<'r, S: Shares, R: Wait + Dial + Clock, G: Gate> Outside<Spot<'r, R, G>> for
         connection: Reusable<ServiceWire>,
         lease: Leased<S::Requests, S::Responses>,
     )
-        ensures { ⊤ }
+        ensures { (config : AnyConfig) × S.config_is self.old.shared config × PutsBy config.service_idle self.new.asked }
     {
         self.seats.lease(at.key, None);
         let connection = connection.into_wire();
-        put_back(&self.shared, &mut self.seats, at, connection, lease);
+        put_back(
+            &self.shared,
+            &mut self.seats,
+            &mut self.asked,
+            at,
+            connection,
+            lease,
+        );
     }
 
     fn give_up(&mut self, at: &Spot<'r, R, G>, lease: Leased<S::Requests, S::Responses>) {
@@ -197,7 +235,10 @@ impl<'r, S: Shares, R: Wait + Dial + Clock, G: Gate> Outside<Spot<'r, R, G>> for
         pools_of(&self.shared).give_up(at.rt, lease);
     }
 
-    fn dial(&mut self, at: &Spot<'r, R, G>, address: SocketAddrV4) -> Result<OriginWire, Reason> {
+    fn dial(&mut self, at: &Spot<'r, R, G>, address: SocketAddrV4) -> Result<OriginWire, Reason>
+        ensures leads { IfOk result (λ wire. wire.stream.to ≡ Some address) }
+        ensures elsewhere { IfErr result (λ reason. lies_elsewhere reason ≡ true) }
+    {
         let when = self.shared.config().dial;
         open_origin(&mut self.seats, at, address, when)
     }

@@ -1,11 +1,14 @@
 //! Connections to services over sockets: how they lie idle, and what their lending asks of a thread's loop.
 
-ghost use Rattle.std.specs.Prelude.{◌≡◌, ⊤, true, Some, Ok, Err, IfOk, IfSome};
+ghost use Rattle.std.specs.Prelude.{◌≡◌, ◌↔◌, true, Some, Ok, Err, IfOk, IfSome};
+ghost use Rattle.proxy_config.specs.declared.config.Config.{Config as AnyConfig};
+ghost use Rattle.service_lines.specs.Latest.{IsLatest};
+ghost use Rattle.service_lines.specs.Lending.{fault_in};
 
 use crate::shared::Shares;
 use event_loop::{IdlePermit, Inbox, Room};
 use mio::Registry;
-use service_lines::{Connector, Edge, Keeper, LendFault, Waiting};
+use service_lines::{Act, Connector, Edge, Keeper, Latest, LendFault, Waiting};
 use shard_work::Seats;
 use socket_wire::{Called, Dial, Readiness, Role, ServiceWire, SocketWire, Stream, Unread};
 use std::io;
@@ -22,6 +25,12 @@ pub struct Spare {
     pub since: u64,
 }
 
+/// That the loop of a thread was woken.
+#[derive(Drop)]
+pub struct Woken {
+    thread: usize,
+}
+
 /// What all threads share: their inboxes, and the descriptors.
 #[derive(Clone, Copy, Drop)]
 pub struct Loops<'a> {
@@ -33,7 +42,11 @@ pub struct Loops<'a> {
 impl<'a> Edge for Loops<'a> {
     type Idle = Spare;
 
+    type Woken = Woken;
+
     ghost since = { λ idle. idle.since };
+
+    ghost thread_of = { λ woken. woken.thread };
 
     fn since(idle: &Spare) -> u64
         ensures { result ≡ idle.now.since }
@@ -45,10 +58,11 @@ impl<'a> Edge for Loops<'a> {
         idle.wire.unread() == Unread::Nothing
     }
 
-    fn wake(&self, thread: usize) {
+    fn wake(&self, thread: usize) -> Woken {
         if let Some(inbox) = self.inboxes.get(thread) {
             inbox.wake();
         }
+        Woken { thread }
     }
 
     fn is_crowded(&self) -> bool {
@@ -60,7 +74,10 @@ impl<'a> Edge for Loops<'a> {
 pub type Pools<'a, Q, A> = service_lines::Pools<'a, Loops<'a>, Q, A>;
 
 /// The connections to services of both points, and those who wait for one.
-pub fn pools_of<S: Shares>(shared: &S) -> Pools<'_, S::Requests, S::Responses> {
+pub fn pools_of<S: Shares>(shared: &S) -> Pools<'_, S::Requests, S::Responses>
+    ensures idle { (config : AnyConfig) × S.config_is shared.now config × (result.idle_seconds ≡ config.service_idle) }
+    ensures wait { (config : AnyConfig) × S.config_is shared.now config × (result.waiting.seconds ≡ config.wait) }
+{
     let request = shared.requests();
     let response = shared.responses();
     let queues = shared.queues();
@@ -153,13 +170,15 @@ pub(crate) fn dial_late<P: Role + Called, R: Dial>(
     wire_of(seats, registry, key, Readiness::undialled(), opened)
 }
 
-/// The seat of an exchange, from which its service's connection is taken: the seats of its thread are lent to it meanwhile.
+/// The seat of an exchange, from which its service's connection is taken: the seats of its thread are lent to it meanwhile. It knows what
+/// it was asked last.
 #[derive(Drop)]
 pub(crate) struct Berth<'r, 'a> {
     pub registry: &'r Registry,
     pub key: usize,
     pub seats: Seats,
     pub room: &'a Arc<Room>,
+    pub asked: Latest,
 }
 
 /// Takes a connection out of the poll, to lie idle since this moment, and gives it a permit among the descriptors of idle ones.
@@ -196,22 +215,27 @@ fn is_quiet(wire: &ServiceWire) -> bool {
 impl<'r, 'a> Keeper<Loops<'a>> for Berth<'r, 'a> {
     type Used = ServiceWire;
 
-    ghost past = { λ keeper p. ⊤ };
+    ghost past = { λ berth p. IsLatest berth.asked p };
 
     ghost is_line = { λ idle used. idle.wire ≡ used };
 
     fn may_rest(&mut self, used: &ServiceWire) -> bool {
-        is_quiet(used)
+        let may_rest = is_quiet(used);
+        self.asked.note(Act::Checked(may_rest));
+        may_rest
     }
 
     fn rest(&mut self, used: ServiceWire, now: u64) -> Option<Spare> {
         let registry = self.registry;
         let room = self.room;
-        lay_idle(registry, self.key, &mut self.seats, room, used, now)
+        let idle = lay_idle(registry, self.key, &mut self.seats, room, used, now);
+        self.asked.note(Act::Rested(idle.is_some()));
+        idle
     }
 
     fn close(&mut self, used: ServiceWire) {
         drop(used);
+        self.asked.note(Act::Closed);
     }
 }
 
@@ -224,20 +248,30 @@ pub(crate) struct Port<'r, 'a, R> {
 
 /// Whether a connection leads to this address.
 fn leads_to(wire: &ServiceWire, place: Option<SocketAddrV4>) -> bool
-    ensures { result ≡ true → wire.now.stream.to ≡ place }
+    ensures { (result ≡ true) ↔ (wire.now.stream.to ≡ place) }
 {
     wire.address() == place
+}
+
+/// Why a connection wasn't lent, if it wasn't.
+fn fault_of<T>(lent: &Result<T, LendFault>) -> Option<LendFault>
+    ensures { result ≡ fault_in lent.now }
+{
+    match lent {
+        Ok(_) => None,
+        Err(fault) => Some(*fault),
+    }
 }
 
 impl<'r, 'a, R: Dial> Keeper<Loops<'a>> for Port<'r, 'a, R> {
     type Used = ServiceWire;
 
-    ghost past = { λ keeper p. ⊤ };
+    ghost past = { λ port p. IsLatest port.berth.asked p };
 
     ghost is_line = { λ idle used. idle.wire ≡ used };
 
     fn may_rest(&mut self, used: &ServiceWire) -> bool {
-        is_quiet(used)
+        self.berth.may_rest(used)
     }
 
     fn rest(&mut self, used: ServiceWire, now: u64) -> Option<Spare> {
@@ -245,7 +279,7 @@ impl<'r, 'a, R: Dial> Keeper<Loops<'a>> for Port<'r, 'a, R> {
     }
 
     fn close(&mut self, used: ServiceWire) {
-        drop(used);
+        self.berth.close(used);
     }
 }
 
@@ -261,14 +295,18 @@ impl<'r, 'a, R: Dial> Connector<Loops<'a>> for Port<'r, 'a, R> {
         let rt = self.rt;
         let registry = self.berth.registry;
         let key = self.berth.key;
-        match place {
+        let opened = match place {
             Some(address) => dial(rt, &mut self.berth.seats, registry, key, address),
             None => Err(LendFault::Unreached),
-        }
+        };
+        self.berth.asked.note(Act::Opened(fault_of(&opened)));
+        opened
     }
 
     fn is_fit(&mut self, place: Option<SocketAddrV4>, idle: &Spare) -> bool {
-        leads_to(&idle.wire, place) && idle.wire.unread() == Unread::Nothing
+        let is_fit = leads_to(&idle.wire, place) && idle.wire.unread() == Unread::Nothing;
+        self.berth.asked.note(Act::Looked(is_fit));
+        is_fit
     }
 
     fn resume(&mut self, idle: Spare) -> Result<ServiceWire, LendFault> {
@@ -276,13 +314,16 @@ impl<'r, 'a, R: Dial> Connector<Loops<'a>> for Port<'r, 'a, R> {
             wire,
             ready,
             permit: _,
-            since: _,
+            since,
         } = idle;
         let registry = self.berth.registry;
         let key = self.berth.key;
-        match self.berth.seats.enlist(registry, key, wire, ready) {
+        let resumed = match self.berth.seats.enlist(registry, key, wire, ready) {
             Ok(wire) => Ok(wire),
             Err(_) => Err(LendFault::NoMemory),
-        }
+        };
+        let fault = fault_of(&resumed);
+        self.berth.asked.note(Act::Resumed(since, fault));
+        resumed
     }
 }

@@ -1,5 +1,6 @@
 use Rattle.std.proofs.Common.{◌∙◌}
 use Rattle.std.proofs.lemmas.Result.{IfOk-weaker}
+use Rattle.shard_desk.proofs.Asking.{lends_within}
 use Rattle.shard_desk.proofs.connections.lend_now.Goals as goal
 
 pub returns-clause-point : goal.returns-clause-point
@@ -8,3 +9,13 @@ returns-clause-point g c = c.lent_of.ensures.point c.args.point c.lend-lent.ensu
 pub returns-clause-leads : goal.returns-clause-leads
 returns-clause-leads g c = IfOk-weaker c.lent_of.result _ _ (λ lent leads. (c.config.result.now, c.config.ensures, leads ∙ c.address_of-place.ensures))
     (c.lent_of.ensures.leads c.address_of-place.result c.lend-lent.ensures.leads)
+
+pub returns-clause-lends : goal.returns-clause-lends
+returns-clause-lends g c = IfOk-weaker c.lent_of.result _ _ (λ lent lends. (
+  c.pools_of.ensures.idle.0,
+  c.pools_of.ensures.idle.1,
+  lends_within c.pools_of.ensures.idle.2 lends,
+)) (c.lent_of.ensures.lends _ _ c.port_of-port.result.berth.asked _ c.port_of-port.ensures c.lend-lent.ensures.lends)
+
+pub returns-clause-fails : goal.returns-clause-fails
+returns-clause-fails g c = c.lent_of.ensures.fails _ _ c.port_of-port.result.berth.asked _ c.port_of-port.ensures c.lend-lent.ensures.lends
