@@ -68,6 +68,8 @@ impl<'r, S: Shares, R: Wait + Dial + Clock, G: Gate> Outside<Spot<'r, R, G>> for
     ghost keeps = { λ old new at point said. (config : AnyConfig) × S.config_is old.shared config
         × KeepsAt point (service_at config point) said (book_at old.request_book old.response_book) (book_at new.request_book new.response_book) };
 
+    ghost leads = { λ wire address. wire.stream.to ≡ Some address };
+
     ghost is_opened = { λ desk at connection. desk.asked.last ≡ Some (Opened None) };
 
     ghost puts = { λ old new at connection lease. (config : AnyConfig) × S.config_is old.shared config × PutsBy config.service_idle new.asked };
@@ -236,7 +238,6 @@ impl<'r, S: Shares, R: Wait + Dial + Clock, G: Gate> Outside<Spot<'r, R, G>> for
     }
 
     fn dial(&mut self, at: &Spot<'r, R, G>, address: SocketAddrV4) -> Result<OriginWire, Reason>
-        ensures leads { IfOk result (λ wire. wire.stream.to ≡ Some address) }
         ensures elsewhere { IfErr result (λ reason. lies_elsewhere reason ≡ true) }
     {
         let when = self.shared.config().dial;
