@@ -238,6 +238,7 @@ impl<'r, S: Shares, R: Wait + Dial + Clock, G: Gate> Outside<Spot<'r, R, G>> for
     }
 
     fn dial(&mut self, at: &Spot<'r, R, G>, address: SocketAddrV4) -> Result<OriginWire, Reason>
+        ensures leads { IfOk result (λ wire. wire.stream.to ≡ Some address) }
         ensures elsewhere { IfErr result (λ reason. lies_elsewhere reason ≡ true) }
     {
         let when = self.shared.config().dial;
