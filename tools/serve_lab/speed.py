@@ -1,21 +1,22 @@
 """The speed of programs under load: wrk and an ICAP client before them, nginx as the origin, Squid and c-icap beside them."""
+import collections
 import os
 import re
 import select
-import shutil
 import socket
 import subprocess
-import tempfile
 import time
 
+from .floor import Floor
 from .loopback import Program, Proxy, free_port
+from .servers import NGINX_FOLDERS, SQUID_ALONE, Servers
 
 TICKS = os.sysconf("SC_CLK_TCK")
 
 NGINX = """daemon off; worker_processes 1; pid %(dir)s/nginx.pid; error_log %(dir)s/nginx.err;
 events { worker_connections 4096; }
-http { access_log off; keepalive_requests 1000000000; client_body_temp_path %(dir)s/b; proxy_temp_path %(dir)s/p;
-fastcgi_temp_path %(dir)s/f; uwsgi_temp_path %(dir)s/u; scgi_temp_path %(dir)s/s;
+http { access_log off; keepalive_requests 1000000000;
+""" + NGINX_FOLDERS + """
 server { listen 127.0.0.1:%(port)d; root %(dir)s/www; } }
 """
 
@@ -46,16 +47,8 @@ Service echo srv_echo.so
 """
 
 SQUID = """http_port 127.0.0.1:%(port)d
-http_access allow all
-cache deny all
+""" + SQUID_ALONE + """
 cache_mem 8 MB
-access_log none
-cache_log %(dir)s/squid.log
-cache_store_log none
-pid_filename none
-coredump_dir %(dir)s
-shutdown_lifetime 1 seconds
-pinger_enable off
 max_filedescriptors 8192
 icap_persistent_connections on
 icap_preview_enable on
@@ -68,9 +61,14 @@ adaptation_access s allow all
 """
 
 
+# Its `done` prints how many answers took how many microseconds.
 SCRIPT = """wrk.headers["Host"] = "127.0.0.1:%(origin)d"
 %(closing)s
 request = function() return wrk.format("GET", "http://127.0.0.1:%(origin)d/%(path)s") end
+done = function(summary, latency)
+  print("took", summary.duration, summary.requests)
+  for at = 1, #latency do print("each", latency(at)) end
+end
 """
 
 SIZES = {"1k": 1024, "64k": 65536, "1m": 1 << 20, "4m": 4 << 20}
@@ -110,51 +108,57 @@ def resident(pid):
     return sum_of
 
 
-def wait_for(port):
-    for _ in range(200):
-        try:
-            socket.create_connection(("127.0.0.1", port), 1).close()
-            return
-        except OSError:
-            time.sleep(0.05)
-    raise SystemExit("nothing listens on port %d" % port)
+def uncorrected(counts, between):
+    """How many answers took how many microseconds, as wrk measured it. What it prints has more of them: an answer that took `n` times
+    as long as the requests of a connection are apart, by the mean, is counted for the requests of these too."""
+    measured, more = {}, collections.Counter()
+    for time_of in sorted(counts, reverse=True):
+        count = counts[time_of] - more[time_of]
+        if count > 0:
+            measured[time_of] = count
+        if count > 0 and time_of >= 2 * between:
+            for earlier in range(time_of - between, between, -between):
+                more[earlier] += count
+    return measured
+
+
+def within(measured, part):
+    """The microseconds within which this part of the answers came."""
+    left = sum(measured.values()) * (1 - part)
+    for time_of in sorted(measured, reverse=True):
+        left -= measured[time_of]
+        if left < 0:
+            return time_of
+    return 0
+
+
+def delayed_acks():
+    """How many ACKs of this machine a timer has sent, 40 ms after the bytes came: those on which nobody waited too."""
+    with open("/proc/net/netstat") as lines:
+        names, figures = (line.split() for line in lines if line.startswith("TcpExt:"))
+    return int(figures[names.index("DelayedACKs")])
 
 
 class Loaded:
-    """What a program did under load: requests/s, user and system microseconds a request, milliseconds for 99 of 100."""
+    """What a program did under load: requests/s, user and system microseconds a request, the milliseconds within which 99 of 100 and
+    all answers came, and the ACKs that were delayed."""
+    PARTS = ("rate", "user", "system", "slow", "slowest", "delayed")
 
-    def __init__(self, rate, user, system, slow=0.0, errors=()):
-        self.rate, self.user, self.system, self.slow, self.errors = rate, user, system, slow, list(errors)
+    def __init__(self, rate, user, system, slow=0.0, slowest=0.0, delayed=0, errors=()):
+        self.rate, self.user, self.system, self.errors = rate, user, system, list(errors)
+        self.slow, self.slowest, self.delayed = slow, slowest, delayed
         self.cpu = user + system
 
 
-class Lab:
+class Lab(Servers):
     """An origin, and the programs that are measured."""
 
     def __init__(self, adaptproxy, icapd):
+        super().__init__("bench_serve", {name: b"a" * size for name, size in SIZES.items()})
         self.adaptproxy_path, self.icapd_path = adaptproxy, icapd
-        self.dir = tempfile.mkdtemp(prefix="bench_serve.")
-        os.chmod(self.dir, 0o777)
-        self.running, self.programs = [], []
-        os.mkdir(self.dir + "/www")
-        for name, size in SIZES.items():
-            with open("%s/www/%s" % (self.dir, name), "wb") as out:
-                out.write(b"a" * size)
-        os.chmod(self.dir + "/www", 0o755)
+        self.programs, self.compiled = [], None
         self.origin = free_port()
         self.origin_pid = self.start(["nginx", "-c", self.write("nginx.conf", NGINX, port=self.origin)], self.origin)
-
-    def write(self, name, text, **words):
-        path = os.path.join(self.dir, name)
-        with open(path, "w") as out:
-            out.write(text % dict(words, dir=self.dir))
-        return path
-
-    def start(self, command, port):
-        process = subprocess.Popen(command, stdin=subprocess.DEVNULL, stdout=subprocess.DEVNULL, stderr=subprocess.DEVNULL)
-        self.running.append(process)
-        wait_for(port)
-        return process.pid
 
     def icapd(self):
         """The port and the process of an icapd."""
@@ -178,30 +182,34 @@ class Lab:
         self.programs.append(proxy)
         return proxy.port, proxy.process.pid
 
-    def end(self):
+    def floor(self, threads, service=None, **settings):
+        """The port and the process of a floor."""
+        self.compiled, port = self.compiled or Floor(), free_port()
+        return port, self.start(self.compiled.command(port, self.origin, service, threads=threads, **settings), port)
+
+    def close(self):
         for program in self.programs:
             program.kill()
-        for process in self.running:
-            process.terminate()
-        for process in self.running:
-            process.wait()
-        shutil.rmtree(self.dir, ignore_errors=True)
+        super().close()
+        if self.compiled:
+            self.compiled.close()
 
     def load(self, program, path, connections, seconds, closing=False):
         """wrk's requests for a file, over this many connections, to a program's port; the times are those of its process."""
         port, pid = program
         closes = 'wrk.headers["Connection"] = "close"' if closing else ""
         script = self.write("wrk.lua", SCRIPT, origin=self.origin, path=path, closing=closes)
-        before, start = times(pid), time.time()
+        before, delayed = times(pid), delayed_acks()
         out = subprocess.run(["wrk", "-t1", "-c%d" % connections, "-d%ds" % seconds, "--latency", "-s", script,
                               "http://127.0.0.1:%d/" % port], capture_output=True, text=True, check=True).stdout
-        took, after = time.time() - start, times(pid)
-        count = int(re.search(r"(\d+) requests in", out).group(1))
-        slow, unit = re.search(r"99% +([\d.]+)(us|ms|s)\b", out).groups() if count else ("0", "s")
+        after, delayed = times(pid), delayed_acks() - delayed
+        duration, count = (int(word) for word in re.search(r"^took\t(\d+)\t(\d+)$", out, re.M).groups())
+        counts = {int(time_of): int(number) for time_of, number in re.findall(r"^each\t(\d+)\t(\d+)$", out, re.M)}
+        measured = uncorrected(counts, duration // max(count // connections, 1))
         errors = [line.strip() for line in out.splitlines() if "Non-2xx" in line or "Socket errors" in line]
         each = max(count, 1) / 1e6
-        return Loaded(count / took, (after[0] - before[0]) / each, (after[1] - before[1]) / each,
-                      float(slow) * {"us": 0.001, "ms": 1, "s": 1000}[unit], errors)
+        return Loaded(count * 1e6 / duration, (after[0] - before[0]) / each, (after[1] - before[1]) / each, within(measured, 0.99) / 1000,
+                      within(measured, 1) / 1000, delayed, errors)
 
     def calls(self, program, path, connections, seconds):
         """System calls a request under wrk's load, by their names, as strace counts them."""

@@ -206,6 +206,7 @@ def units_start(system, package, origin):
     system.does("dpkg", "--install", package)
     same("a unit that is enabled", system.run("systemctl", "is-enabled", "adaptproxy")[1], "disabled\n")
     system.edit(CONFIGURATION, '"o.test" = "127.0.0.1:8000"', '"o.test" = "127.0.0.1:%d"' % origin.port)
+    system.edit(CONFIGURATION, 'denied = ["127.0.0.0/8", ', 'denied = [')  # The origin is on the loopback.
     system.does("systemctl", "start", "icapd", "adaptproxy")
     until("a page", asks)
     return "the units start, and a page comes"
