@@ -35,7 +35,7 @@ try-scale: build ## three proxies behind HAProxy and two services behind it: eac
 try-serve: build ## tries `adaptproxy serve` over loopback: with users, origins and services that misbehave
 	@tools/try_serve
 
-bench-serve: build ## the table of speed beside Squid, c-icap and nginx, in six minutes, where squid, wrk, nginx, c-icap and strace are installed
+bench-serve: build ## the table of speed beside Squid, c-icap, nginx and the floor, in ten minutes, where squid, wrk, nginx, c-icap, strace and gcc are installed
 	@tools/prove_programs layer_bench
 	@tools/bench_serve
 

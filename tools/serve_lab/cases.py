@@ -8,7 +8,7 @@ import threading
 import time
 
 from serve_lab.lines import Lines, wanted_rows, wrong_counts
-from serve_lab.loopback import PATIENCE, TOP, Icap, Origin, Program, Proxy, User, free_port
+from serve_lab.loopback import KEPT, PATIENCE, TOP, Icap, Origin, Program, Proxy, User, free_port
 
 ADAPTPROXY = os.environ.get("ADAPTPROXY", os.path.join(TOP, "bin", "adaptproxy"))
 ICAPD = os.environ.get("ICAPD", os.path.join(TOP, "bin", "icapd"))
@@ -69,6 +69,8 @@ class Bench:
         return port
 
     def proxy(self, origin, text="", services=(), hosts="", descriptors=None, logged=LOGGED, before=()):
+        if KEPT and "keep_origins" not in text:
+            text = "keep_origins = 64\n" + text
         lines = Lines() if logged and "log =" not in text else None
         proxy = self.keep(Proxy(ADAPTPROXY, origin.port, (lines.key if lines else "") + text, services, hosts, descriptors, before))
         if lines:

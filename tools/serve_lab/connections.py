@@ -2,8 +2,8 @@
 import socket
 import time
 
-from serve_lab.cases import IDLE, case, comes, get, is_refused, post, same
-from serve_lab.loopback import Closed, Icap, Reader, Server, User, ask, body_of, fields_of, free_port, read_body
+from serve_lab.cases import IDLE, case, comes, get, is_refused, needs, post, same
+from serve_lab.loopback import KEPT, Icap, Reader, Server, User, ask, body_of, fields_of, free_port, read_body
 from serve_lab.operators import stats
 
 FORBIDDEN = (b"ICAP/1.0 200 OK\r\nISTag: \"t-1\"\r\nEncapsulated: res-hdr=0, res-body=45\r\n\r\n"
@@ -73,6 +73,7 @@ def no_connection_is_kept_where_none_may_lie_idle(bench):
 @case
 def a_connection_that_its_service_closed_isnt_idle(bench):
     """It is counted no more, and its descriptor goes, though nobody asks for it."""
+    needs("no KEPT", not KEPT)
     def reply(conn, reader, head, count):
         service.no_modification(conn, reader, head, count)
         time.sleep(0.3)

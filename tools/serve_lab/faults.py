@@ -10,7 +10,7 @@ import time
 
 from serve_lab.cases import IDLE, Oversleeping, at_once, case, comes, get, lent, needs, needs_tools, post, refusal, same, settled
 from serve_lab.descriptors import connections_of
-from serve_lab.loopback import Closed, Icap, User, ask, body_of
+from serve_lab.loopback import KEPT, Closed, Icap, User, ask, body_of
 from serve_lab.memory import Refusals, compiler
 from serve_lab.operators import stats
 
@@ -64,6 +64,7 @@ def a_retry_closes_the_broken_connection_first(bench):
     """So it needs no descriptor beside those that were counted for its user; where the system has no room for a fresh connection, that
     is 503."""
     needs_tools("strace")
+    needs("no KEPT", not KEPT)
     origin = bench.origin()
 
     def reply(conn, reader, head, count):
@@ -201,7 +202,7 @@ def a_refusal_and_its_close_share_a_deadline(bench):
     same("the refusal", user.reader.to_end(), refusal(400))
     written = time.time() - before
     end = before + 12
-    while proxy.descriptors() > 9 and time.time() < end:
+    while proxy.descriptors() > 11 and time.time() < end:
         time.sleep(0.01)
     passed = time.time() - before
     trace.close()

@@ -12,6 +12,8 @@ import time
 TOP = os.path.dirname(os.path.dirname(os.path.dirname(os.path.abspath(__file__))))
 # Seconds that an answer may take; a machine with much else to do may need more.
 PATIENCE = float(os.environ.get("PATIENCE", "20"))
+# Whether proxies and origins keep the connections between them, also where a case doesn't ask for it.
+KEPT = bool(os.environ.get("KEPT"))
 # The statuses of the answers that users have read, by the port.
 SEEN = collections.defaultdict(collections.Counter)
 
@@ -184,7 +186,7 @@ def ask(port, request, to_head=False):
 class Server:
     """A server of threads: `serve(connection, number)` for each connection."""
 
-    def __init__(self, serve):
+    def __init__(self, serve, address="127.0.0.1"):
         self.serve = serve
         self.count = 0
         self.inside = set()
@@ -192,7 +194,7 @@ class Server:
         self.lock = threading.Lock()
         self.sock = socket.socket()
         self.sock.setsockopt(socket.SOL_SOCKET, socket.SO_REUSEADDR, 1)
-        self.sock.bind(("127.0.0.1", 0))
+        self.sock.bind((address, 0))
         self.sock.listen(1024)
         self.port = self.sock.getsockname()[1]
         threading.Thread(target=self.run, daemon=True).start()
@@ -236,7 +238,8 @@ class Server:
 
 
 class Origin(Server):
-    """An origin whose answers the path says. `heads` and `bodies` keep what it was asked."""
+    """An origin whose answers the path says. `heads` and `bodies` keep what it was asked. A connection has one exchange, or with KEPT as
+    many as there are before one whose answer its end ends, or that breaks."""
 
     def __init__(self):
         self.heads = []
@@ -246,6 +249,11 @@ class Origin(Server):
 
     def exchange(self, conn, _number):
         reader = Reader(conn)
+        while self.one_of(conn, reader) and KEPT:
+            pass
+
+    def one_of(self, conn, reader):
+        """Reads a request and answers it. Whether the answer is one after which the connection may serve."""
         head = reader.head()
         fields = fields_of(head)
         method, path = fields[""].split(" ")[:2]
@@ -253,11 +261,12 @@ class Origin(Server):
         if words[0] == "early":
             self.put(conn, 200, b"early")
             time.sleep(0.2)
-            return
+            return False
         body = read_body(reader, fields, False)
         self.heads.append(head)
         self.bodies.append(body)
         self.respond(conn, method, words, body)
+        return words[0] in ("chunked", "interim", "echo", "worked", "bytes") or path in ("/status/204", "/status/304")
 
     @staticmethod
     def put(conn, status, body, extra=b"", to_head=False):
@@ -421,6 +430,9 @@ class Proxy(Program):
 
     def __init__(self, path, origin, text="", services=(), hosts="", descriptors=None, before=()):
         self.port, self.admin = free_port(), free_port()
+        while self.admin == self.port:
+            self.admin = free_port()
+        SEEN.pop(self.port, None)
         lines = 'listen = "127.0.0.1:%d"\nadmin = "127.0.0.1:%d"\n%s\n[hosts]\n"o.test" = "127.0.0.1:%d"\n%s\n' % (
             self.port, self.admin, text, origin, hosts)
         for point, port, where, *connections in services:

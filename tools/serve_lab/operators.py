@@ -650,7 +650,8 @@ def the_counters_count(bench):
                                                                     b"Connection: close\r\n\r\n"),
         'adaptproxy_user_bytes_total{direction="in"}': 5 * len(get("/bytes/1000"))
         + len(b"GET http://x.test/ HTTP/1.1\r\nHost: x.test\r\n\r\n"),
-        "adaptproxy_users": 1, "adaptproxy_seats": 24,
+        "adaptproxy_users": 1, "adaptproxy_seats": 24, "adaptproxy_users_refused_total": 0,
+        "adaptproxy_users_over_limit_total": 0,
         'adaptproxy_service_connections_maximum{point="respmod"}': 5, "adaptproxy_budget_rows": 0,
         "adaptproxy_budget_capacity_bytes": 16777216, "adaptproxy_log_lines_lost_total": 0}
     same("numbers", {name: found.get(name) for name in wanted}, wanted)

@@ -91,7 +91,7 @@ def configurations_are_checked_without_a_port(bench):
     few = subprocess.run(["prlimit", "--nofile=100", ADAPTPROXY, "check"], input=least.replace("rows = 4", "rows = 40").encode(),
                          stdout=subprocess.PIPE, stderr=subprocess.PIPE, timeout=20)
     same("a warning", (few.stdout, few.stderr, few.returncode),
-         (b"ok\n", b"adaptproxy: 300 descriptors may be needed, and the limit is 100\n", 0))
+         (b"ok\n", b"adaptproxy: 303 descriptors may be needed, and the limit is 100\n", 0))
 
 
 LEAST = 'listen = "127.0.0.1:1"\nadmin = "127.0.0.1:2"\n'

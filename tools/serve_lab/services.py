@@ -3,8 +3,8 @@ import socket
 import threading
 import time
 
-from serve_lab.cases import IDLE, case, get, is_refused, post, refusal, same, settled
-from serve_lab.loopback import PATIENCE, Icap, Reader, Server, User, ask, body_of, fields_of, free_port
+from serve_lab.cases import IDLE, case, get, is_refused, needs, post, refusal, same, settled
+from serve_lab.loopback import KEPT, PATIENCE, Icap, Reader, Server, User, ask, body_of, fields_of, free_port
 
 
 WORKED = b"GET http://o.test/a.txt HTTP/1.1\r\nHost: o.test\r\n\r\n"
@@ -14,6 +14,7 @@ FINAL = (b"ICAP/1.0 200 OK\r\nISTag: \"adapt-1\"\r\nEncapsulated: res-hdr=0, res
 
 @case
 def the_worked_exchange(bench):
+    needs("no KEPT", not KEPT)
     seen = []
 
     def reply(conn, reader, head, _count):

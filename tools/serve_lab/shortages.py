@@ -163,7 +163,7 @@ def a_user_that_resets_ends_its_exchange(bench):
             comes("the exchange", lambda: len(origin.heads) + len(service.requests) > heads)
         before = time.time()
         user.reset()
-        comes("its end", lambda: settled(proxy, 0).startswith("rows 0 ") and proxy.descriptors() <= 12, 3)
+        comes("its end", lambda: settled(proxy, 0).startswith("rows 0 ") and proxy.descriptors() <= 15, 3)
         print("      ended %.0f ms after the reset" % (1000 * (time.time() - before)))
         same("audit", proxy.stop(), IDLE)
     # One that closes its sending half alone is answered, as long as nobody wants what it has.
@@ -388,7 +388,7 @@ def processor_time(program):
 def a_user_that_waits_for_descriptors_keeps_no_processor_busy(bench):
     for shards in (1, 2):
         origin = bench.origin()
-        proxy = bench.proxy(origin, "shards = %d\nrows = 64\ndeadline = 600" % shards, descriptors=120 + 2 * (shards - 1))
+        proxy = bench.proxy(origin, "shards = %d\nrows = 64\ndeadline = 600" % shards, descriptors=120 + 3 * (shards - 1))
         busy = [User(proxy.port) for _ in range(30)]
         for number, user in enumerate(busy):
             user.send(get("/mute"))

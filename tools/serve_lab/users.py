@@ -3,8 +3,8 @@ import socket
 import threading
 import time
 
-from serve_lab.cases import ADAPTPROXY, IDLE, at_once, case, get, is_refused, post, refusal, same, settled
-from serve_lab.loopback import Program, Reader, Server, User, ask, body_of, fields_of, free_port
+from serve_lab.cases import ADAPTPROXY, IDLE, at_once, case, get, is_refused, needs, post, refusal, same, settled
+from serve_lab.loopback import KEPT, Program, Reader, Server, User, ask, body_of, fields_of, free_port
 
 
 @case
@@ -210,6 +210,7 @@ def heads_are_forwarded_as_the_rules_say(bench):
         conn.sendall(b"HTTP/1.0 200 Very  Fine\r\nServer:  x \r\nKeep-Alive: 5\r\nConnection: X-Hop\r\nX-Hop: 1\r\nContent-Length: 3\r\n"
                      b"Transfer-Encoding: chunked\r\nTrailer: T\r\n\r\n3\r\nabc\r\n0\r\nT: 1\r\n\r\nand more")
 
+    needs("no KEPT", not KEPT)
     heads = []
     origin = bench.keep(Server(exchange))
     proxy = bench.proxy(origin)

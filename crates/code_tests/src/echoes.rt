@@ -4,8 +4,8 @@ ghost use Rattle.std.specs.Prelude.{⊤};
 
 use crate::streams::{gets, say};
 use event_loop::{
-    AdminPorts, Admitted, Base, Driven, Ended, Entrance, Handed, Inbox, Request, Room, Told,
-    UserPermit, Work, add_loop, run_loop,
+    AdminPorts, Admission, Admitted, Base, Driven, Ended, Entrance, Handed, Inbox, Request, Room,
+    Told, UserPermit, Work, add_loop, run_loop,
 };
 use mio::net::TcpListener;
 use mio::{Registry, Token};
@@ -113,10 +113,17 @@ impl Work for Echo {
         false
     }
 
-    fn note(&mut self, key: usize, _peer: Peer, told: Told) -> bool {
-        match self.all.get_mut(key) {
-            Some(conn) => conn.ready.note(told.readable, told.writable, told.closed),
-            None => false,
+    fn heard(&mut self, _is_whole: bool) {}
+
+    fn note(&mut self, number: usize, _peer: Peer, told: Told) -> Option<usize> {
+        if number >= SEATS {
+            return None;
+        }
+        let conn = self.all.get(number)?;
+        if conn.ready.note(told.readable, told.writable, told.closed) {
+            Some(number)
+        } else {
+            None
         }
     }
 
@@ -189,7 +196,7 @@ impl Work for Echo {
         None
     }
 
-    fn turn_over<R: Wait>(&mut self, _rt: &R) {}
+    fn turn_over<R: Wait>(&mut self, _rt: &R, _now: u64) {}
 
     fn drain(&mut self) {}
 
@@ -251,6 +258,10 @@ fn make(
         listener,
         room,
         loops: 2,
+        admission: Admission {
+            networks: None,
+            most: 0,
+        },
     };
     let first = add_loop(rt, rt.alloc(), Some(users), None, inboxes)?;
     let metrics = None;

@@ -1,10 +1,14 @@
 //! Configurations: the first key that is wrong, the defaults, and where hosts are.
 use crate::listed::{index_of, put_counted};
 use crate::questions::{Subject, cut, put_lines};
-use proxy_config::{Config, ConfigFault, Hosts, ServicePoint, read_config};
+use proxy_config::{
+    Config, ConfigFault, Hosts, Network, ServicePoint, is_in, may_use, read_config,
+};
 use std::alloc::Global;
-use std::net::SocketAddrV4;
-use test_rows::{NoMemory, Row, number, put_all, put_count, put_line, put_number, put_shown};
+use std::net::{Ipv4Addr, SocketAddrV4};
+use test_rows::{
+    NoMemory, Row, number, put_all, put_count, put_decimal, put_line, put_number, put_shown,
+};
 
 /// The keys that have no default.
 const ADDRESSES: &[u8] = b"listen = \"127.0.0.1:3128\"\nadmin = \"127.0.0.1:3129\"\n";
@@ -72,6 +76,57 @@ fn put_metrics(out: &mut Vec<u8>, metrics: &Option<SocketAddrV4>) -> Result<(), 
     }
 }
 
+/// Adds networks, each with its prefix length after a slash.
+fn put_networks(out: &mut Vec<u8>, networks: &[Network]) -> Result<(), NoMemory> {
+    for network in networks {
+        out.extend_from_slice(b" ")?;
+        put_address(out, network.address)?;
+        out.extend_from_slice(b"/")?;
+        put_decimal(out, u64::from(network.prefix_length))?;
+    }
+    put_line(out, b"")
+}
+
+/// Adds an address, its octets with dots between them.
+fn put_address(out: &mut Vec<u8>, address: Ipv4Addr) -> Result<(), NoMemory> {
+    let mut is_first = true;
+    for octet in address.octets() {
+        if !is_first {
+            out.extend_from_slice(b".")?;
+        }
+        put_decimal(out, u64::from(octet))?;
+        is_first = false;
+    }
+    Ok(())
+}
+
+/// Adds who may use the proxy, and where no request goes.
+fn put_access(out: &mut Vec<u8>, config: &Config) -> Result<(), NoMemory> {
+    match &config.users {
+        Some(users) => {
+            out.extend_from_slice(b"users")?;
+            put_networks(out, users)?;
+        }
+        None => put_line(out, b"everyone")?,
+    }
+    out.extend_from_slice(b"denied")?;
+    put_networks(out, &config.denied)?;
+    put_number(out, b"user_connections", config.user_connections)
+}
+
+/// Adds where the parent is.
+fn put_parent(out: &mut Vec<u8>, parent: &Option<SocketAddrV4>) -> Result<(), NoMemory> {
+    match parent {
+        Some(address) => {
+            out.extend_from_slice(b"parent ")?;
+            put_address(out, *address.ip())?;
+            out.extend_from_slice(b":")?;
+            put_count(out, u64::from(address.port()))
+        }
+        None => put_line(out, b"no parent"),
+    }
+}
+
 /// The names of the times, in the order of `put_times`.
 const TIMES: &[u8] = b"service_idle |\noptions_ttl |\nhead_deadline |\nconnect_deadline ";
 
@@ -91,6 +146,9 @@ fn put_times(out: &mut Vec<u8>, config: &Config) -> Result<(), NoMemory> {
 fn put_tuning(out: &mut Vec<u8>, config: &Config) -> Result<(), NoMemory> {
     put_shown(out, b"log_query", &config.log_query)?;
     put_metrics(out, &config.metrics)?;
+    put_access(out, config)?;
+    put_number(out, b"keep_origins", config.keep_origins)?;
+    put_number(out, b"origin_idle", config.origin_idle)?;
     put_shown(out, b"dial", &config.dial)?;
     put_times(out, config)
 }
@@ -103,7 +161,8 @@ fn put_values(out: &mut Vec<u8>, config: &Config) -> Result<(), NoMemory> {
     put_log(out, &config.log)?;
     put_tuning(out, config)?;
     put_service(out, &config.reqmod)?;
-    put_service(out, &config.respmod)
+    put_service(out, &config.respmod)?;
+    put_parent(out, &config.parent)
 }
 
 /// Where hosts are.
@@ -125,6 +184,31 @@ impl<'a> Subject for Book<'a> {
     }
 }
 
+/// Who may use the proxy, and where no request goes.
+#[derive(Drop)]
+struct Access<'a>(&'a Config);
+
+impl<'a> Subject for Access<'a> {
+    /// Adds whether a user may come from an address, and whether a request may go to it.
+    fn put_said(&mut self, question: &[u8], out: &mut Vec<u8>) -> Result<(), NoMemory> {
+        let Ok(address) = Ipv4Addr::parse_ascii(question) else {
+            return put_line(out, b"no address");
+        };
+        let user: &[u8] = if may_use(&self.0.users, address) {
+            b"user"
+        } else {
+            b"no user"
+        };
+        let target: &[u8] = if is_in(&self.0.denied, address) {
+            b", denied"
+        } else {
+            b", not denied"
+        };
+        out.extend_from_slice(user)?;
+        put_line(out, target)
+    }
+}
+
 /// The text of a row, after the two addresses if it isn't whole.
 fn text_of(alloc: Global, row: &Row<'_>) -> Result<Vec<u8>, NoMemory> {
     let mut text = Vec::new(alloc);
@@ -133,16 +217,17 @@ fn text_of(alloc: Global, row: &Row<'_>) -> Result<Vec<u8>, NoMemory> {
     Ok(text)
 }
 
-/// Adds the values, or where hosts are, as the call asks; else that the configuration is good.
+/// Adds the values, where hosts are, or who may do what, as the call asks; else that the configuration is good.
 fn put_good(
     out: &mut Vec<u8>,
     call: &[u8],
     config: &Config,
     row: &Row<'_>,
 ) -> Result<(), NoMemory> {
-    match index_of(b"values|hosts", call) {
+    match index_of(b"values|hosts|access", call) {
         Some(0) => put_values(out, config),
         Some(1) => put_lines(&mut Book(&config.hosts), row.get(b"want"), out),
+        Some(2) => put_lines(&mut Access(config), row.get(b"want"), out),
         _ => put_line(out, b"good"),
     }
 }

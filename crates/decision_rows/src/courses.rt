@@ -8,14 +8,20 @@ use exchange_core::{Course, Event, Exchange};
 use test_rows::{NoMemory, Row, put_line, put_shown, says};
 
 /// The marks of a course, in the order of `put_marks`.
-const MARKS: &[u8] = b"stake|origin|asked|told|half_told|begun|closes|draining|stopping";
+const MARKS: &[u8] =
+    b"stake|origin|kept|lasts|asked|repeatable|withdrawn|heard|told|half_told|begun|closes|draining|stopping";
 
 /// Adds the marks that are set.
 fn put_marks(out: &mut Vec<u8>, course: &Course) -> Result<(), NoMemory> {
     let stand = [
         course.stake,
         course.origin,
+        course.kept,
+        course.lasts,
         course.asked,
+        course.repeatable,
+        course.withdrawn,
+        course.heard,
         course.told,
         course.half_told,
         course.begun,

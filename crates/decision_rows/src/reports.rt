@@ -2,33 +2,35 @@
 use crate::listed::index_of;
 use crate::questions::cut;
 use exchange_report::{
-    Address, Entry, Family, Kind, Metric, Reply, Verdict, Why, metrics_text, write_line,
+    Address, Destination, Entry, Family, Kind, Metric, Reason, Reply, Verdict, Why, metrics_text,
+    write_line,
 };
 use std::alloc::Global;
 use test_rows::{NoMemory, Row, number};
 
 /// The reasons, in the order of the table that says what each is.
-const WHYS: [Why; 20] = [
+const WHYS: [Why; 21] = [
     Why::Served,
-    Why::BadRequest,
-    Why::NotServed,
-    Why::RequestBroken,
-    Why::UnknownHost,
-    Why::OriginRefused,
-    Why::OriginBroken,
-    Why::OriginDeadline,
-    Why::ServiceRefused,
-    Why::ServiceStatus,
-    Why::ServiceBroken,
-    Why::ServiceDeadline,
-    Why::Busy,
-    Why::Full,
-    Why::NoRow,
-    Why::NoSeat,
-    Why::NoMemory,
-    Why::UserDeadline,
+    Why::Failed(Reason::BadRequest),
+    Why::Failed(Reason::NotServed),
+    Why::Failed(Reason::RequestBroken),
+    Why::Failed(Reason::UnknownHost),
+    Why::Failed(Reason::Denied),
+    Why::Failed(Reason::OriginRefused),
+    Why::Failed(Reason::OriginBroken),
+    Why::Failed(Reason::OriginDeadline),
+    Why::Failed(Reason::ServiceRefused),
+    Why::Failed(Reason::ServiceStatus),
+    Why::Failed(Reason::ServiceBroken),
+    Why::Failed(Reason::ServiceDeadline),
+    Why::Failed(Reason::Busy),
+    Why::Failed(Reason::Full),
+    Why::Failed(Reason::NoRow),
+    Why::Failed(Reason::NoSeat),
+    Why::Failed(Reason::NoMemory),
+    Why::Failed(Reason::UserDeadline),
     Why::UserGone,
-    Why::Stopping,
+    Why::Failed(Reason::Stopping),
 ];
 
 /// The address of four numbers, as `192 0 2 1`.
@@ -65,6 +67,14 @@ fn verdict(text: &[u8]) -> Verdict {
     verdict
 }
 
+/// Where the request of a row went.
+fn destination(row: &Row<'_>) -> Option<Destination> {
+    match address(row.get(b"parent")) {
+        Some(parent) => Some(Destination::Parent(parent)),
+        None => Some(Destination::Origin(address(row.get(b"origin"))?)),
+    }
+}
+
 /// The exchange of a row.
 fn entry_of<'a>(row: &Row<'a>) -> Entry<'a> {
     let why = row.number(b"why").unwrap_or(0);
@@ -77,7 +87,7 @@ fn entry_of<'a>(row: &Row<'a>) -> Entry<'a> {
         sent: row.number(b"sent").unwrap_or(0),
         method: row.get(b"method"),
         target: row.get(b"target"),
-        origin: address(row.get(b"origin")),
+        destination: destination(row),
         kind: row.get(b"type"),
         reqmod: verdict(row.get(b"reqmod")),
         respmod: verdict(row.get(b"respmod")),

@@ -6,7 +6,8 @@ ghost use Rattle.adapt_sides.specs.Tapes.{KeepsUndelivered};
 use crate::kept::Kept;
 use http_relay::{HeadProgress, HopWriter, RelayFault, SourceSide, Turn};
 use http_side::{
-    BodyKind, Forward, Framing, HttpFault, HttpRequest, Message, forward_head, read_request,
+    BodyKind, Forward, Framing, HttpFault, HttpRequest, Message, OriginUse, OriginWay,
+    forward_head, read_request,
 };
 use span_tape::SpanTape;
 use std::alloc::Global;
@@ -99,12 +100,14 @@ fn forwarded(
             message: Message::Request(request),
             part: BodyKind::Own,
             carries_on: true,
+            origin: OriginWay::straight(OriginUse::Once),
         },
         (None, Some(response), Some(user)) => Forward {
             user,
             message: Message::Response(response),
             part: BodyKind::Own,
             carries_on: true,
+            origin: OriginWay::straight(OriginUse::Once),
         },
         _ => return Ok(None),
     };

@@ -1,3 +1,4 @@
 pub mod Handing
+pub mod Running
 pub mod Serving
 pub mod Turning

@@ -1,16 +1,16 @@
 -- Calls of a loop, one after another.
-use Rattle.std.proofs.Common.{◌≡◌, ℕ, ◌+◌, ◌<◌, ◌≤◌, ◌⊎◌, below_more, zero, suc, get_or, Result, Ok, Err, IsErr, OnOk, IfOk, inl, inr, Bool, true, false, cond, List, [], ◌∷◌, ◌++◌, length, refl, ap, sym, ◌∙◌, subst, append_assoc, arith}
+use Rattle.std.proofs.Common.{◌≡◌, ℕ, ◌+◌, ◌<◌, ◌≤◌, ◌⊎◌, ◌||◌, below_more, zero, suc, get_or, Result, Ok, Err, IsErr, OnOk, IfOk, inl, inr, Some, None, Bool, true, false, cond, List, [], ◌∷◌, ◌++◌, length, refl, ap, sym, ◌∙◌, subst, append_assoc, arith}
 use Rattle.std.specs.Prelude.{nat_eq, slice_index_or, ⊤}
 use Rattle.std.proofs.lemmas.Bool.Decides.{eqb_tells}
 use Rattle.loop_parts.specs.declared.ready_list.ReadyList.{ReadyList}
 use Rattle.loop_parts.specs.Marks.{is_marked, count}
 use Rattle.event_loop.specs.declared.work.Driven.{Driven}
-use Rattle.event_loop.specs.declared.work.Driven.TheVariants.{Waiting, CutShort, Over}
+use Rattle.event_loop.specs.declared.work.Driven.TheVariants.{Waiting, CutShort, Blocked, Over}
 use Rattle.event_loop.specs.declared.work.Work.{Ghosts as Work}
 use Rattle.event_loop.specs.declared.looping.EventLoop.{EventLoop}
-use Rattle.event_loop.specs.Deeds.{Deed, Adds, has_more}
+use Rattle.event_loop.specs.Deeds.{Deed, Adds, has_more, is_end, blocker}
 use Rattle.event_loop.specs.Deeds.Deed.{TookIn, MadeRoom, Noted, Drove, GaveWay, Asked, Answered, EndedTurn, Drained, Halted}
-use Rattle.event_loop.specs.Turns.{owes, owes_after, IsTied, Works, Does, Did, Answers, Stands, IsDriven, Drives, Gets, IsDue, ways}
+use Rattle.event_loop.specs.Turns.{owes, owes_after, ends, Follows, AreOrderly, IsTied, Works, Does, Did, Answers, Stands, IsDriven, Drives, Gets, IsDue, ways}
 
 -- deeds of a work, one after another
 pub works_then : {K : Type 0} (w : Work K) (a b c : K) (first second : List Deed) → Works w a b first → Works w b c second → Works w a c (second ++ first)
@@ -30,6 +30,60 @@ works_same {K} w a b e = record {
 pub works_one : {K : Type 0} (w : Work K) (a b : K) (deed : Deed) → Adds (w.past a) (w.past b) deed → (w.bound b ≡ w.bound a) × (w.queues b ≡ w.queues a) → Works w a b (deed ∷ [])
 works_one w a b deed past kept = record { past = past; bound = kept.0; queues = kept.1 }
 
+pub no : false ≡ true → ⊥
+no e = cc
+
+none_some : {n : ℕ} → None ≡ Some n → ⊥
+none_some e = cc
+
+pub neither : (x y : Bool) → x || y ≡ false → (x ≡ false) × (y ≡ false)
+neither true y e = absurd (no (sym e))
+neither false y e = (refl, e)
+
+-- with neither of these deeds a turn ends
+pub ends_then : (first second : List Deed) → ends first ≡ false → ends second ≡ false → ends (second ++ first) ≡ false
+ends_then first [] f s = f
+ends_then first (deed ∷ second) f s = let parts = neither (is_end deed) (ends second) s in rw parts.0 (ends_then first second f parts.1)
+
+blocker_more : (other : ℕ) (more deeds : List Deed) → blocker more ≡ Some other → blocker (more ++ deeds) ≡ Some other
+blocker_more other [] deeds e = absurd (none_some e)
+blocker_more other (Drove key (Blocked it) ∷ more) deeds e = e
+blocker_more other (Drove key Waiting ∷ more) deeds e = absurd (none_some e)
+blocker_more other (Drove key CutShort ∷ more) deeds e = absurd (none_some e)
+blocker_more other (Drove key Over ∷ more) deeds e = absurd (none_some e)
+blocker_more other (TookIn number admitted ∷ more) deeds e = absurd (none_some e)
+blocker_more other (MadeRoom there ∷ more) deeds e = absurd (none_some e)
+blocker_more other (Noted number peer told news ∷ more) deeds e = absurd (none_some e)
+blocker_more other (GaveWay it ∷ more) deeds e = absurd (none_some e)
+blocker_more other (Asked queue first ∷ more) deeds e = absurd (none_some e)
+blocker_more other (Answered request ∷ more) deeds e = absurd (none_some e)
+blocker_more other (EndedTurn ∷ more) deeds e = absurd (none_some e)
+blocker_more other (Drained ∷ more) deeds e = absurd (none_some e)
+blocker_more other (Halted ∷ more) deeds e = absurd (none_some e)
+
+-- a deed with which no turn ends may be done after more
+follows_more : (deed : Deed) (more deeds : List Deed) → is_end deed ≡ false → Follows deed more → Follows deed (more ++ deeds)
+follows_more (GaveWay other) more deeds e h = blocker_more other more deeds h
+follows_more EndedTurn more deeds e h = absurd (no (sym e))
+follows_more (Drove other driven) more deeds e h = tt
+follows_more (TookIn number admitted) more deeds e h = tt
+follows_more (MadeRoom there) more deeds e h = tt
+follows_more (Noted number peer told news) more deeds e h = tt
+follows_more (Asked queue first) more deeds e h = tt
+follows_more (Answered request) more deeds e h = tt
+follows_more Drained more deeds e h = tt
+follows_more Halted more deeds e h = tt
+
+-- deeds with which no turn ends may be done after others
+pub orderly_more : (more deeds : List Deed) → ends more ≡ false → AreOrderly more → AreOrderly deeds → AreOrderly (more ++ deeds)
+orderly_more [] deeds e m d = d
+orderly_more (deed ∷ more) deeds e m d =
+    let parts = neither (is_end deed) (ends more) e in
+    (follows_more deed more deeds parts.0 m.0, orderly_more more deeds parts.1 m.1 d)
+
+ends_one : (deed : Deed) → is_end deed ≡ false → ends (deed ∷ []) ≡ false
+ends_one deed e = rw e refl
+
 cond_more : (b cut x y : Bool) → (x ≡ true → y ≡ true) → cond b cut x ≡ true → cond b cut y ≡ true
 cond_more true cut x y h e = e
 cond_more false cut x y h e = h e
@@ -39,7 +93,7 @@ after_more : (x y : Bool) (key : ℕ) (deed : Deed) → (x ≡ true → y ≡ tr
 after_more x y key (Drove other driven) h e = cond_more (nat_eq other key) (has_more driven) x y h e
 after_more x y key (TookIn number admitted) h e = h e
 after_more x y key (MadeRoom there) h e = h e
-after_more x y key (Noted other peer told news) h e = h e
+after_more x y key (Noted number peer told news) h e = h e
 after_more x y key (GaveWay other) h e = h e
 after_more x y key (Asked queue first) h e = h e
 after_more x y key (Answered request) h e = h e
@@ -47,7 +101,7 @@ after_more x y key EndedTurn h e = h e
 after_more x y key Drained h e = h e
 after_more x y key Halted h e = h e
 
-owes_then : (x y : Bool) (key : ℕ) (first second : List Deed) → (owes x key first ≡ true → y ≡ true)
+pub owes_then : (x y : Bool) (key : ℕ) (first second : List Deed) → (owes x key first ≡ true → y ≡ true)
     → owes x key (second ++ first) ≡ true → owes y key second ≡ true
 owes_then x y key first [] h e = h e
 owes_then x y key first (deed ∷ second) h e =
@@ -66,6 +120,8 @@ does_nothing w a b work ready reports = record {
   works = works_same w a.work b.work work;
   owed = λ tied key h. ap (λ r. is_marked r key) ready ∙ h;
   marks = ap (λ r. count r) ready;
+  within = refl;
+  orderly = tt;
   reports = reports;
 }
 
@@ -76,6 +132,8 @@ does_then w a b c first second f s = record {
   owed = λ tied key h.
       s.owed (tied_then w a b f tied) key (owes_then (is_marked a.ready key) (is_marked b.ready key) key first second (f.owed tied key) h);
   marks = s.marks ∙ f.marks;
+  within = ends_then first second f.within s.within;
+  orderly = orderly_more second first s.within s.orderly f.orderly;
   reports = s.reports ∙ f.reports;
 }
 
@@ -111,9 +169,6 @@ did_more w a b c {deeds = ds} f d = record { deeds = ds ++ f.deeds; does = does_
 pub did_behind : {K : Type 0} (w : Work K) (a b c : EventLoop K) {deeds : List Deed} {P : List Deed → Type 0} → Does w a b deeds → Did w b c P → Did w a c (λ _. ⊤)
 did_behind w a b c {deeds = ds} d s = record { deeds = s.deeds ++ ds; does = does_then w a b c ds s.deeds d s.does; holds = λ tied. tt }
 
-pub no : false ≡ true → ⊥
-no e = cc
-
 pub vacuous : {T E : Type 0} (P : Type 0) (r : Result T E) → IsErr r → OnOk r P
 vacuous P (Ok x) h = absurd (no h)
 vacuous P (Err e) h = tt
@@ -134,6 +189,24 @@ did_fail_if w a b R r err f = did_same w a b f (λ deeds p. vacuous_if (R deeds)
 pub on_ok_map : {T E P Q : Type 0} (r : Result T E) → (P → Q) → OnOk r P → OnOk r Q
 on_ok_map (Ok x) h p = h p
 on_ok_map (Err e) h p = tt
+
+way_still : (x : Bool) (k key : ℕ) (driven : Driven) → owes x k (ways driven ++ (Drove key driven ∷ [])) ≡ owes x k (Drove key driven ∷ [])
+way_still x k key Waiting = refl
+way_still x k key CutShort = refl
+way_still x k key (Blocked other) = refl
+way_still x k key Over = refl
+
+way_within : (key : ℕ) (driven : Driven) → ends (ways driven ++ (Drove key driven ∷ [])) ≡ false
+way_within key Waiting = refl
+way_within key CutShort = refl
+way_within key (Blocked other) = refl
+way_within key Over = refl
+
+way_orderly : (key : ℕ) (driven : Driven) → AreOrderly (ways driven ++ (Drove key driven ∷ []))
+way_orderly key Waiting = (tt, tt)
+way_orderly key CutShort = (tt, tt)
+way_orderly key (Blocked other) = (refl, (tt, tt))
+way_orderly key Over = (tt, tt)
 
 -- an exchange was driven, and marked if there is more to do
 pub does_drive : {K : Type 0} (w : Work K) (a m b : EventLoop K) (key : ℕ) (driven : Driven)
@@ -157,20 +230,64 @@ does_drive w a m b key driven past there kept marked others marks reports = reco
             others k (λ same. apart.1 (sym same)) ∙ e
       ];
   marks = marks;
+  within = refl;
+  orderly = (tt, tt);
   reports = reports;
+}
+
+-- and one that blocks it gave way
+pub does_way : {K : Type 0} (w : Work K) (a b c : EventLoop K) (key : ℕ) (driven : Driven) → Does w a b (Drove key driven ∷ [])
+    → Works w b.work c.work (ways driven) → c.ready ≡ b.ready → c.reports ≡ b.reports → Does w a c (ways driven ++ (Drove key driven ∷ []))
+does_way w a b c key driven d works ready reports = record {
+  works = works_then w a.work b.work c.work (Drove key driven ∷ []) (ways driven) d.works works;
+  owed = λ tied k h. ap (λ r. is_marked r k) ready ∙ d.owed tied k (sym (way_still (is_marked a.ready k) k key driven) ∙ h);
+  marks = ap (λ r. count r) ready ∙ d.marks;
+  within = way_within key driven;
+  orderly = way_orderly key driven;
+  reports = reports ∙ d.reports;
 }
 
 -- a call of the work that changes no mark
 pub does_one : {K : Type 0} (w : Work K) (a b : EventLoop K) (deed : Deed) → Adds (w.past a.work) (w.past b.work) deed
-    → ((x : Bool) (key : ℕ) → owes_after x key deed ≡ x)
+    → ((x : Bool) (key : ℕ) → (owes_after x key deed ≡ x) × (is_end deed ≡ false) × Follows deed [])
     → (w.bound b.work ≡ w.bound a.work) × (w.queues b.work ≡ w.queues a.work)
     → b.ready ≡ a.ready → b.reports ≡ a.reports → Does w a b (deed ∷ [])
 does_one w a b deed past still kept ready reports = record {
   works = works_one w a.work b.work deed past kept;
-  owed = λ tied key h. ap (λ r. is_marked r key) ready ∙ (sym (still (is_marked a.ready key) key) ∙ h);
+  owed = λ tied key h. ap (λ r. is_marked r key) ready ∙ (sym (still (is_marked a.ready key) key).0 ∙ h);
   marks = ap (λ r. count r) ready;
+  within = ends_one deed (still false 0).1;
+  orderly = ((still false 0).2, tt);
   reports = reports;
 }
+
+-- an event was noted, and the exchange for which it is news was marked
+pub did_mark : {K : Type 0} (w : Work K) (a b : EventLoop K) (deed : Deed) (key : ℕ) → Adds (w.past a.work) (w.past b.work) deed
+    → ((x : Bool) (k : ℕ) → (owes_after x k deed ≡ x) × (is_end deed ≡ false) × Follows deed [])
+    → (w.bound b.work ≡ w.bound a.work) × (w.queues b.work ≡ w.queues a.work)
+    → key < w.bound a.work → (key < count a.ready → is_marked b.ready key ≡ true)
+    → ((other : ℕ) → (other ≡ key → ⊥) → is_marked b.ready other ≡ is_marked a.ready other)
+    → count b.ready ≡ count a.ready → b.reports ≡ a.reports
+    → {P : List Deed → Type 0} → (IsDue key deed (deed ∷ []) b.ready → P (deed ∷ [])) → Did w a b P
+did_mark w a b deed key past still kept there marked others marks reports due =
+    let now : IsTied w a → is_marked b.ready key ≡ true = λ tied. let less : key < count a.ready = omega arith in marked less in
+    record {
+      deeds = deed ∷ [];
+      does = record {
+        works = works_one w a.work b.work deed past kept;
+        owed = λ tied k h.
+            let was : is_marked a.ready k ≡ true = sym (still (is_marked a.ready k) k).0 ∙ h in
+            elim (eqb_tells key k) as (λ _. is_marked b.ready k ≡ true) [
+              | inl same ↦ subst (λ (n : ℕ). is_marked b.ready n ≡ true) same.1 (now tied)
+              | inr apart ↦ others k (λ same. apart.1 (sym same)) ∙ was
+            ];
+        marks = marks;
+        within = ends_one deed (still false 0).1;
+        orderly = ((still false 0).2, tt);
+        reports = reports;
+      };
+      holds = λ tied. due (record { later = []; before = []; is = refl; gets = inr (now tied) });
+    }
 
 -- answers to the administrator change no mark
 pub did_answer : {K : Type 0} (w : Work K) (a b : EventLoop K) → Answers w a.work b.work → b.ready ≡ a.ready → b.reports ≡ a.reports → Did w a b (λ _. ⊤)
@@ -180,6 +297,8 @@ did_answer w a b h ready reports = record {
     works = h.works;
     owed = λ tied key e. ap (λ r. is_marked r key) ready ∙ (sym (h.idle (is_marked a.ready key) key) ∙ e);
     marks = ap (λ r. count r) ready;
+    within = h.within;
+    orderly = h.orderly;
     reports = reports;
   };
   holds = λ tied. tt;
@@ -190,18 +309,26 @@ owes_append x key first [] = refl
 owes_append x key first (deed ∷ second) = ap (λ (b : Bool). owes_after b key deed) (owes_append x key first second)
 
 pub answers_none : {K : Type 0} (w : Work K) (a : K) → Answers w a a
-answers_none w a = record { deeds = []; works = works_same w a a refl; idle = λ x key. refl }
+answers_none w a = record { deeds = []; works = works_same w a a refl; idle = λ x key. refl; within = refl; orderly = tt }
 
 pub answers_then : {K : Type 0} (w : Work K) (a b c : K) → Answers w a b → Answers w b c → Answers w a c
 answers_then w a b c f s = record {
   deeds = s.deeds ++ f.deeds;
   works = works_then w a b c f.deeds s.deeds f.works s.works;
   idle = λ x key. owes_append x key f.deeds s.deeds ∙ (ap (λ (b : Bool). owes b key s.deeds) (f.idle x key) ∙ s.idle x key);
+  within = ends_then f.deeds s.deeds f.within s.within;
+  orderly = orderly_more s.deeds f.deeds s.within s.orderly f.orderly;
 }
 
-pub answers_one : {K : Type 0} (w : Work K) (a b : K) (deed : Deed) → Adds (w.past a) (w.past b) deed → ((x : Bool) (key : ℕ) → owes_after x key deed ≡ x)
+pub answers_one : {K : Type 0} (w : Work K) (a b : K) (deed : Deed) → Adds (w.past a) (w.past b) deed → ((x : Bool) (key : ℕ) → (owes_after x key deed ≡ x) × (is_end deed ≡ false) × Follows deed [])
     → (w.bound b ≡ w.bound a) × (w.queues b ≡ w.queues a) → Answers w a b
-answers_one w a b deed past still kept = record { deeds = deed ∷ []; works = works_one w a b deed past kept; idle = still }
+answers_one w a b deed past still kept = record {
+  deeds = deed ∷ [];
+  works = works_one w a b deed past kept;
+  idle = λ x key. (still x key).0;
+  within = ends_one deed (still false 0).1;
+  orderly = ((still false 0).2, tt);
+}
 
 -- deeds that stand among some stand among more
 pub stands_more : {deed : Deed} {deeds : List Deed} (more : List Deed) → Stands deed deeds → Stands deed (more ++ deeds)
@@ -244,7 +371,7 @@ owed_step x key (Drove other driven) deeds (inr e) =
     ]
 owed_step x key (TookIn number admitted) deeds (inr e) = inr e
 owed_step x key (MadeRoom there) deeds (inr e) = inr e
-owed_step x key (Noted other peer told news) deeds (inr e) = inr e
+owed_step x key (Noted number peer told news) deeds (inr e) = inr e
 owed_step x key (GaveWay other) deeds (inr e) = inr e
 owed_step x key (Asked queue first) deeds (inr e) = inr e
 owed_step x key (Answered request) deeds (inr e) = inr e
@@ -357,6 +484,8 @@ did_taken {K} w a m b key work reports marks others d =
             (owes_last (is_marked a.ready k) (is_marked m.ready k) key k one.driven (ways one.driven) (others k)) in
             d.does.owed (tie tied) k (sym e ∙ h);
         marks = d.does.marks ∙ marks;
+        within = d.does.within;
+        orderly = d.does.orderly;
         reports = d.does.reports ∙ reports;
       };
       holds = λ tied. d.holds (tie tied);
@@ -412,6 +541,8 @@ ready_over w a b c n did all work marked reports =
       works = works_same w b.work c.work work;
       owed = λ tied key h. ap (λ m. slice_index_or m.items key false) marked ∙ h;
       marks = ap (λ m. length m.items) marked;
+      within = refl;
+      orderly = tt;
       reports = reports;
     } in
     record {

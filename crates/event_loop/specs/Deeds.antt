@@ -1,5 +1,5 @@
 -- What a loop has its work do.
-use Rattle.std.specs.Prelude.{ℕ, Bool, true, false, List, ◌∷◌, Option}
+use Rattle.std.specs.Prelude.{ℕ, Bool, true, false, List, ◌∷◌, Option, Some, None}
 use Rattle.socket_wire.specs.declared.token.Peer.{Peer}
 use Rattle.loop_parts.specs.declared.admin_lines.Request.{Request}
 use Rattle.event_loop.specs.declared.work.Told.{Told}
@@ -13,8 +13,8 @@ pub data Deed : Type 0 where
   TookIn : ℕ → Admitted → Deed
   -- it was asked for room for a user, and there is some or not
   MadeRoom : Bool → Deed
-  -- an event of this peer of the exchange under this key was noted, and was news or not
-  Noted : ℕ → Peer → Told → Bool → Deed
+  -- an event of the connection under this number and peer was noted, and is news for the exchange under a key, or for none
+  Noted : ℕ → Peer → Told → Option ℕ → Deed
   -- the exchange under this key was driven so far
   Drove : ℕ → Driven → Deed
   -- the exchange under this key was ended, since another one wants what it has
@@ -40,3 +40,13 @@ has_more CutShort = true
 has_more (Blocked other) = true
 has_more Waiting = false
 has_more Over = false
+
+-- a turn ends with this deed
+abbrev pub is_end : Deed → Bool
+is_end EndedTurn = true
+is_end _ = false
+
+-- the key of the exchange that blocks the one which was driven by the newest deed, if that is what it says
+abbrev pub blocker : List Deed → Option ℕ
+blocker (Drove key (Blocked other) ∷ deeds) = Some other
+blocker _ = None

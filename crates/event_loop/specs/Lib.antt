@@ -3,3 +3,4 @@ pub mod Mail
 pub mod Reports
 pub mod Sendings
 pub mod Turns
+pub mod Admission

@@ -1,5 +1,5 @@
 -- What a loop did in a call: its deeds, and whom it owes another turn.
-use Rattle.std.specs.Prelude.{◌≡◌, ℕ, ◌+◌, ◌*◌, ◌≤◌, ◌<◌, ◌⊎◌, Bool, true, false, cond, nat_eq, List, [], ◌∷◌, ◌++◌, All, map, ◌/◌, Some, None}
+use Rattle.std.specs.Prelude.{◌≡◌, ℕ, ◌+◌, ◌*◌, ◌≤◌, ◌<◌, ◌⊎◌, ◌||◌, ⊤, Bool, true, false, cond, nat_eq, List, [], ◌∷◌, ◌++◌, All, map, ◌/◌, Option, Some, None}
 use Rattle.mio.specs.Events.{items}
 use Rattle.socket_wire.specs.declared.token.Peer.{Peer}
 use Rattle.socket_wire.specs.Token.{peer_number}
@@ -14,7 +14,7 @@ use Rattle.event_loop.specs.declared.event.Event.{Event}
 use Rattle.event_loop.specs.declared.looping.EventLoop.{EventLoop}
 use Rattle.event_loop.specs.declared.looping.TheConstants.{WAKER, SECOND}
 use Rattle.event_loop.specs.Reports.{words_of}
-use Rattle.event_loop.specs.Deeds.{Deed, has_more}
+use Rattle.event_loop.specs.Deeds.{Deed, has_more, is_end, blocker}
 use Rattle.event_loop.specs.Deeds.Deed.{TookIn, MadeRoom, Noted, Drove, GaveWay, Asked, Answered, EndedTurn, Drained, Halted}
 
 -- whether the exchange under this key is owed a turn after the deed: if it was driven, by how far, else as before
@@ -22,7 +22,7 @@ abbrev pub owes_after : Bool → ℕ → Deed → Bool
 owes_after before key (Drove other driven) = cond (nat_eq other key) (has_more driven) before
 owes_after before key (TookIn number admitted) = before
 owes_after before key (MadeRoom there) = before
-owes_after before key (Noted other peer told news) = before
+owes_after before key (Noted number peer told news) = before
 owes_after before key (GaveWay other) = before
 owes_after before key (Asked queue first) = before
 owes_after before key (Answered request) = before
@@ -35,6 +35,33 @@ abbrev pub owes : Bool → ℕ → List Deed → Bool
 owes before key [] = before
 owes before key (deed ∷ deeds) = owes_after (owes before key deeds) key deed
 
+-- a turn ended among these deeds
+abbrev pub ends : List Deed → Bool
+ends [] = false
+ends (deed ∷ deeds) = is_end deed || ends deeds
+
+-- the exchange under this key is driven by this deed
+abbrev pub drives : ℕ → Deed → Bool
+drives key (Drove other driven) = nat_eq other key
+drives key _ = false
+
+-- the exchange under this key was owed a turn where the last turn ended, and has not been driven since
+abbrev pub waits : ℕ → List Deed → Bool
+waits key [] = false
+waits key (deed ∷ deeds) = cond (is_end deed) (owes false key deeds) (cond (drives key deed) false (waits key deeds))
+
+-- a deed may be done after those: a turn ends once each exchange was driven that was owed one where the turn before it ended, and an exchange
+-- gives way only to one that was driven just now, and is blocked by it
+abbrev pub Follows : Deed → List Deed → Type 0
+Follows EndedTurn deeds = (key : ℕ) → waits key deeds ≡ false
+Follows (GaveWay other) deeds = blocker deeds ≡ Some other
+Follows _ deeds = ⊤
+
+-- so for each of these deeds
+abbrev pub AreOrderly : List Deed → Type 0
+AreOrderly [] = ⊤
+AreOrderly (deed ∷ deeds) = Follows deed deeds × AreOrderly deeds
+
 -- there is a mark for each key
 abbrev pub IsTied : {K : Type 0} → Work K → EventLoop K → Type 0
 IsTied w loop = w.bound loop.work ≤ count loop.ready
@@ -45,11 +72,28 @@ pub record Works {K : Type 0} (w : Work K) (old new : K) (deeds : List Deed) : T
   pub bound : w.bound new ≡ w.bound old
   pub queues : w.queues new ≡ w.queues old
 
--- a loop had its work do these deeds, and marked whom it owes another turn
+-- a work did deeds, with none of which a turn ends
+pub record WorksOn {K : Type 0} (w : Work K) (old new : K) : Type 0 where
+  pub deeds : List Deed
+  pub works : Works w old new deeds
+  pub within : ends deeds ≡ false
+  pub orderly : AreOrderly deeds
+
+-- a loop ran over a work, which did deeds of which this holds, each where it may be done
+pub record Ran {K : Type 0} (w : Work K) (old new : K) (Holds : List Deed → Type 0) : Type 0 where
+  pub deeds : List Deed
+  pub works : Works w old new deeds
+  pub orderly : AreOrderly deeds
+  pub holds : Holds deeds
+
+-- within a turn, a loop had its work do these deeds, and marked whom it owes another turn
 pub record Does {K : Type 0} (w : Work K) (old new : EventLoop K) (deeds : List Deed) : Type 0 where
   pub works : Works w old.work new.work deeds
   pub owed : IsTied w old → (key : ℕ) → owes (is_marked old.ready key) key deeds ≡ true → is_marked new.ready key ≡ true
   pub marks : count new.ready ≡ count old.ready
+  -- no turn ended
+  pub within : ends deeds ≡ false
+  pub orderly : AreOrderly deeds
   -- it didn't poll
   pub reports : new.reports ≡ old.reports
 
@@ -64,6 +108,8 @@ pub record Answers {K : Type 0} (w : Work K) (old new : K) : Type 0 where
   pub deeds : List Deed
   pub works : Works w old new deeds
   pub idle : (before : Bool) (key : ℕ) → owes before key deeds ≡ before
+  pub within : ends deeds ≡ false
+  pub orderly : AreOrderly deeds
 
 -- this deed stands among those
 pub record Stands (deed : Deed) (deeds : List Deed) : Type 0 where
@@ -98,10 +144,33 @@ pub record IsDue (key : ℕ) (deed : Deed) (deeds : List Deed) (ready : ReadyLis
   pub is : deeds ≡ later ++ (deed ∷ before)
   pub gets : Gets key later ready
 
--- the event was noted, if it is of an exchange, which gets a turn after that, if it was news
+-- the event was noted, if it is of a connection, and the exchange for which it was news gets a turn after that
 abbrev pub IsServed : Event → List Deed → ReadyList → Type 0
-IsServed event deeds ready = (key : ℕ) (peer : Peer) → event.token ≡ 4 * key + peer_number peer
-    → Stands (Noted key peer event.told false) deeds ⊎ IsDue key (Noted key peer event.told true) deeds ready
+IsServed event deeds ready = (number : ℕ) (peer : Peer) → event.token ≡ 4 * number + peer_number peer
+    → Stands (Noted number peer event.told None) deeds ⊎ ((key : ℕ) × IsDue key (Noted number peer event.told (Some key)) deeds ready)
+
+-- this deed notes an event
+abbrev pub IsNote : Deed → Type 0
+IsNote (Noted number peer told news) = ⊤
+IsNote _ = ⊥
+
+-- so does each of these
+abbrev pub AreNotes : List Deed → Type 0
+AreNotes [] = ⊤
+AreNotes (deed ∷ deeds) = IsNote deed × AreNotes deeds
+
+-- the event was noted, if it is of a connection
+abbrev pub IsNoted : Event → List Deed → Type 0
+IsNoted event deeds = (number : ℕ) (peer : Peer) → event.token ≡ 4 * number + peer_number peer
+    → (news : Option ℕ) × Stands (Noted number peer event.told news) deeds
+
+-- the events were noted before anything else was done
+pub record NotesFirst (events : List Event) (deeds : List Deed) : Type 0 where
+  pub later : List Deed
+  pub notes : List Deed
+  pub is : deeds ≡ later ++ notes
+  pub only : AreNotes notes
+  pub each : All (λ event. IsNoted event notes) events
 
 -- the queue was asked, and the exchange that is first in it gets a turn after that, if it is of this loop
 abbrev pub IsAsked : ℕ → List Deed → ReadyList → Type 0
@@ -126,6 +195,8 @@ IsWoken events = All (λ event. event.token ≡ WAKER.0 → ⊥) events → ⊥
 pub record Serves {K : Type 0} (w : Work K) (old new : EventLoop K) (events : List Event) (deeds : List Deed) : Type 0 where
   -- each exchange that was owed a turn is driven
   pub ready : (key : ℕ) → is_marked old.ready key ≡ true → IsDriven key deeds
+  -- all events are noted before anybody is driven
+  pub first : NotesFirst events deeds
   -- each event is served
   pub served : All (λ event. IsServed event deeds new.ready) events
   -- where one of them says that the loop was woken, each queue is asked

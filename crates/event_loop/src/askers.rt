@@ -136,7 +136,7 @@ impl Askers {
     pub(crate) fn accept(&mut self, alloc: Global, registry: &Registry) {
         for _ in 0..MAX_ASKERS {
             match self.next() {
-                Accepted::One(stream) => self.take_in(alloc, stream, registry),
+                Accepted::One(stream, _) => self.take_in(alloc, stream, registry),
                 Accepted::Gone => {}
                 Accepted::None | Accepted::Rest => return,
             }

@@ -1,8 +1,10 @@
 //! What other threads hand to an event loop: users' connections, that room is wanted, and the words to refresh, to drain and to stop.
 
+ghost use Rattle.std.specs.Prelude.{◌≡◌, ◌↔◌, ◌<◌, ◌+◌, ◌*◌, true};
+
 use loop_parts::UserPermit;
-use mio::Waker;
 use mio::net::TcpStream;
+use mio::{Registry, Waker};
 use std::alloc::{AllocError, Global};
 use std::mem;
 use std::sync::atomic::{AtomicBool, Ordering};
@@ -21,18 +23,22 @@ pub struct Handed {
 
 impl Handed {
     /// Whether a loop that wasn't asked yet may have a seat for it, or an idle user to spare, beside the one that has it now.
-    pub fn is_first_round(&self) -> bool {
+    pub fn is_first_round(&self) -> bool
+        ensures { result ≡ true ↔ self.now.tried + 1 < self.now.loops }
+    {
         self.tried.saturating_add(1) < self.loops
     }
 
     /// Whether another loop is to be asked after the one that has it now. The last one of the first round is the first of the second, in
     /// which the others are asked again.
-    pub fn may_go_on(&self) -> bool {
-        self.tried.saturating_add(2) < self.loops.saturating_mul(2)
+    pub fn may_go_on(&self) -> bool
+        ensures { result ≡ true ↔ self.now.tried + 2 < 2 * self.now.loops }
+    {
+        self.tried / 2 + 1 < self.loops
     }
 }
 
-/// What was handed in and not yet taken, what the loop is to do, whether it has begun, and what ends its wait.
+/// What was handed in and not yet taken, what the loop is to do, whether it has begun, what ends its wait, and the registry of its poll.
 #[derive(Drop)]
 pub struct Inbox {
     users: Mutex<Vec<Handed>>,
@@ -42,11 +48,12 @@ pub struct Inbox {
     refreshes: AtomicBool,
     begun: AtomicBool,
     waker: Waker,
+    registry: Registry,
 }
 
 impl Inbox {
-    /// An empty one, of the loop that this waker wakes.
-    pub fn new(alloc: Global, waker: Waker) -> Inbox {
+    /// An empty one, of the loop that this waker wakes, and over whose poll this registry is.
+    pub fn new(alloc: Global, waker: Waker, registry: Registry) -> Inbox {
         Inbox {
             users: Mutex::new(Vec::new(alloc)),
             drains: AtomicBool::new(false),
@@ -55,7 +62,13 @@ impl Inbox {
             refreshes: AtomicBool::new(false),
             begun: AtomicBool::new(false),
             waker,
+            registry,
         }
+    }
+
+    /// The registry of the loop's poll: by it any thread may take a connection out of that poll.
+    pub fn registry(&self) -> &Registry {
+        &self.registry
     }
 
     /// Lays a user in, and says whether it is alone there. `Err` where no memory was found for it: then its connection is closed.

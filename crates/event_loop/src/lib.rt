@@ -4,6 +4,7 @@
 //! [`Work`], of which it knows no more than that: exchanges found by a key.
 #![tactic(auto)]
 
+mod admission;
 mod askers;
 mod binding;
 mod ended;
@@ -16,6 +17,7 @@ mod reports;
 mod threads;
 mod work;
 
+pub use admission::Admission;
 pub use binding::listen_beside;
 pub use ended::{Ended, LoopFault};
 pub use inbox::{Handed, Inbox, stop_all};

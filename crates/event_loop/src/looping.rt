@@ -1,9 +1,10 @@
 //! A loop: its poll, its events, and whom it drives.
 
-ghost use Rattle.std.specs.Prelude.{◌≡◌, ◌<◌, [], ℕ, true, false, length, IfOk, OnOk, IsSomeAnd, ⊤};
+ghost use Rattle.std.specs.Prelude.{◌≡◌, ◌<◌, [], ◌∷◌, ℕ, true, false, length, IfOk, OnOk, IfErr, IsSomeAnd, ⊤};
 ghost use Rattle.std.specs.Duration.{as_nanos};
 ghost use Rattle.loop_parts.specs.Marks.{is_marked};
-ghost use Rattle.event_loop.specs.Turns.{Does, Did, Gets, IsTied, ServesRound, polled, second};
+ghost use Rattle.event_loop.specs.Deeds.Deed.{EndedTurn, Halted};
+ghost use Rattle.event_loop.specs.Turns.{Works, Does, Did, Ran, Stands, Gets, IsTied, ServesRound, polled, second};
 
 mod draining;
 mod driving;
@@ -74,7 +75,9 @@ impl<K: Work> EventLoop<K> {
         start: Instant,
         work: K,
     ) -> Result<EventLoop<K>, K>
-        ensures { IfOk result (λ loop. IsTied K.Work loop) }
+        ensures tied { IfOk result (λ loop. IsTied K.Work loop) }
+        ensures work { IfOk result (λ loop. loop.work ≡ work) }
+        ensures back { IfErr result (λ back. back ≡ work) }
     {
         let Ok(reports) = Reports::new(alloc) else {
             return Err(work);
@@ -98,8 +101,25 @@ impl<K: Work> EventLoop<K> {
         })
     }
 
+    /// Its work gets to know whether the poll reported all that there was to report.
+    fn hear_poll(&mut self)
+        ensures { Does K.Work self.old self.new [] }
+    {
+        self.work.heard(self.reports.is_whole());
+    }
+
+    /// A turn begins: its poll has reported, and the clock is read.
+    fn begin_turn<R: Clock>(&mut self, rt: &R) -> io::Result<()>
+        ensures { Does K.Work self.old self.new [] }
+    {
+        self.hear_poll();
+        self.read_clock(rt)
+    }
+
     /// What it drove. All else goes.
-    pub fn into_work(self) -> K {
+    pub fn into_work(self) -> K
+        ensures { result ≡ self.work }
+    {
         let EventLoop {
             poll: _,
             reports: _,
@@ -193,6 +213,7 @@ impl<K: Work> EventLoop<K> {
         inboxes: &[Inbox],
     ) -> Option<LoopFault>
         requires { number < length inboxes.now }
+        ensures { IsTied K.Work self.old → Ran K.Work self.old.work self.new.work (Stands Halted) }
     {
         let fault = match self.run(rt, alloc, number, inboxes) {
             Ok(()) => None,
@@ -217,14 +238,25 @@ impl<K: Work> EventLoop<K> {
         inboxes: &[Inbox],
     ) -> io::Result<()>
         requires { number < length inboxes.now }
+        ensures { IsTied K.Work self.old → Ran K.Work self.old.work self.new.work (λ deeds. ⊤) }
     {
         begin(number, inboxes);
         for _ in rt.forever() {
             if self.round(rt, alloc, number, inboxes)? {
                 return Ok(());
             }
+            self.end_turn(rt);
         }
         unreachable!()
+    }
+
+    /// A turn is over.
+    fn end_turn<R: Wait>(&mut self, rt: &R)
+        ensures works { Works K.Work self.old.work self.new.work (EndedTurn ∷ []) }
+        ensures ready { self.new.ready ≡ self.old.ready }
+    {
+        let now = self.now();
+        self.work.turn_over(rt, now);
     }
 
     /// Waits for events and serves a turn; all exchanges are driven once a second begins. True if the loop has to stop.
@@ -236,18 +268,18 @@ impl<K: Work> EventLoop<K> {
         inboxes: &[Inbox],
     ) -> io::Result<bool>
         requires { number < length inboxes.now }
-        ensures { IfOk result (λ stops. stops ≡ false
+        ensures serves { IfOk result (λ stops. stops ≡ false
             → Did K.Work (polled self.old self.new) self.new (ServesRound K.Work self.old self.new)) }
+        ensures any { Did K.Work (polled self.old self.new) self.new (λ deeds. ⊤) }
     {
         let patience = self.patience();
         self.reports.wait(&mut self.poll, patience)?;
         let before = self.now();
-        self.read_clock(rt)?;
+        self.begin_turn(rt)?;
         if inboxes[number].is_stopping() {
             return Ok(true);
         }
         self.wait_for_all(inboxes)?;
-        self.drain_if_asked(rt, number, inboxes)?;
         self.turn(rt, alloc, number, inboxes)?;
         self.drive_late(rt, before)?;
         Ok(false)

@@ -4,10 +4,14 @@
 ghost use Rattle.std.specs.Prelude.{◌≡◌, ◌<◌, ◌+◌, ◌-◌, ◌%◌, ◌^◌, [], Bool, false, Some, cond, min, nat_eq, nat_lt};
 ghost use Rattle.event_loop.specs.Mail.{Sends, HandsOut, asks, hands, is_own};
 
+use crate::admission::{Admission, ip_of, judged};
 use crate::inbox::Handed;
 use crate::mail::Mail;
-use loop_parts::{Accepted, Listening, Room};
+use loop_parts::{Accepted, Addresses, Listening, Room};
 use mio::net::TcpStream;
+use proxy_config::Network;
+use std::alloc::Global;
+use std::net::SocketAddr;
 use std::sync::{Arc, Wait};
 use std::time::Duration;
 
@@ -28,8 +32,11 @@ pub struct Ports {
     room: Arc<Room>,
     /// How many loops take users: the first ones.
     loops: usize,
+    /// The networks that users may come from; none where they may come from everywhere.
+    networks: Option<Vec<Network>>,
+    addresses: Addresses,
     /// A user for whom there is no room yet.
-    waiting: Option<TcpStream>,
+    waiting: Option<(TcpStream, SocketAddr)>,
     /// How many users were handed out.
     accepted: u64,
     /// How often a loop was asked to make room.
@@ -93,11 +100,19 @@ enum Turn {
 
 impl Ports {
     /// The port before the first user, with room for users; the first `loops` loops take them.
-    pub fn new(users: Listening, room: Arc<Room>, loops: usize) -> Ports {
+    pub fn new(
+        alloc: Global,
+        users: Listening,
+        room: Arc<Room>,
+        loops: usize,
+        admission: Admission,
+    ) -> Ports {
         Ports {
             users: Some(users),
             room,
             loops,
+            networks: admission.networks,
+            addresses: Addresses::new(alloc, admission.most),
             waiting: None,
             accepted: 0,
             asked: 0,
@@ -133,17 +148,18 @@ impl Ports {
         self.users.is_none() && self.waiting.is_none() && self.room.is_empty()
     }
 
-    /// The user who waits for room, or the next one.
+    /// The user who waits for room, or the next one. One that comes from elsewhere than users may is closed.
     fn next(&mut self) -> Accepted
         ensures { (self.new.accepted ≡ self.old.accepted) × (self.new.loops ≡ self.old.loops) }
     {
-        match self.waiting.take() {
-            Some(stream) => Accepted::One(stream),
-            None => match &mut self.users {
-                Some(users) => users.accept(),
-                None => Accepted::None,
-            },
+        if let Some((stream, from)) = self.waiting.take() {
+            return Accepted::One(stream, from);
         }
+        let next = match &mut self.users {
+            Some(users) => users.accept(),
+            None => Accepted::None,
+        };
+        judged(&self.networks, &self.room, next)
     }
 
     /// Accepts users while there is room for them, and hands them out in rotation. One for whom no memory is found is closed. Says
@@ -155,7 +171,7 @@ impl Ports {
         let mut came = false;
         for _ in 0..ACCEPTS {
             match self.next() {
-                Accepted::One(stream) => match self.hand(rt, own, mail, stream) {
+                Accepted::One(stream, from) => match self.hand(rt, own, mail, stream, from) {
                     Turn::Own => came = true,
                     Turn::Other => {}
                     Turn::Waits => return came,
@@ -196,17 +212,20 @@ impl Ports {
         own: usize,
         mail: &mut M,
         stream: TcpStream,
+        from: SocketAddr,
     ) -> Turn
         ensures out { HandsOut M.Mail mail.old mail.new own self.old.loops self.old.accepted self.new.accepted (is_own result) }
         ensures counted { (result ≡ Turn.Waits → ⊥) → self.new.accepted ≡ min (self.old.accepted + 1) (2 ^ 64 - 1) }
-        ensures waits { result ≡ Turn.Waits → (self.new.waiting ≡ Some stream) × (self.new.accepted ≡ self.old.accepted) }
+        ensures waits { result ≡ Turn.Waits → (self.new.waiting ≡ Some (stream, from)) × (self.new.accepted ≡ self.old.accepted) }
         ensures loops { self.new.loops ≡ self.old.loops }
     {
         let Some(permit) = Room::enter(&self.room) else {
-            self.waiting = Some(stream);
+            self.waiting = Some((stream, from));
             self.ask_for_room(own, mail);
             return Turn::Waits;
         };
+        let mut permit = permit;
+        permit.have(self.addresses.enter(ip_of(from)));
         self.accepted = self.accepted.saturating_add(1);
         let number = self.accepted;
         let user = Handed {

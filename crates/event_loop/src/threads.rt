@@ -1,5 +1,10 @@
 //! What a loop is made on, and its run in a thread.
 
+ghost use Rattle.std.specs.Prelude.{◌≡◌, None, IfOk};
+ghost use Rattle.event_loop.specs.Deeds.Deed.{Halted};
+ghost use Rattle.event_loop.specs.Turns.{Ran, Stands};
+
+use crate::admission::Admission;
 use crate::askers::Askers;
 use crate::ended::{Ended, LoopFault};
 use crate::inbox::{Inbox, stop_all};
@@ -22,7 +27,8 @@ use std::time::{Clock, Instant};
 /// ```
 /// let mut inboxes = Vec::new(alloc);
 /// let room = Arc::new(alloc, Room::new(100, 16))?;
-/// let users = Entrance { listener, room, loops: 1 };
+/// let admission = Admission { networks: None, most: 0 };
+/// let users = Entrance { listener, room, loops: 1, admission };
 /// let ports = AdminPorts { admin, metrics: None };
 /// let base = add_loop(rt, alloc, Some(users), Some(ports), &mut inboxes)?;
 /// // It runs until the administrator says `stop`, or another thread does by `inboxes[0].stop()`.
@@ -37,12 +43,13 @@ pub struct Base {
     metrics: Option<Listening>,
 }
 
-/// Where users connect, for how many there is room, and how many loops take them: the first ones.
+/// Where users connect, for how many there is room, how many loops take them, which are the first ones, and which users are served.
 #[derive(Drop)]
 pub struct Entrance {
     pub listener: TcpListener,
     pub room: Arc<Room>,
     pub loops: usize,
+    pub admission: Admission,
 }
 
 /// Where the administrator connects, and, if that is wanted, those who read the counters over HTTP.
@@ -79,11 +86,14 @@ pub fn add_loop<R: Net>(
                 listener,
                 room,
                 loops,
+                admission,
             },
         ) => Some(Ports::new(
+            alloc,
             Listening::new(listener, poll.registry(), LISTENER)?,
             room,
             loops,
+            admission,
         )),
         None => None,
     };
@@ -93,7 +103,9 @@ pub fn add_loop<R: Net>(
     };
     let admin = listening_on(admin, &poll, ADMIN)?;
     let metrics = listening_on(metrics, &poll, METRICS)?;
-    inboxes.push(Inbox::new(alloc, Waker::new(poll.registry(), WAKER)?))?;
+    let waker = Waker::new(poll.registry(), WAKER)?;
+    let registry = poll.registry().try_clone()?;
+    inboxes.push(Inbox::new(alloc, waker, registry))?;
     Ok(Base {
         poll,
         ports,
@@ -118,6 +130,9 @@ pub fn name_thread(number: usize) {
 
 /// Runs a loop on this base over this work, in its caller's thread, until it has to stop or fails. A loop that fails, or
 /// for which no memory is found, has all others stop, and its own exchanges end as at a stop. The work comes back.
+///
+/// An exchange that is owed a turn where one turn of the loop ends is driven before the next one does. Where no fault is answered, all
+/// exchanges were ended.
 pub fn run_loop<K: Work, R: Wait + Dial + Clock>(
     rt: &R,
     alloc: Global,
@@ -125,7 +140,9 @@ pub fn run_loop<K: Work, R: Wait + Dial + Clock>(
     base: Base,
     work: K,
     inboxes: &[Inbox],
-) -> Ended<K> {
+) -> Ended<K>
+    ensures { Ran K.Work work result.work (λ deeds. result.fault ≡ None → Stands Halted deeds) }
+{
     let Ok(start) = Instant::now(rt) else {
         stop_all(inboxes);
         return Ended {

@@ -1,6 +1,6 @@
 //! What an event loop drives.
 
-ghost use Rattle.std.specs.Prelude.{◌≡◌, ℕ, ◌<◌, List, true};
+ghost use Rattle.std.specs.Prelude.{◌≡◌, ℕ, ◌<◌, List, true, IfSome};
 ghost use Rattle.event_loop.specs.declared.inbox.Handed.{Handed as AnyHanded};
 ghost use Rattle.event_loop.specs.Deeds.{Deed, Adds, has_more};
 ghost use Rattle.event_loop.specs.Deeds.Deed.{TookIn, MadeRoom, Noted, Drove, GaveWay, Asked, Answered, EndedTurn, Drained, Halted};
@@ -104,9 +104,17 @@ pub trait Work {
         ensures past { Adds (past self.old) (past self.new) (MadeRoom result) }
         ensures kept { (bound self.new ≡ bound self.old) × (queues self.new ≡ queues self.old) };
 
-    /// Takes note of an event of a connection. False if it says nothing new, so that the exchange needn't be driven.
-    fn note(&mut self, key: usize, peer: Peer, told: Told) -> bool
-        ensures past { Adds (past self.old) (past self.new) (Noted key peer told result) }
+    /// The poll of this turn reported all that there was to report, or only as much as it had room for.
+    fn heard(&mut self, is_whole: bool)
+        ensures past { (deeds : List Deed) → past self.old deeds → past self.new deeds }
+        ensures still { (k : ℕ) → part self.new k ≡ part self.old k }
+        ensures kept { (bound self.new ≡ bound self.old) × (queues self.new ≡ queues self.old) };
+
+    /// Takes note of an event of the connection that is reported under this number and peer, and answers the key of the exchange for
+    /// which it is news. `None` where it says nothing new, or no exchange has that connection: then none needs to be driven.
+    fn note(&mut self, number: usize, peer: Peer, told: Told) -> Option<usize>
+        ensures past { Adds (past self.old) (past self.new) (Noted number peer told result) }
+        ensures there { IfSome result (λ key. key < bound self.old) }
         ensures still { (k : ℕ) → part self.new k ≡ part self.old k }
         ensures kept { (bound self.new ≡ bound self.old) × (queues self.new ≡ queues self.old) };
 
@@ -164,7 +172,7 @@ pub trait Work {
     fn patience(&self) -> Option<u64>;
 
     /// Is called at the end of each turn.
-    fn turn_over<R: Wait>(&mut self, rt: &R)
+    fn turn_over<R: Wait>(&mut self, rt: &R, now: u64)
         ensures past { Adds (past self.old) (past self.new) EndedTurn }
         ensures kept { (bound self.new ≡ bound self.old) × (queues self.new ≡ queues self.old) };
 

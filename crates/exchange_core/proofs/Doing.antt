@@ -2,7 +2,7 @@
 use Rattle.std.proofs.Common.{◌≡◌, ◌||◌, true, false, List, subst, arith}
 use Rattle.std.proofs.lemmas.Bool.Decides.{nat_tests}
 use Rattle.exchange_core.specs.declared.event.Event.{Event}
-use Rattle.exchange_core.specs.declared.event.Event.TheVariants.{HeadBegun, RequestRead, ResponseRead, Stale, Queued, Lent, Asked, Learned, Planned, Reserved, HalfTold, Stuck, Told, Dialed, Started, LetPass, Renewed, Served, Begun, Sent, Answered, Failed, Returned, Released, HungUp, Refused, UserClosed, UserLost, Dropped, Late, Drain, Stop, Tried}
+use Rattle.exchange_core.specs.declared.event.Event.TheVariants.{HeadBegun, RequestRead, ResponseRead, Stale, Queued, Lent, Asked, Learned, Planned, Reserved, HalfTold, Stuck, Told, Dialed, Started, LetPass, Renewed, Served, Begun, Sent, Heard, Withdrawn, Answered, Failed, Returned, Released, HungUp, Refused, UserClosed, UserLost, Dropped, Late, Drain, Stop, Tried}
 use Rattle.exchange_core.specs.declared.due.Due.{Due}
 use Rattle.exchange_core.specs.declared.due.Due.TheVariants.{Await, Start, Turn, ReadResponse}
 use Rattle.exchange_core.specs.declared.event.RefusalCause.{RefusalCause}
@@ -22,23 +22,25 @@ done_at c Queued s d f = grind (arith, nat_tests)
 done_at c (Lent reused) s d f = grind (arith, nat_tests)
 done_at c Asked s d f = grind (arith, nat_tests)
 done_at c (Learned usable) s d f = grind (arith, nat_tests)
-done_at c (Planned offered waits) s d f = grind (arith, nat_tests)
+done_at c (Planned offered waits repeatable) s d f = grind (arith, nat_tests)
 done_at c Reserved s d f = grind (arith, nat_tests)
 done_at c HalfTold s d f = grind (arith, nat_tests)
 done_at c Stuck s d f = grind (arith, nat_tests)
 done_at c Told s d f = grind (arith, nat_tests)
-done_at c Dialed s d f = grind (arith, nat_tests)
+done_at c (Dialed kept) s d f = grind (arith, nat_tests)
 done_at c Started s d f = grind (arith, nat_tests)
 done_at c LetPass s d f = grind (arith, nat_tests)
 done_at c Renewed s d f = grind (arith, nat_tests)
 done_at c (Served usable) s d f = grind (arith, nat_tests)
 done_at c Begun s d f = grind (arith, nat_tests)
 done_at c Sent s d f = grind (arith, nat_tests)
-done_at c (Answered keeps) s d f = grind (arith, nat_tests)
+done_at c Heard s d f = grind (arith, nat_tests)
+done_at c Withdrawn s d f = grind (arith, nat_tests)
+done_at c (Answered keeps lasts) s d f = grind (arith, nat_tests)
 done_at c (Failed why) s d f = grind (arith, nat_tests)
 done_at c (Returned kept) s d f = grind (arith, nat_tests)
 done_at c Released s d f = grind (arith, nat_tests)
-done_at c HungUp s d f = grind (arith, nat_tests)
+done_at c (HungUp kept) s d f = grind (arith, nat_tests)
 done_at c Refused s d f = grind (arith, nat_tests)
 done_at c UserClosed s d f = grind (arith, nat_tests)
 done_at c UserLost s d f = grind (arith, nat_tests)

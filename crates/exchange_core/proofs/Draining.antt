@@ -38,9 +38,9 @@ one b = grind (arith, nat_tests)
 pub one_more : (more events : List Event) → IsLegal (more ++ Drain ∷ events) → count is_request_read more ≤ 1
 one_more more events l = omega (arith, one_room more events l, one (may_ask_more (course_of (Drain ∷ events))))
 
-closes_at : (c : Course) (keeps : Bool) → c.closes ≡ true → (after c (Answered keeps)).phase ≡ Closing
-closes_at c keeps d = grind (arith, nat_tests)
+closes_at : (c : Course) (keeps lasts : Bool) → c.closes ≡ true → (after c (Answered keeps lasts)).phase ≡ Closing
+closes_at c keeps lasts d = grind (arith, nat_tests)
 
-pub closes : (events : List Event) (keeps : Bool) → IsLegal (Answered keeps ∷ events)
-    → is_last_answer events ≡ true → (course_of (Answered keeps ∷ events)).phase ≡ Closing
-closes events keeps l d = closes_at (course_of events) keeps (closes_stands events ∙ d)
+pub closes : (events : List Event) (keeps lasts : Bool) → IsLegal (Answered keeps lasts ∷ events)
+    → is_last_answer events ≡ true → (course_of (Answered keeps lasts ∷ events)).phase ≡ Closing
+closes events keeps lasts l d = closes_at (course_of events) keeps lasts (closes_stands events ∙ d)

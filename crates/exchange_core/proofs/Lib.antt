@@ -11,6 +11,9 @@ pub mod Ending
 pub mod Once
 pub mod Circles
 pub mod Moving
-pub mod Dialing
+pub mod Carrying
+pub mod Withdrawing
+pub mod Keeping
+pub mod Dials
 pub mod Draining
 pub mod Doing

@@ -5,11 +5,11 @@ use Rattle.trace_core.specs.declared.history.Point.TheVariants.{Reqmod, Respmod}
 use Rattle.exchange_core.specs.declared.event.RefusalCause.{RefusalCause}
 use Rattle.exchange_core.specs.declared.event.RefusalCause.TheVariants as causes
 use Rattle.exchange_core.specs.declared.event.Event.{Event}
-use Rattle.exchange_core.specs.declared.event.Event.TheVariants.{HeadBegun, RequestRead, ResponseRead, Stale, Queued, Lent, Asked, Learned, Planned, Reserved, HalfTold, Stuck, Told, Dialed, Started, LetPass, Renewed, Served, Begun, Sent, Answered, Failed, Returned, Released, HungUp, Refused, UserClosed, UserLost, Dropped, Late, Drain, Stop, Tried}
+use Rattle.exchange_core.specs.declared.event.Event.TheVariants.{HeadBegun, RequestRead, ResponseRead, Stale, Queued, Lent, Asked, Learned, Planned, Reserved, HalfTold, Stuck, Told, Dialed, Started, LetPass, Renewed, Served, Begun, Sent, Heard, Withdrawn, Answered, Failed, Returned, Released, HungUp, Refused, UserClosed, UserLost, Dropped, Late, Drain, Stop, Tried}
 use Rattle.exchange_core.specs.declared.connection.Connection.{Connection}
 use Rattle.exchange_core.specs.declared.connection.Connection.TheVariants.{Absent, Ready, InUse, Spent}
 use Rattle.exchange_core.specs.declared.phase.Phase.{Phase}
-use Rattle.exchange_core.specs.declared.phase.Phase.TheVariants.{Idle, Head, Planning, Asking, InQueue, Preparing, Telling, AtGate, Moving, Answer, Refusing, Closing, Gone}
+use Rattle.exchange_core.specs.declared.phase.Phase.TheVariants.{Idle, Head, Planning, Asking, InQueue, Preparing, Telling, AtGate, Moving, Answer, Withdrawing, Refusing, Closing, Gone}
 use Rattle.exchange_core.specs.declared.course.Course.{Course}
 
 -- The service's connection.
@@ -76,9 +76,20 @@ stake_after stake _ = stake
 
 -- the origin's connection is open
 abbrev pub origin_after : Bool → Event → Bool
-origin_after origin Dialed = true
-origin_after origin HungUp = false
+origin_after origin (Dialed kept) = true
+origin_after origin (HungUp kept) = false
 origin_after origin _ = origin
+
+-- the origin's newest connection was kept from an earlier exchange
+abbrev pub kept_after : Bool → Event → Bool
+kept_after before (Dialed kept) = kept
+kept_after before _ = before
+
+-- the origin's connection lasts: its answer was read whole, and another request may go out there
+abbrev pub lasts_after : Bool → Event → Bool
+lasts_after before (Answered keeps lasts) = lasts
+lasts_after before (HungUp kept) = false
+lasts_after before _ = before
 
 -- the service said its options since the message's head was read
 abbrev pub asked_after : Bool → Event → Bool
@@ -86,6 +97,24 @@ asked_after asked (Learned usable) = true
 asked_after asked RequestRead = false
 asked_after asked ResponseRead = false
 asked_after asked _ = asked
+
+-- the newest plan says that its message may be sent again
+abbrev pub repeatable_after : Bool → Event → Bool
+repeatable_after before (Planned offered waits repeatable) = repeatable
+repeatable_after before _ = before
+
+-- the request was withdrawn from a kept connection
+abbrev pub withdrawn_after : Bool → Event → Bool
+withdrawn_after withdrawn Withdrawn = true
+withdrawn_after withdrawn RequestRead = false
+withdrawn_after withdrawn _ = withdrawn
+
+-- a byte of the origin's answer was read since the request's head was read
+abbrev pub heard_after : Bool → Event → Bool
+heard_after heard Heard = true
+heard_after heard ResponseRead = true
+heard_after heard RequestRead = false
+heard_after heard _ = heard
 
 -- the user was told to send its body since its request's head was read
 abbrev pub told_after : Bool → Event → Bool
@@ -104,14 +133,14 @@ half_told_after half_told _ = half_told
 abbrev pub begun_after : Bool → Event → Bool
 begun_after begun Begun = true
 begun_after begun RequestRead = false
-begun_after begun (Answered keeps) = false
+begun_after begun (Answered keeps lasts) = false
 begun_after begun _ = begun
 
 -- the answer of the message that moves is the last one of its connection: its transaction started while the proxy drained
 abbrev pub closes_after : (draining closes : Bool) → Event → Bool
 closes_after draining closes Started = draining
 closes_after draining closes RequestRead = false
-closes_after draining closes (Answered keeps) = false
+closes_after draining closes (Answered keeps lasts) = false
 closes_after draining closes _ = closes
 
 -- the proxy drains
@@ -193,13 +222,14 @@ phase_after c Stale = Asking (point_of c.phase)
 phase_after c Queued = InQueue (point_of c.phase)
 phase_after c (Lent reused) = lent_from c.phase
 phase_after c (Learned usable) = Planning (point_of c.phase)
-phase_after c (Planned offered waits) = Preparing (point_of c.phase) offered waits
+phase_after c (Planned offered waits repeatable) = Preparing (point_of c.phase) offered waits
 phase_after c Stuck = Telling
 phase_after c Told = told_from c.phase
 phase_after c Started = AtGate (point_of c.phase) (is_offered c.phase)
 phase_after c LetPass = Moving (point_of c.phase) (is_offered c.phase)
 phase_after c Sent = Answer
-phase_after c (Answered keeps) = if keeps && not c.closes then Idle else Closing
+phase_after c Withdrawn = Withdrawing
+phase_after c (Answered keeps lasts) = if keeps && not c.closes then Idle else Closing
 phase_after c (Failed why) = phase_when_failed c why
 phase_after c Refused = Closing
 phase_after c UserClosed = Gone
@@ -218,7 +248,12 @@ after c event = record {
   connection = connection_after c.connection event;
   stake = stake_after c.stake event;
   origin = origin_after c.origin event;
+  kept = kept_after c.kept event;
+  lasts = lasts_after c.lasts event;
   asked = asked_after c.asked event;
+  repeatable = repeatable_after c.repeatable event;
+  withdrawn = withdrawn_after c.withdrawn event;
+  heard = heard_after c.heard event;
   told = told_after c.told event;
   half_told = half_told_after c.half_told event;
   begun = begun_after c.begun event;
@@ -234,7 +269,12 @@ start = record {
   connection = Absent;
   stake = false;
   origin = false;
+  kept = false;
+  lasts = false;
   asked = false;
+  repeatable = false;
+  withdrawn = false;
+  heard = false;
   told = false;
   half_told = false;
   begun = false;

@@ -10,10 +10,10 @@ use Rattle.exchange_core.specs.declared.due.Due.TheVariants.{ReadRequest, Plan, 
 use Rattle.exchange_core.specs.declared.connection.Connection.{Connection}
 use Rattle.exchange_core.specs.declared.connection.Connection.TheVariants.{Absent, Ready, InUse, Spent}
 use Rattle.exchange_core.specs.declared.phase.Phase.{Phase}
-use Rattle.exchange_core.specs.declared.phase.Phase.TheVariants.{Idle, Head, Planning, Asking, InQueue, Preparing, Telling, AtGate, Moving, Answer, Refusing, Closing, Gone}
+use Rattle.exchange_core.specs.declared.phase.Phase.TheVariants.{Idle, Head, Planning, Asking, InQueue, Preparing, Telling, AtGate, Moving, Answer, Withdrawing, Refusing, Closing, Gone}
 use Rattle.exchange_core.specs.declared.course.Course.{Course}
 use Rattle.exchange_core.specs.Course.{is_leased, is_ready, is_in_use, is_spent, point_of, is_offered}
-use Rattle.exchange_core.specs.May.{is_request, is_idle, is_head, is_gone, is_free, holds_nothing}
+use Rattle.exchange_core.specs.May.{is_request, is_idle, is_head, is_gone, is_free, holds_nothing, may_take_kept, may_keep_origin}
 
 -- the status of a refusal (RFC 9110, section 15)
 abbrev pub status_of : RefusalCause → ℕ
@@ -59,6 +59,8 @@ due_at (AtGate point offered) c = AskGate
 -- a service that has said all is let go in the midst of the message
 due_at (Moving point offered) c = if is_leased c.connection && not (is_in_use c.connection) then GiveBack else Turn
 due_at Answer c = if is_leased c.connection then GiveBack else (if c.stake then Release else ReadResponse)
+-- what a withdrawn request held goes back before it is planned anew
+due_at Withdrawing c = freed_first c Plan
 due_at (Refusing why) c = if c.stopping then TryRefusal (status_of why) else freed_first c (Refuse (status_of why))
 due_at Closing c = freed_first c Linger
 due_at Gone c = freed_first c Nothing
@@ -74,7 +76,7 @@ is_over c = is_gone c.phase && holds_nothing c
 abbrev pub comes_of : Due → Event → Bool
 comes_of ReadRequest happens.HeadBegun = true
 comes_of ReadRequest happens.RequestRead = true
-comes_of Plan (happens.Planned offered waits) = true
+comes_of Plan (happens.Planned offered waits repeatable) = true
 comes_of Plan happens.Stale = true
 comes_of Lend (happens.Lent reused) = true
 comes_of Lend happens.Queued = true
@@ -87,17 +89,21 @@ comes_of TryTell happens.HalfTold = true
 comes_of TryTell happens.Stuck = true
 comes_of Tell happens.Told = true
 comes_of Tell happens.HalfTold = true
-comes_of Dial happens.Dialed = true
+comes_of Dial (happens.Dialed kept) = true
 comes_of Start happens.Started = true
 comes_of AskGate happens.LetPass = true
 comes_of Turn (happens.Served usable) = true
 comes_of Turn happens.Begun = true
 comes_of Turn happens.Sent = true
-comes_of Turn (happens.Answered keeps) = true
+comes_of Turn happens.Heard = true
+comes_of Turn happens.Withdrawn = true
+comes_of Turn (happens.Answered keeps lasts) = true
+comes_of ReadResponse happens.Heard = true
+comes_of ReadResponse happens.Withdrawn = true
 comes_of ReadResponse happens.ResponseRead = true
 comes_of GiveBack (happens.Returned kept) = true
 comes_of Release happens.Released = true
-comes_of HangUp happens.HungUp = true
+comes_of HangUp (happens.HungUp kept) = true
 comes_of (Refuse status) happens.Refused = true
 comes_of (TryRefusal status) happens.Tried = true
 comes_of Linger happens.UserClosed = true
@@ -109,13 +115,17 @@ fits c happens.HeadBegun = is_idle c.phase
 fits c happens.RequestRead = is_head c.phase
 fits c happens.Stale = not c.asked
 fits c happens.Queued = is_free c && (not (is_request (point_of c.phase)) || not c.origin)
-fits c (happens.Planned offered waits) = not waits || (is_request (point_of c.phase) && not c.told)
+fits c (happens.Planned offered waits repeatable) = not waits || (is_request (point_of c.phase) && not c.told)
 fits c happens.HalfTold = not c.half_told
+fits c (happens.Dialed kept) = not kept || may_take_kept c
 fits c (happens.Served usable) = is_in_use c.connection
 fits c happens.Begun = not c.begun && (not (is_request (point_of c.phase)) || is_offered c.phase)
 fits c happens.Sent = is_request (point_of c.phase) && (not c.begun && not (is_in_use c.connection))
-fits c (happens.Answered keeps) = c.begun && not (is_in_use c.connection)
+fits c happens.Heard = is_request (point_of c.phase) && not c.heard
+fits c happens.Withdrawn = is_request (point_of c.phase) && (c.kept && (not c.heard && not c.begun))
+fits c (happens.Answered keeps lasts) = c.begun && (not (is_in_use c.connection) && (not lasts || not (is_request (point_of c.phase))))
 fits c (happens.Returned kept) = not kept || is_ready c.connection
+fits c (happens.HungUp kept) = not kept || may_keep_origin c
 fits c _ = true
 
 -- doing it may have to wait for somebody else

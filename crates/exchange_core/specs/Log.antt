@@ -1,7 +1,7 @@
 -- A log is the list of the events that happened to a user's connection, the newest first.
 use Rattle.std.specs.Prelude.{◌≡◌, ◌⊎◌, ℕ, ◌+◌, Bool, true, false, not, ◌&&◌, ◌||◌, ⊤, List, [], ◌∷◌, if◌then◌else◌}
 use Rattle.exchange_core.specs.declared.event.Event.{Event}
-use Rattle.exchange_core.specs.declared.event.Event.TheVariants.{RequestRead, ResponseRead, Lent, Asked, Learned, Reserved, HalfTold, Told, Dialed, LetPass, Served, Begun, Sent, Answered, Failed, Returned, Released, HungUp, Refused, UserClosed, UserLost, Dropped, Late, Drain, Stop, Tried}
+use Rattle.exchange_core.specs.declared.event.Event.TheVariants.{RequestRead, ResponseRead, Stale, Lent, Asked, Learned, Planned, Reserved, HalfTold, Told, Dialed, LetPass, Served, Begun, Sent, Heard, Withdrawn, Answered, Failed, Returned, Released, HungUp, Refused, UserClosed, UserLost, Dropped, Late, Drain, Stop, Tried}
 use Rattle.exchange_core.specs.declared.event.RefusalCause.{RefusalCause}
 use Rattle.exchange_core.specs.declared.phase.Phase.{Phase}
 use Rattle.exchange_core.specs.declared.phase.Phase.TheVariants.{Refusing, Closing, Gone}
@@ -60,25 +60,63 @@ is_released Released = true
 is_released _ = false
 
 abbrev pub is_dialed : Event → Bool
-is_dialed Dialed = true
+is_dialed (Dialed kept) = true
 is_dialed _ = false
 
 abbrev pub is_hung_up : Event → Bool
-is_hung_up HungUp = true
+is_hung_up (HungUp kept) = true
 is_hung_up _ = false
+
+-- a kept one
+abbrev pub is_kept_dialed : Event → Bool
+is_kept_dialed (Dialed kept) = kept
+is_kept_dialed _ = false
+
+abbrev pub is_planned : Event → Bool
+is_planned (Planned offered waits repeatable) = true
+is_planned _ = false
+
+-- as a message that may be sent again
+abbrev pub is_repeatable : Event → Bool
+is_repeatable (Planned offered waits repeatable) = repeatable
+is_repeatable _ = false
+
+abbrev pub is_withdrawn : Event → Bool
+is_withdrawn Withdrawn = true
+is_withdrawn _ = false
+
+-- with the origin's connection to be kept
+abbrev pub is_lasting : Event → Bool
+is_lasting (Answered keeps lasts) = lasts
+is_lasting _ = false
 
 abbrev pub is_request_read : Event → Bool
 is_request_read RequestRead = true
 is_request_read _ = false
 
 abbrev pub is_answered : Event → Bool
-is_answered (Answered keeps) = true
+is_answered (Answered keeps lasts) = true
 is_answered _ = false
 
 abbrev pub is_message_read : Event → Bool
 is_message_read RequestRead = true
 is_message_read ResponseRead = true
 is_message_read _ = false
+
+-- a message begins, or a withdrawn request begins anew
+abbrev pub is_beginning : Event → Bool
+is_beginning event = is_withdrawn event || is_message_read event
+
+-- the message is planned, or its service is to be asked first
+abbrev pub is_planned_or_stale : Event → Bool
+is_planned_or_stale Stale = true
+is_planned_or_stale event = is_planned event
+
+-- a byte of the origin's answer was read, alone or with its head
+abbrev pub is_hearing : Event → Bool
+is_hearing Heard = true
+is_hearing ResponseRead = true
+is_hearing _ = false
 
 abbrev pub is_asked : Event → Bool
 is_asked Asked = true
@@ -176,7 +214,11 @@ is_pending events = stands is_request_read is_answered events
 
 -- the origin has the whole of the newest request
 abbrev pub has_request : List Event → Bool
-has_request events = stands is_sent is_request_read events
+has_request events = stands is_sent (λ event. is_request_read event || is_withdrawn event) events
+
+-- the origin's connection lasts: its answer was read whole, and it is still open
+abbrev pub is_kept_on : List Event → Bool
+is_kept_on events = stands is_lasting (λ event. is_answered event || is_hung_up event) events
 
 -- the service has said all of the newest message that passed the gate
 abbrev pub has_served : List Event → Bool
@@ -201,7 +243,7 @@ is_usable [] = true
 is_usable (event ∷ before) = usable_after (is_usable before) event
 
 abbrev pub is_keeping : Event → Bool
-is_keeping (Answered keeps) = keeps
+is_keeping (Answered keeps lasts) = keeps
 is_keeping _ = false
 
 -- nothing was read yet, or the newest answer keeps the connection
@@ -240,13 +282,13 @@ abbrev pub is_move : Event → Bool
 is_move (Served usable) = true
 is_move Begun = true
 is_move Sent = true
-is_move (Answered keeps) = true
+is_move (Answered keeps lasts) = true
 is_move _ = false
 
 -- a message is out whole
 abbrev pub is_out : Event → Bool
 is_out Sent = true
-is_out (Answered keeps) = true
+is_out (Answered keeps lasts) = true
 is_out _ = false
 
 abbrev pub is_response_read : Event → Bool
@@ -269,7 +311,7 @@ is_parting Stop = true
 is_parting Tried = true
 is_parting (Returned kept) = true
 is_parting Released = true
-is_parting HungUp = true
+is_parting (HungUp kept) = true
 is_parting _ = false
 
 -- the same refusal goes on, or all is said

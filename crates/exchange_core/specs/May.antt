@@ -3,10 +3,12 @@ use Rattle.std.specs.Prelude.{Bool, true, false, not, ◌&&◌, ◌||◌, if◌t
 use Rattle.trace_core.specs.declared.history.Point.{Point}
 use Rattle.trace_core.specs.declared.history.Point.TheVariants.{Reqmod, Respmod}
 use Rattle.exchange_core.specs.declared.event.Event.{Event}
-use Rattle.exchange_core.specs.declared.event.Event.TheVariants.{HeadBegun, RequestRead, ResponseRead, Stale, Queued, Lent, Asked, Learned, Planned, Reserved, HalfTold, Stuck, Told, Dialed, Started, LetPass, Renewed, Served, Begun, Sent, Answered, Failed, Returned, Released, HungUp, Refused, UserClosed, UserLost, Dropped, Late, Drain, Stop, Tried}
+use Rattle.exchange_core.specs.declared.event.Event.TheVariants.{HeadBegun, RequestRead, ResponseRead, Stale, Queued, Lent, Asked, Learned, Planned, Reserved, HalfTold, Stuck, Told, Dialed, Started, LetPass, Renewed, Served, Begun, Sent, Heard, Withdrawn, Answered, Failed, Returned, Released, HungUp, Refused, UserClosed, UserLost, Dropped, Late, Drain, Stop, Tried}
 use Rattle.exchange_core.specs.declared.phase.Phase.{Phase}
-use Rattle.exchange_core.specs.declared.phase.Phase.TheVariants.{Idle, Head, Planning, Asking, InQueue, Preparing, Telling, AtGate, Moving, Answer, Refusing, Closing, Gone}
+use Rattle.exchange_core.specs.declared.phase.Phase.TheVariants.{Idle, Head, Planning, Asking, InQueue, Preparing, Telling, AtGate, Moving, Answer, Withdrawing, Refusing, Closing, Gone}
 use Rattle.exchange_core.specs.declared.course.Course.{Course}
+use Rattle.exchange_core.specs.declared.dialing.Dialing.{Dialing}
+use Rattle.exchange_core.specs.declared.dialing.Dialing.TheVariants.{Fresh, KeptFirst}
 use Rattle.exchange_core.specs.Course.{is_leased, is_ready, is_in_use, is_spent, is_reused, point_of, is_offered}
 
 abbrev pub is_idle : Phase → Bool
@@ -48,6 +50,10 @@ is_moving _ = false
 abbrev pub is_answer : Phase → Bool
 is_answer Answer = true
 is_answer _ = false
+
+abbrev pub is_withdrawing : Phase → Bool
+is_withdrawing Withdrawing = true
+is_withdrawing _ = false
 
 abbrev pub is_refusing : Phase → Bool
 is_refusing (Refusing why) = true
@@ -99,15 +105,38 @@ needs_connection _ in_use = false
 abbrev pub needs_stake : Phase → Bool
 needs_stake phase = is_preparing phase || (is_at_gate phase || is_moving phase)
 
--- an origin's connection lasts from the request to the answer, or until either fails
+-- an origin's connection is open from the request to the answer, or until either fails or is withdrawn
 abbrev pub needs_origin : Phase → Bool
 needs_origin Idle = false
 needs_origin Head = false
 needs_origin Telling = false
+needs_origin Withdrawing = false
 needs_origin (Refusing why) = false
 needs_origin Closing = false
 needs_origin Gone = false
 needs_origin _ = true
+
+-- a request is out, or on its way, that the origin may answer
+abbrev pub awaits_origin : Phase → Bool
+awaits_origin (Moving point offered) = is_request point
+awaits_origin Answer = true
+awaits_origin _ = false
+
+-- the message may be planned: what a withdrawn one held has gone back
+abbrev pub is_to_plan : Course → Bool
+is_to_plan c = is_planning c.phase || (is_withdrawing c.phase && holds_nothing c)
+
+-- the request may go out on a kept connection: it may be sent again, and wasn't withdrawn from one
+abbrev pub may_take_kept : Course → Bool
+may_take_kept c = c.repeatable && not c.withdrawn
+
+-- how the origin of the request is to be dialed
+abbrev pub dialing_of : Course → Dialing
+dialing_of c = if may_take_kept c then KeptFirst else Fresh
+
+-- the origin's connection may be kept for later exchanges: it lasts, and the proxy neither drains nor stops
+abbrev pub may_keep_origin : Course → Bool
+may_keep_origin c = c.lasts && (not c.draining && not c.stopping)
 
 -- the connection that an offer wants is there, or none, and the reservation
 abbrev pub is_provided : Course → Bool
@@ -134,6 +163,7 @@ abbrev pub may_wait : Phase → Bool
 may_wait (Planning point) = false
 may_wait (Preparing point offered waits) = false
 may_wait (AtGate point offered) = false
+may_wait Withdrawing = false
 may_wait Gone = false
 may_wait _ = true
 
@@ -163,10 +193,12 @@ goes_on_with Renewed = true
 goes_on_with (Served usable) = true
 goes_on_with Begun = true
 goes_on_with Sent = true
-goes_on_with (Answered keeps) = true
+goes_on_with Heard = true
+goes_on_with Withdrawn = true
+goes_on_with (Answered keeps lasts) = true
 goes_on_with (Returned kept) = true
 goes_on_with Released = true
-goes_on_with HungUp = true
+goes_on_with (HungUp kept) = true
 goes_on_with event = ends_with event
 
 abbrev pub may_come : Course → Event → Bool
@@ -175,21 +207,22 @@ may_come c HeadBegun = is_idle c.phase && holds_nothing c
 may_come c RequestRead = is_head c.phase && holds_nothing c
 may_come c ResponseRead = is_answer c.phase && is_free c
 -- options: learned at most once for a message, on a connection that is leased for it
-may_come c Stale = is_planning c.phase && (not c.asked && not (is_spent c.connection))
+may_come c Stale = is_to_plan c && (not c.asked && not (is_spent c.connection))
 -- who waits for a connection has no other one, but for the origin whose response waits
 may_come c Queued = wants_connection c.phase && (is_free c && (not (is_request (point_of c.phase)) || not c.origin))
 may_come c (Lent reused) = (wants_connection c.phase || is_in_queue c.phase) && not (is_leased c.connection)
 may_come c Asked = is_asking c.phase && is_ready c.connection
 may_come c (Learned usable) = is_asking c.phase && is_in_use c.connection
 -- a response's user isn't told to send a body, nor one that was told before
-may_come c (Planned offered waits) = is_planning c.phase
+may_come c (Planned offered waits repeatable) = is_to_plan c
     && (not (is_spent c.connection) && (not waits || (is_request (point_of c.phase) && not c.told)))
 may_come c Reserved = is_preparing c.phase && not c.stake
 may_come c HalfTold = may_tell c && not c.half_told
 may_come c Stuck = waits_of c.phase && (is_provided c && not c.told)
 may_come c Told = may_tell c
--- the origin is opened last: once for a request
-may_come c Dialed = is_provided c && (is_bidden c && (is_request (point_of c.phase) && not c.origin))
+-- the origin is opened last: once for a request, and once more for one that was withdrawn
+may_come c (Dialed kept) = is_provided c
+    && (is_bidden c && (is_request (point_of c.phase) && (not c.origin && (not kept || may_take_kept c))))
 may_come c Started = is_provided c && (is_bidden c && c.origin)
 may_come c LetPass = is_at_gate c.phase
 -- a connection that was used before may have been closed meanwhile: a fresh one takes its place, once
@@ -198,13 +231,18 @@ may_come c (Served usable) = is_moving c.phase && is_in_use c.connection
 -- an answer is the origin's, or that of the service which was offered the request
 may_come c Begun = is_moving c.phase && (not c.begun && (not (is_request (point_of c.phase)) || is_offered c.phase))
 may_come c Sent = is_moving c.phase && (is_request (point_of c.phase) && (not c.begun && not (is_in_use c.connection)))
-may_come c (Answered keeps) = is_moving c.phase && (c.begun && not (is_in_use c.connection))
+may_come c Heard = awaits_origin c.phase && not c.heard
+-- a kept connection may have been closed meanwhile: the request goes back to its plan, as long as nothing was answered
+may_come c Withdrawn = awaits_origin c.phase && (c.kept && (not c.heard && not c.begun))
+-- the origin's connection lasts only where the answer was the origin's
+may_come c (Answered keeps lasts) = is_moving c.phase
+    && (c.begun && (not (is_in_use c.connection) && (not lasts || not (is_request (point_of c.phase)))))
 may_come c (Failed why) = may_fail c.phase
 -- what is held goes back once nothing needs it; a connection is kept only where it may serve again
 may_come c (Returned kept) = is_leased c.connection
     && ((is_spent c.connection || not (needs_connection c.phase (is_in_use c.connection))) && (not kept || is_ready c.connection))
 may_come c Released = c.stake && not (needs_stake c.phase)
-may_come c HungUp = c.origin && not (needs_origin c.phase)
+may_come c (HungUp kept) = c.origin && (not (needs_origin c.phase) && (not kept || may_keep_origin c))
 -- the user is waited for with nothing held
 may_come c Refused = is_refusing c.phase && (holds_nothing c && not c.stopping)
 may_come c UserClosed = is_closing c.phase && holds_nothing c

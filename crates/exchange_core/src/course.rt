@@ -17,8 +17,18 @@ pub struct Course {
     pub stake: bool,
     /// The origin's connection is open.
     pub origin: bool,
+    /// The origin's newest connection was kept from an earlier exchange.
+    pub kept: bool,
+    /// The origin's connection lasts: its answer was read whole, and another request may go out there.
+    pub lasts: bool,
     /// The service said its options for the sake of this message.
     pub asked: bool,
+    /// The newest plan says that its message may be sent again.
+    pub repeatable: bool,
+    /// This request was withdrawn from a kept connection.
+    pub withdrawn: bool,
+    /// A byte of the origin's answer to this request was read.
+    pub heard: bool,
     /// The user was told to send the body of this request.
     pub told: bool,
     /// A part of the text that tells it went out, and not all.
@@ -46,7 +56,12 @@ impl Course {
             connection: Connection::Absent,
             stake: false,
             origin: false,
+            kept: false,
+            lasts: false,
             asked: false,
+            repeatable: false,
+            withdrawn: false,
+            heard: false,
             told: false,
             half_told: false,
             begun: false,
@@ -121,7 +136,7 @@ impl Course {
             Event::Queued => Phase::InQueue { point },
             Event::Lent { .. } => self.phase.lent(),
             Event::Learned { .. } => Phase::Planning { point },
-            Event::Planned { offered, waits } => Phase::Preparing {
+            Event::Planned { offered, waits, .. } => Phase::Preparing {
                 point,
                 offered,
                 waits,
@@ -131,7 +146,8 @@ impl Course {
             Event::Started => Phase::AtGate { point, offered },
             Event::LetPass => Phase::Moving { point, offered },
             Event::Sent => Phase::Answer,
-            Event::Answered { keeps } if keeps && !self.closes => Phase::Idle,
+            Event::Withdrawn => Phase::Withdrawing,
+            Event::Answered { keeps, .. } if keeps && !self.closes => Phase::Idle,
             Event::Answered { .. } | Event::Refused => Phase::Closing,
             Event::Failed(why) => self.phase_when_failed(why),
             Event::UserClosed | Event::UserLost | Event::Dropped | Event::Tried => Phase::Gone,
@@ -150,43 +166,57 @@ impl Course {
         match event {
             Event::RequestRead => {
                 course.asked = false;
+                course.withdrawn = false;
+                course.heard = false;
                 course.told = false;
                 course.half_told = false;
                 course.begun = false;
                 course.closes = false;
             }
-            Event::ResponseRead => course.asked = false,
+            Event::ResponseRead => {
+                course.asked = false;
+                course.heard = true;
+            }
             Event::Lent { reused } => course.connection = Connection::Ready { reused },
             Event::Asked | Event::LetPass => course.connection = self.connection.in_use(),
             Event::Learned { usable } => {
                 course.connection = self.connection.learned(usable);
                 course.asked = true;
             }
+            Event::Planned { repeatable, .. } => course.repeatable = repeatable,
             Event::Reserved => course.stake = true,
             Event::HalfTold => course.half_told = true,
             Event::Told => {
                 course.told = true;
                 course.half_told = false;
             }
-            Event::Dialed => course.origin = true,
+            Event::Dialed { kept } => {
+                course.origin = true;
+                course.kept = kept;
+            }
+            Event::Heard => course.heard = true,
+            Event::Withdrawn => course.withdrawn = true,
             Event::Renewed => course.connection = self.connection.renewed(),
             Event::Served { usable } => course.connection = self.connection.said(usable),
             Event::Started => course.closes = self.draining,
             Event::Begun => course.begun = true,
-            Event::Answered { .. } => {
+            Event::Answered { lasts, .. } => {
+                course.lasts = lasts;
                 course.begun = false;
                 course.closes = false;
             }
             Event::Returned { .. } => course.connection = Connection::Absent,
             Event::Released => course.stake = false,
-            Event::HungUp => course.origin = false,
+            Event::HungUp { .. } => {
+                course.origin = false;
+                course.lasts = false;
+            }
             Event::Drain => course.draining = true,
             Event::Stop => course.stopping = true,
             // These change the phase alone.
             Event::HeadBegun
             | Event::Stale
             | Event::Queued
-            | Event::Planned { .. }
             | Event::Stuck
             | Event::Sent
             | Event::Failed(_)

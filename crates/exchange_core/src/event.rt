@@ -50,13 +50,22 @@ pub enum Event {
     /// All connections of the service are leased, and the message waits for one.
     Queued,
     /// A connection of the service was leased, and whether it was idle before.
-    Lent { reused: bool },
+    Lent {
+        reused: bool,
+    },
     /// The service is asked for its options on it.
     Asked,
     /// The service's options were read, and are kept; and whether the connection may serve again.
-    Learned { usable: bool },
-    /// The message was planned: whether it is offered to the service, and whether its user waits to be told to send its body.
-    Planned { offered: bool, waits: bool },
+    Learned {
+        usable: bool,
+    },
+    /// The message was planned: whether it is offered to the service, whether its user waits to be told to send its body, and
+    /// whether it may be sent again.
+    Planned {
+        offered: bool,
+        waits: bool,
+        repeatable: bool,
+    },
     /// What the message may need was reserved.
     Reserved,
     /// The first bytes of the text that tells the user to send its body went out, and not all.
@@ -65,8 +74,10 @@ pub enum Event {
     Stuck,
     /// The user was told to send its body.
     Told,
-    /// The origin's connection was opened.
-    Dialed,
+    /// The origin's connection is there, and whether it was kept from an earlier exchange or is a fresh one.
+    Dialed {
+        kept: bool,
+    },
     /// The transaction of the message stands over its wires.
     Started,
     /// The gate let it pass.
@@ -75,22 +86,36 @@ pub enum Event {
     Renewed,
     /// The service has said all: it left the message as it is, or its own message is whole. And whether the connection may
     /// serve again.
-    Served { usable: bool },
+    Served {
+        usable: bool,
+    },
     /// The first byte of an answer went to the user.
     Begun,
     /// The origin has the whole request.
     Sent,
-    /// The user has the whole answer, and whether its connection serves further requests.
-    Answered { keeps: bool },
+    /// The first byte of the origin's answer was read, and not its whole head.
+    Heard,
+    /// The origin's kept connection has ended with no byte of an answer: the request goes back to its plan, and next to a fresh one.
+    Withdrawn,
+    /// The user has the whole answer, whether its connection serves further requests, and whether the origin's one lasts: the
+    /// origin's answer was read whole, and another request may go out there.
+    Answered {
+        keeps: bool,
+        lasts: bool,
+    },
     /// The message, or the connection before it, goes no further: a side of it failed, no byte moved for too long, or what it needs
     /// can't be had, as where no connection of the service came free in time.
     Failed(RefusalCause),
     /// The service's connection was put back, or was closed and its lease given up.
-    Returned { kept: bool },
+    Returned {
+        kept: bool,
+    },
     /// The reservation was closed.
     Released,
-    /// The origin's connection was closed.
-    HungUp,
+    /// The origin's connection was closed, or was kept for later exchanges.
+    HungUp {
+        kept: bool,
+    },
     /// The whole refusal went out.
     Refused,
     /// The user has closed after all that was said.

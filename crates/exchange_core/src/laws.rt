@@ -4,22 +4,27 @@ ghost use Rattle.std.specs.Prelude.{◌≡◌, ◌≤◌, ◌+◌, ◌*◌, ◌�
 ghost use Rattle.exchange_core.specs.declared.event.RefusalCause.{RefusalCause};
 ghost use Rattle.exchange_core.specs.declared.event.RefusalCause.TheVariants.{Deadline};
 ghost use Rattle.exchange_core.specs.declared.event.Event.{Event};
-ghost use Rattle.exchange_core.specs.declared.event.Event.TheVariants.{RequestRead, ResponseRead, Told, Started, Begun, Answered, Failed, Returned, UserLost, Late, Drain, Stop};
+ghost use Rattle.exchange_core.specs.declared.event.Event.TheVariants.{RequestRead, ResponseRead, Told, Dialed, Started, Begun, Withdrawn, Answered, Failed, Returned, HungUp, UserLost, Late, Drain, Stop};
 ghost use Rattle.exchange_core.specs.declared.course.Course.{Course};
 ghost use Rattle.exchange_core.specs.declared.phase.Phase.TheVariants.{Refusing, Closing, Gone};
 ghost use Rattle.exchange_core.specs.declared.due.Due.TheVariants.{Nothing};
 ghost use Rattle.exchange_core.specs.Course.{after, is_leased, is_ready, is_offered, point_of};
-ghost use Rattle.exchange_core.specs.May.{may_come, is_in_queue, is_moving, is_refusing, is_gone, is_free, is_request, holds_nothing, waits_of};
+ghost use Rattle.exchange_core.specs.May.{may_come, is_in_queue, is_moving, is_withdrawing, is_refusing, is_gone, is_free, is_request, holds_nothing, waits_of};
 ghost use Rattle.exchange_core.specs.Dues.{due_of, comes_of, fits, is_over, is_wait, is_wait_for_user, is_for_message, is_for_leave};
-ghost use Rattle.exchange_core.specs.Paths.{plain, adapted, blocked, stuck, renewed_twice, waited, refused, cut, late, drained, left, stopped, turned_away};
-ghost use Rattle.exchange_core.specs.Log.{AreLegal, total, leases_held, stakes_held, course_of, IsLegal, AllAre, count, one_if, is_lent, is_returned, is_reserved, is_released, is_dialed, is_hung_up, is_request_read, is_message_read, is_answered, stands, never, is_pending, is_kept_open, has_request, has_served, has_begun, is_half_out, is_last_answer, is_usable, is_learned, is_begun, is_drain, is_stop, is_let_pass, is_response_read, is_move, is_out, is_told, is_asked, is_refused, is_freeing, is_parting, is_leaving, KeepsTo, is_failing, is_quiet, is_last, failures_from};
+ghost use Rattle.exchange_core.specs.Paths.{plain, adapted, blocked, stuck, renewed_twice, waited, refused, cut, late, drained, left, stopped, turned_away, kept_on, withdrawn, withdrawn_early};
+ghost use Rattle.exchange_core.specs.Log.{AreLegal, total, leases_held, stakes_held, course_of, IsLegal, AllAre, count, one_if, is_lent, is_returned, is_reserved, is_released, is_dialed, is_kept_dialed, is_hung_up, is_request_read, is_message_read, is_beginning, is_planned, is_repeatable, is_planned_or_stale, is_withdrawn, is_hearing, is_kept_on, is_answered, stands, never, is_pending, is_kept_open, has_request, has_served, has_begun, is_half_out, is_last_answer, is_usable, is_learned, is_begun, is_drain, is_stop, is_let_pass, is_response_read, is_move, is_out, is_told, is_asked, is_refused, is_freeing, is_parting, is_leaving, KeepsTo, is_failing, is_quiet, is_last, failures_from};
 
 /// Each mark of a course is what the log says: an event that begins it stands, and none that ends it after that.
 pub fn marks_stand_in_the_log()
     ensures connection { (events : List Event) → is_leased (course_of events).connection ≡ stands is_lent is_returned events }
     ensures stake { (events : List Event) → (course_of events).stake ≡ stands is_reserved is_released events }
     ensures origin { (events : List Event) → (course_of events).origin ≡ stands is_dialed is_hung_up events }
+    ensures kept { (events : List Event) → (course_of events).kept ≡ stands is_kept_dialed is_dialed events }
+    ensures lasts { (events : List Event) → (course_of events).lasts ≡ is_kept_on events }
     ensures asked { (events : List Event) → (course_of events).asked ≡ stands is_learned is_message_read events }
+    ensures repeatable { (events : List Event) → (course_of events).repeatable ≡ stands is_repeatable is_planned events }
+    ensures withdrawn { (events : List Event) → (course_of events).withdrawn ≡ stands is_withdrawn is_request_read events }
+    ensures heard { (events : List Event) → (course_of events).heard ≡ stands is_hearing is_request_read events }
     ensures told { (events : List Event) → (course_of events).told ≡ stands is_told is_request_read events }
     ensures half_told { (events : List Event) → (course_of events).half_told ≡ is_half_out events }
     ensures begun { (events : List Event) → (course_of events).begun ≡ has_begun events }
@@ -58,11 +63,12 @@ pub fn requests_and_answers_take_turns()
     ensures response { (events : List Event) → IsLegal (ResponseRead ∷ events) → has_request events ≡ true }
 {}
 
-/// A message moves only once the gate let it pass, within an open reservation, and with the origin's connection open. An answer
-/// is that of the origin, or of the service that was offered the request. A user that waits was told to send its body.
+/// A message moves only once the gate let it pass, a withdrawn one once more, within an open reservation, and with the origin's
+/// connection open. An answer is that of the origin, or of the service that was offered the request. A user that waits was told to
+/// send its body.
 pub fn a_message_moves_with_all_it_needs()
     ensures gate { (events : List Event) (event : Event) → IsLegal (event ∷ events) → is_move event ≡ true
-        → stands is_let_pass is_message_read events ≡ true }
+        → stands is_let_pass is_beginning events ≡ true }
     ensures stake { (events : List Event) (event : Event) → IsLegal (event ∷ events) → is_move event ≡ true
         → stands is_reserved is_released events ≡ true }
     ensures origin { (events : List Event) (event : Event) → IsLegal (event ∷ events) → is_move event ≡ true
@@ -74,13 +80,47 @@ pub fn a_message_moves_with_all_it_needs()
 {}
 
 /// For each request a user is told at most once to send its body: after a reservation was made for it, and never after the first
-/// byte of an answer. The origin is opened at most once. For each message its service is asked at most once.
-pub fn each_is_told_asked_and_dialed_once()
+/// byte of an answer. For each message its service is asked at most once.
+pub fn each_is_told_and_asked_once()
     ensures told { (events : List Event) → IsLegal events → count is_told events ≤ count is_request_read events }
     ensures room { (events : List Event) → IsLegal (Told ∷ events) → stands is_reserved is_request_read events ≡ true }
     ensures early { (events : List Event) → IsLegal (Told ∷ events) → has_begun events ≡ false }
     ensures asked { (events : List Event) → IsLegal events → count is_asked events ≤ count is_message_read events }
-    ensures dialed { (events : List Event) → IsLegal events → count is_dialed events ≤ count is_request_read events }
+{}
+
+/// For each request the origin is dialed once, and once more where the request was withdrawn: so at most twice, the second time
+/// on a fresh connection. A kept one is dialed only for a request that may be sent again.
+pub fn an_origin_is_dialed_at_most_twice()
+    ensures dialed { (events : List Event) → IsLegal events
+        → count is_dialed events ≤ count is_request_read events + count is_withdrawn events }
+    ensures twice { (events : List Event) → IsLegal events → count is_dialed events ≤ 2 * count is_request_read events }
+    ensures second { (events : List Event) (kept : Bool) → IsLegal (Dialed kept ∷ events)
+        → stands is_dialed is_request_read events ≡ true → kept ≡ false }
+    ensures repeatable { (events : List Event) → IsLegal (Dialed true ∷ events) → stands is_repeatable is_planned events ≡ true }
+    ensures fresh { (events : List Event) → IsLegal (Dialed true ∷ events) → stands is_withdrawn is_request_read events ≡ false }
+{}
+
+/// A request is withdrawn at most once: only from a kept connection, only where it may be sent again, and only as long as no byte
+/// of an answer was read or went out. What it held goes back before it is planned anew.
+pub fn a_request_is_withdrawn_at_most_once()
+    ensures once { (events : List Event) → IsLegal events → count is_withdrawn events ≤ count is_request_read events }
+    ensures kept { (events : List Event) → IsLegal (Withdrawn ∷ events) → stands is_kept_dialed is_dialed events ≡ true }
+    ensures repeatable { (events : List Event) → IsLegal (Withdrawn ∷ events) → stands is_repeatable is_planned events ≡ true }
+    ensures unheard { (events : List Event) → IsLegal (Withdrawn ∷ events) → stands is_hearing is_request_read events ≡ false }
+    ensures unanswered { (events : List Event) → IsLegal (Withdrawn ∷ events) → stands is_begun is_request_read events ≡ false }
+    ensures freed { (events : List Event) (event : Event) → IsLegal (event ∷ events) → is_planned_or_stale event ≡ true
+        → is_withdrawing (course_of events).phase ≡ true → (stands is_lent is_returned events ≡ false)
+        × (stands is_reserved is_released events ≡ false) × (stands is_dialed is_hung_up events ≡ false) }
+{}
+
+/// An origin's connection is kept only once its answer was read whole, and lasts, to a request that it had whole. A proxy that
+/// drains or stops keeps none.
+pub fn an_origins_connection_is_kept_after_its_answer()
+    ensures lasts { (events : List Event) → IsLegal (HungUp true ∷ events) → is_kept_on events ≡ true }
+    ensures request { (events : List Event) → IsLegal (HungUp true ∷ events) → has_request events ≡ true }
+    ensures response { (events : List Event) → IsLegal (HungUp true ∷ events) → stands is_response_read is_request_read events ≡ true }
+    ensures goes_on { (events : List Event) → IsLegal (HungUp true ∷ events)
+        → (stands is_drain never events ≡ false) × (stands is_stop never events ≡ false) }
 {}
 
 /// A refusal goes only to a user that got no byte of an answer to this request, and no part of the text that tells it to send its
@@ -159,8 +199,8 @@ pub fn a_lost_user_ends_an_exchange()
 /// An answer whose transaction starts while the proxy drains is the last one of its connection. So at most one more request is
 /// read: one that was on its way, or that of a user whose answer's transaction had started before.
 pub fn a_drain_ends_an_exchange()
-    ensures closes { (events : List Event) (keeps : Bool) → IsLegal (Answered keeps ∷ events)
-        → is_last_answer events ≡ true → (course_of (Answered keeps ∷ events)).phase ≡ Closing }
+    ensures closes { (events : List Event) (keeps lasts : Bool) → IsLegal (Answered keeps lasts ∷ events)
+        → is_last_answer events ≡ true → (course_of (Answered keeps lasts ∷ events)).phase ≡ Closing }
     ensures one { (more events : List Event) → IsLegal (more ++ Drain ∷ events) → count is_request_read more ≤ 1 }
 {}
 
@@ -173,7 +213,7 @@ pub fn a_stop_ends_an_exchange()
 
 /// An exchange goes in no circle: whatever comes of what is done, each request takes a bounded number of events.
 pub fn an_exchange_goes_in_no_circle()
-    ensures { (events : List Event) → IsLegal events → length events ≤ 600 * (count is_request_read events + 1) }
+    ensures { (events : List Event) → IsLegal events → length events ≤ 1000 * (count is_request_read events + 1) }
 {}
 
 /// Logs of whole exchanges are legal: these laws aren't empty.
@@ -190,6 +230,9 @@ pub fn whole_exchanges_are_legal()
     ensures drained { IsLegal drained × (is_over (course_of drained) ≡ true) }
     ensures left { IsLegal left × (is_over (course_of left) ≡ true) }
     ensures turned_away { IsLegal turned_away × (is_over (course_of turned_away) ≡ true) }
+    ensures kept_on { IsLegal kept_on × (is_over (course_of kept_on) ≡ true) }
+    ensures withdrawn { IsLegal withdrawn × (is_over (course_of withdrawn) ≡ true) }
+    ensures withdrawn_early { IsLegal withdrawn_early × (is_over (course_of withdrawn_early) ≡ true) }
 {}
 
 /// So is one that ends with a lease and a reservation out, which the audit counts.

@@ -8,6 +8,7 @@
 
 mod connection;
 mod course;
+mod dialing;
 mod due;
 mod event;
 mod exchange;
@@ -17,6 +18,7 @@ mod phase;
 
 pub use connection::Connection;
 pub use course::Course;
+pub use dialing::Dialing;
 pub use due::Due;
 pub use event::{Event, RefusalCause};
 pub use exchange::Exchange;

@@ -1,9 +1,10 @@
 //! Which event may come next.
 
 ghost use Rattle.std.specs.Prelude.{◌≡◌, true};
-ghost use Rattle.exchange_core.specs.May.{may_come, is_free, holds_nothing, is_provided, is_bidden, may_tell, ends_with, goes_on_with};
+ghost use Rattle.exchange_core.specs.May.{may_come, is_free, holds_nothing, is_to_plan, may_take_kept, dialing_of, may_keep_origin, is_provided, is_bidden, may_tell, ends_with, goes_on_with};
 
 use crate::course::Course;
+use crate::dialing::Dialing;
 use crate::event::Event;
 use crate::phase::Phase;
 
@@ -20,6 +21,39 @@ impl Course {
         ensures { result ≡ holds_nothing self }
     {
         self.is_free() && !self.origin
+    }
+
+    /// Whether the message may be planned: what a withdrawn one held has gone back.
+    fn is_to_plan(self) -> bool
+        ensures { result ≡ is_to_plan self }
+    {
+        matches!(self.phase, Phase::Planning { .. })
+            || (self.phase == Phase::Withdrawing && self.holds_nothing())
+    }
+
+    /// Whether the request may go out on a kept connection: it may be sent again, and wasn't withdrawn from one.
+    fn may_take_kept(self) -> bool
+        ensures { result ≡ may_take_kept self }
+    {
+        self.repeatable && !self.withdrawn
+    }
+
+    /// How the origin of the request is to be dialed.
+    pub fn dialing(self) -> Dialing
+        ensures { result ≡ dialing_of self }
+    {
+        if self.may_take_kept() {
+            Dialing::KeptFirst
+        } else {
+            Dialing::Fresh
+        }
+    }
+
+    /// Whether the origin's connection may be kept for later exchanges: it lasts, and the proxy neither drains nor stops.
+    pub fn may_keep_origin(self) -> bool
+        ensures { result ≡ may_keep_origin self }
+    {
+        self.lasts && !self.draining && !self.stopping
     }
 
     /// Whether the connection that an offer wants is there, or none, and the reservation.
@@ -60,9 +94,7 @@ impl Course {
             Event::HeadBegun => phase == Phase::Idle && self.holds_nothing(),
             Event::RequestRead => phase == Phase::Head && self.holds_nothing(),
             Event::ResponseRead => phase == Phase::Answer && self.is_free(),
-            Event::Stale => {
-                matches!(phase, Phase::Planning { .. }) && !self.asked && !connection.is_spent()
-            }
+            Event::Stale => self.is_to_plan() && !self.asked && !connection.is_spent(),
             Event::Queued => {
                 phase.wants_connection() && self.is_free() && (!phase.is_request() || !self.origin)
             }
@@ -74,7 +106,7 @@ impl Course {
             Event::Learned { .. } => matches!(phase, Phase::Asking { .. })
                 && connection.is_in_use(),
             Event::Planned { waits, .. } => {
-                matches!(phase, Phase::Planning { .. })
+                self.is_to_plan()
                     && !connection.is_spent()
                     && (!waits || (phase.is_request() && !self.told))
             }
@@ -82,8 +114,12 @@ impl Course {
             Event::HalfTold => self.may_tell() && !self.half_told,
             Event::Stuck => phase.waits() && self.is_provided() && !self.told,
             Event::Told => self.may_tell(),
-            Event::Dialed => {
-                self.is_provided() && self.is_bidden() && phase.is_request() && !self.origin
+            Event::Dialed { kept } => {
+                self.is_provided()
+                    && self.is_bidden()
+                    && phase.is_request()
+                    && !self.origin
+                    && (!kept || self.may_take_kept())
             }
             Event::Started => self.is_provided() && self.is_bidden() && self.origin,
             Event::Failed(_) => phase.may_fail(),
@@ -113,14 +149,23 @@ impl Course {
                 && phase.is_request()
                 && !self.begun
                 && !connection.is_in_use(),
-            Event::Answered { .. } => is_moving && self.begun && !connection.is_in_use(),
+            Event::Heard => phase.awaits_origin() && !self.heard,
+            Event::Withdrawn => phase.awaits_origin() && self.kept && !self.heard && !self.begun,
+            Event::Answered { lasts, .. } => {
+                is_moving
+                    && self.begun
+                    && !connection.is_in_use()
+                    && (!lasts || !phase.is_request())
+            }
             Event::Returned { kept } => {
                 connection.is_leased()
                     && (connection.is_spent() || !phase.needs_connection(connection.is_in_use()))
                     && (!kept || connection.is_ready())
             }
             Event::Released => self.stake && !phase.needs_stake(),
-            Event::HungUp => self.origin && !phase.needs_origin(),
+            Event::HungUp { kept } => {
+                self.origin && !phase.needs_origin() && (!kept || self.may_keep_origin())
+            }
             _ => self.may_end(event),
         }
     }

@@ -8,16 +8,21 @@ use Rattle.std.proofs.lemmas.List.{append_assoc}
 use Rattle.std.proofs.lemmas.List.Elements.{All-cons, All-nil, All-append, All-take}
 use Rattle.adapt_bytes.specs.Numeral.{numeral, three_digits}
 use Rattle.adapt_bytes.proofs.Written.{Writes-numeral}
+use Rattle.exchange_report.specs.Reasons.{reason_word}
 use Rattle.exchange_report.specs.Words.{word_of}
 use Rattle.exchange_report.specs.Lines.{HasNoEnd, IsOneLine}
-use Rattle.exchange_report.specs.Entry.{address_text, user_text, origin_text, tag_text, status_text, head_text, request_text, reply_word, verdict_text, why_word, end_text, line_text}
+use Rattle.exchange_report.specs.Entry.{address_text, user_text, destination_text, tag_text, status_text, head_text, request_text, reply_word, verdict_text, why_word, end_text, line_text}
 use Rattle.exchange_report.specs.declared.entry.Address.{Address}
+use Rattle.exchange_report.specs.declared.entry.Destination.{Destination}
+use Rattle.exchange_report.specs.declared.entry.Destination.TheVariants.{Origin, Parent}
 use Rattle.exchange_report.specs.declared.entry.Entry.{Entry}
+use Rattle.exchange_report.specs.declared.reason.Reason.{Reason}
+use Rattle.exchange_report.specs.declared.reason.Reason.TheVariants as reasons
 use Rattle.exchange_report.specs.declared.verdict.Reply.{Reply}
 use Rattle.exchange_report.specs.declared.verdict.Reply.TheVariants.{Missing, Plain, Unchanged, Changed}
 use Rattle.exchange_report.specs.declared.verdict.Verdict.{Verdict}
 use Rattle.exchange_report.specs.declared.why.Why.{Why}
-use Rattle.exchange_report.specs.declared.why.Why.TheVariants.{Served, BadRequest, NotServed, RequestBroken, UnknownHost, OriginRefused, OriginBroken, OriginDeadline, ServiceRefused, ServiceStatus, ServiceBroken, ServiceDeadline, Busy, Full, NoRow, NoSeat, NoMemory, UserDeadline, UserGone, Stopping}
+use Rattle.exchange_report.specs.declared.why.Why.TheVariants.{Served, UserGone, Failed}
 use Rattle.exchange_report.specs.declared.words.TheConstants.{MAX_TARGET, MAX_METHOD, MAX_KIND, MAX_FOUND}
 use Rattle.exchange_report.proofs.OneWord.{IsVisible, plain_word}
 
@@ -59,9 +64,10 @@ user : (a : Option Address) → HasNoEnd (user_text a)
 user (Some a) = address a
 user None = const (codes "-") refl
 
-origin : (a : Option Address) → HasNoEnd (origin_text a)
-origin (Some a) = joined (codes "HIER_DIRECT/") (address_text a) (const (codes "HIER_DIRECT/") refl) (address a)
-origin None = const (codes "HIER_NONE/-") refl
+destination : (d : Option Destination) → HasNoEnd (destination_text d)
+destination (Some (Origin a)) = joined (codes "HIER_DIRECT/") (address_text a) (const (codes "HIER_DIRECT/") refl) (address a)
+destination (Some (Parent a)) = joined (codes "FIRSTUP_PARENT/") (address_text a) (const (codes "FIRSTUP_PARENT/") refl) (address a)
+destination None = const (codes "HIER_NONE/-") refl
 
 tag : (refused : Bool) → HasNoEnd (tag_text refused)
 tag true = const (codes " TCP_DENIED/") refl
@@ -87,27 +93,15 @@ verdict : (v : Verdict) → HasNoEnd (verdict_text v)
 verdict v = joined _ (reply_word v.reply) (joined _ _ (option v.retried (codes "retry+") (const (codes "retry+") refl))
     (option v.continued (codes "100+") (const (codes "100+") refl))) (reply v.reply)
 
+-- each word of the table is written out
+reason : (r : Reason) → HasNoEnd (reason_word r)
+reason reasons.BadRequest = const (codes "bad-request") refl
+reason r = const (reason_word r) refl
+
 why : (w : Why) → HasNoEnd (why_word w)
 why Served = const (codes "-") refl
-why BadRequest = const (codes "bad-request") refl
-why NotServed = const (codes "not-served") refl
-why RequestBroken = const (codes "request-broken") refl
-why UnknownHost = const (codes "unknown-host") refl
-why OriginRefused = const (codes "origin-refused") refl
-why OriginBroken = const (codes "origin-broken") refl
-why OriginDeadline = const (codes "origin-deadline") refl
-why ServiceRefused = const (codes "service-refused") refl
-why ServiceStatus = const (codes "service-status") refl
-why ServiceBroken = const (codes "service-broken") refl
-why ServiceDeadline = const (codes "service-deadline") refl
-why Busy = const (codes "busy") refl
-why Full = const (codes "full") refl
-why NoRow = const (codes "no-row") refl
-why NoSeat = const (codes "no-seat") refl
-why NoMemory = const (codes "no-memory") refl
-why UserDeadline = const (codes "user-deadline") refl
 why UserGone = const (codes "user-gone") refl
-why Stopping = const (codes "stopping") refl
+why (Failed r) = reason r
 
 head : (e : Entry) → HasNoEnd (head_text e)
 head e =
@@ -129,8 +123,8 @@ request : (e : Entry) → All (λ b. b < 256) e.method.now → All (λ b. b < 25
 request e method target kind =
     let blank : HasNoEnd (codes " ") = const (codes " ") refl in
     pairs (codes " ") (word_of (take MAX_METHOD e.method.now)) (codes " ") (word_of (take MAX_TARGET e.target.now)) (codes " - ")
-    (origin_text e.origin) (codes " ") (word_of (take MAX_KIND e.kind.now)) blank (word MAX_METHOD e.method.now method) blank
-    (word MAX_TARGET e.target.now target) (const (codes " - ") refl) (origin e.origin) blank (word MAX_KIND e.kind.now kind)
+    (destination_text e.destination) (codes " ") (word_of (take MAX_KIND e.kind.now)) blank (word MAX_METHOD e.method.now method) blank
+    (word MAX_TARGET e.target.now target) (const (codes " - ") refl) (destination e.destination) blank (word MAX_KIND e.kind.now kind)
 
 -- the end's fields, before the byte that ends the line
 abbrev fields : Entry → List ℕ

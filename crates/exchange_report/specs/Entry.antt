@@ -1,14 +1,17 @@
 -- The log's line of an exchange: the fields of Squid's native format in their order, and five more.
 use Rattle.std.specs.Prelude.{ℕ, ◌/◌, ◌%◌, Bool, List, [], ◌++◌, Option, Some, None, take, nat_lt, if◌then◌else◌, codes}
 use Rattle.adapt_bytes.specs.Numeral.{numeral, three_digits}
+use Rattle.exchange_report.specs.Reasons.{reason_word}
 use Rattle.exchange_report.specs.Words.{word_of}
 use Rattle.exchange_report.specs.declared.entry.Address.{Address}
+use Rattle.exchange_report.specs.declared.entry.Destination.{Destination}
+use Rattle.exchange_report.specs.declared.entry.Destination.TheVariants.{Origin, Parent}
 use Rattle.exchange_report.specs.declared.entry.Entry.{Entry}
 use Rattle.exchange_report.specs.declared.verdict.Reply.{Reply}
 use Rattle.exchange_report.specs.declared.verdict.Reply.TheVariants.{Missing, Plain, Unchanged, Changed}
 use Rattle.exchange_report.specs.declared.verdict.Verdict.{Verdict}
 use Rattle.exchange_report.specs.declared.why.Why.{Why}
-use Rattle.exchange_report.specs.declared.why.Why.TheVariants.{Served, BadRequest, NotServed, RequestBroken, UnknownHost, OriginRefused, OriginBroken, OriginDeadline, ServiceRefused, ServiceStatus, ServiceBroken, ServiceDeadline, Busy, Full, NoRow, NoSeat, NoMemory, UserDeadline, UserGone, Stopping}
+use Rattle.exchange_report.specs.declared.why.Why.TheVariants.{Served, UserGone, Failed}
 use Rattle.exchange_report.specs.declared.words.TheConstants.{MAX_TARGET, MAX_METHOD, MAX_KIND, MAX_FOUND}
 
 abbrev pub address_text : Address → List ℕ
@@ -19,10 +22,11 @@ abbrev pub user_text : Option Address → List ℕ
 user_text (Some address) = address_text address
 user_text None = codes "-"
 
--- where the request went
-abbrev pub origin_text : Option Address → List ℕ
-origin_text (Some address) = codes "HIER_DIRECT/" ++ address_text address
-origin_text None = codes "HIER_NONE/-"
+-- where the request went: straight to its origin, to the parent, or nowhere
+abbrev pub destination_text : Option Destination → List ℕ
+destination_text (Some (Origin address)) = codes "HIER_DIRECT/" ++ address_text address
+destination_text (Some (Parent address)) = codes "FIRSTUP_PARENT/" ++ address_text address
+destination_text None = codes "HIER_NONE/-"
 
 -- whose answer it is: the proxy's own is denied
 abbrev pub tag_text : Bool → List ℕ
@@ -41,7 +45,7 @@ head_text e = numeral 10 (e.ended / 1000) ++ codes "." ++ three_digits (e.ended 
 -- the method, the target, no login, where the request went, and the media type of the answer
 abbrev pub request_text : Entry → List ℕ
 request_text e = codes " " ++ word_of (take MAX_METHOD e.method.now) ++ codes " " ++ word_of (take MAX_TARGET e.target.now) ++ codes " - "
-    ++ origin_text e.origin ++ codes " " ++ word_of (take MAX_KIND e.kind.now)
+    ++ destination_text e.destination ++ codes " " ++ word_of (take MAX_KIND e.kind.now)
 
 abbrev pub reply_word : Reply → List ℕ
 reply_word Missing = codes "-"
@@ -55,25 +59,8 @@ verdict_text v = (if v.retried then codes "retry+" else []) ++ (if v.continued t
 
 abbrev pub why_word : Why → List ℕ
 why_word Served = codes "-"
-why_word BadRequest = codes "bad-request"
-why_word NotServed = codes "not-served"
-why_word RequestBroken = codes "request-broken"
-why_word UnknownHost = codes "unknown-host"
-why_word OriginRefused = codes "origin-refused"
-why_word OriginBroken = codes "origin-broken"
-why_word OriginDeadline = codes "origin-deadline"
-why_word ServiceRefused = codes "service-refused"
-why_word ServiceStatus = codes "service-status"
-why_word ServiceBroken = codes "service-broken"
-why_word ServiceDeadline = codes "service-deadline"
-why_word Busy = codes "busy"
-why_word Full = codes "full"
-why_word NoRow = codes "no-row"
-why_word NoSeat = codes "no-seat"
-why_word NoMemory = codes "no-memory"
-why_word UserDeadline = codes "user-deadline"
 why_word UserGone = codes "user-gone"
-why_word Stopping = codes "stopping"
+why_word (Failed reason) = reason_word reason
 
 -- what a service made of the request and of the response, why the exchange ended otherwise than by its answer, what a service found,
 -- and the bytes of the request's body

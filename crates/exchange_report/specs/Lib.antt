@@ -1,4 +1,5 @@
 pub mod Entry
 pub mod Lines
 pub mod Metrics
+pub mod Reasons
 pub mod Words

@@ -1,7 +1,7 @@
 //! The log's line of an exchange, in the native format of Squid's `access.log`, with five fields after it.
 
 ghost use Rattle.std.specs.Prelude.{◌≡◌, ◌++◌, ◌<◌, OnOk};
-ghost use Rattle.exchange_report.specs.Entry.{address_text, user_text, origin_text, tag_text, status_text, head_text, request_text, end_text, line_text};
+ghost use Rattle.exchange_report.specs.Entry.{address_text, user_text, destination_text, tag_text, status_text, head_text, request_text, end_text, line_text};
 
 use crate::verdict::{Verdict, write_verdict};
 use crate::why::Why;
@@ -18,6 +18,15 @@ pub struct Address {
     pub fourth: u8,
 }
 
+/// Where a request went.
+#[derive(Clone, Copy, Debug, PartialEq, Eq)]
+pub enum Destination {
+    /// Straight to its origin, at this address.
+    Origin(Address),
+    /// To the parent, at this address.
+    Parent(Address),
+}
+
 /// An exchange that is over: a user's request, and what went back.
 ///
 /// ```
@@ -30,7 +39,7 @@ pub struct Address {
 ///     sent: 1015,
 ///     method: b"GET",
 ///     target: b"http://o.test/a b",
-///     origin: None,
+///     destination: None,
 ///     kind: b"text/html",
 ///     reqmod: Verdict::none(),
 ///     respmod: Verdict { retried: false, continued: true, reply: Reply::Unchanged },
@@ -59,7 +68,7 @@ pub struct Entry<'a> {
     pub method: &'a [u8],
     pub target: &'a [u8],
     /// Where the request went; none where it went nowhere.
-    pub origin: Option<Address>,
+    pub destination: Option<Destination>,
     /// The media type of the answer.
     pub kind: &'a [u8],
     pub reqmod: Verdict,
@@ -95,12 +104,16 @@ fn write_user(out: &mut Vec<u8>, user: Option<Address>) -> Result<(), AllocError
 }
 
 /// Adds where the request went.
-fn write_origin(out: &mut Vec<u8>, origin: Option<Address>) -> Result<(), AllocError>
-    ensures { OnOk result (out.new.items ≡ out.old.items ++ origin_text origin) }
+fn write_destination(out: &mut Vec<u8>, destination: Option<Destination>) -> Result<(), AllocError>
+    ensures { OnOk result (out.new.items ≡ out.old.items ++ destination_text destination) }
 {
-    match origin {
-        Some(address) => {
+    match destination {
+        Some(Destination::Origin(address)) => {
             out.extend_from_slice(b"HIER_DIRECT/")?;
+            write_address(out, address)
+        }
+        Some(Destination::Parent(address)) => {
+            out.extend_from_slice(b"FIRSTUP_PARENT/")?;
             write_address(out, address)
         }
         None => out.extend_from_slice(b"HIER_NONE/-"),
@@ -155,7 +168,7 @@ fn write_request(out: &mut Vec<u8>, entry: &Entry<'_>) -> Result<(), AllocError>
     out.extend_from_slice(b" ")?;
     write_word(out, MAX_TARGET, entry.target)?;
     out.extend_from_slice(b" - ")?;
-    write_origin(out, entry.origin)?;
+    write_destination(out, entry.destination)?;
     out.extend_from_slice(b" ")?;
     write_word(out, MAX_KIND, entry.kind)
 }

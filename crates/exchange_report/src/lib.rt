@@ -1,6 +1,6 @@
-//! What operators read: the log's line of an exchange, and the text of the counters.
+//! What operators read: the log's line of an exchange, and the text of the counters; and the table of the reasons that both name.
 //!
-//! Both are functions of records. No value from outside can end a line or begin a field: it is written as one word.
+//! The texts are functions of records. No value from outside can end a line or begin a field: it is written as one word.
 //!
 //! What is noted and counted under a lock is in `shard_report`, so that each text is proved from its record alone.
 #![tactic(auto)]
@@ -8,12 +8,14 @@
 mod entry;
 pub mod laws;
 mod metrics;
+mod reason;
 mod verdict;
 mod why;
 mod words;
 
-pub use entry::{Address, Entry, write_line};
+pub use entry::{Address, Destination, Entry, write_line};
 pub use metrics::{Family, Kind, Metric, metrics_text};
+pub use reason::{REASONS, Reason};
 pub use verdict::{Reply, Verdict};
 pub use why::Why;
 pub use words::{MAX_FOUND, MAX_KIND, MAX_METHOD, MAX_TARGET};

@@ -1,6 +1,6 @@
 -- A source's side over its wire.
 use Rattle.std.specs.Prelude.{◌≡◌, ◌≢◌, ℕ, ◌+◌, ◌<◌, ◌≤◌, ◌⊎◌, ◌||◌, Bool, true, false, List, [], ◌++◌, length, take, Option, Some, None as Nothing, Result, Ok, Err, IfSome}
-use Rattle.http_side.specs.Heads.{RequestParts, ResponseParts}
+use Rattle.http_side.specs.Heads.{RequestParts, ResponseParts, IsRequestText}
 use Rattle.http_side.specs.Requests.{IsRead}
 use Rattle.http_side.specs.Responses.{IsResponseRead}
 use Rattle.http_side.specs.Framings.{request_framing, response_framing}
@@ -57,6 +57,12 @@ request_of _ = Nothing
 abbrev pub response_of : SourceHead → Option ResponseParts
 response_of (heads.Response r) = Some r
 response_of _ = Nothing
+
+-- these bytes are a text that is just the head of this request, and then those that were left over
+abbrev pub ComesAgain : SourceHead → (left bytes : List ℕ) → Type 0
+ComesAgain heads.Unread left bytes = ⊥
+ComesAgain (heads.Request r) left bytes = (text : List ℕ) × IsRequestText text r × (bytes ≡ text ++ left)
+ComesAgain (heads.Response r) left bytes = ⊥
 
 -- how the body after the head is framed
 abbrev pub framing_of : SourceHead → Framing

@@ -1,6 +1,6 @@
 //! The source's side: a message's head, and its body, over a wire.
 
-ghost use Rattle.std.specs.Prelude.{◌≡◌, ◌<◌, ◌≤◌, [], length, take, IfOk, IfErr, OnOk, OnErr, None, true, false, List, ℕ, ◌↔◌, IsTrue, option_copied};
+ghost use Rattle.std.specs.Prelude.{◌≡◌, ◌<◌, ◌≤◌, [], ◌++◌, length, take, IfOk, IfSome, IfErr, OnOk, OnErr, None, true, false, List, ℕ, ◌↔◌, IsTrue, option_copied};
 ghost use Rattle.trace_core.specs.History.{seen, shows};
 ghost use Rattle.trace_core.specs.Turns.{in_sum};
 ghost use Rattle.adapt_sides.specs.declared.filling.TheConstants.{MAX_READ};
@@ -8,7 +8,7 @@ ghost use Rattle.http_side.specs.Body.{is_over};
 ghost use Rattle.http_relay.specs.Source.{Agrees, MustWait, Refuses, TellsEnd};
 ghost use Rattle.adapt_sides.specs.Turns.{ReadsBody};
 ghost use Rattle.http_relay.specs.Judging.{IsLooking};
-ghost use Rattle.http_relay.specs.Reading.{AtHead, GivesBack, request_of, response_of, SideRead, SideReads, Rests, HasFramed, IsOver, ReadTurn};
+ghost use Rattle.http_relay.specs.Reading.{AtHead, ComesAgain, GivesBack, request_of, response_of, SideRead, SideReads, Rests, HasFramed, IsOver, ReadTurn};
 ghost use Rattle.trace_core.specs.declared.history.Seen.{Seen};
 ghost use Rattle.wire_kit.specs.Past.{Past};
 
@@ -16,7 +16,7 @@ use crate::source_body::SourceBody;
 use adapt_sides::{Filled, RawBytes, RelayFault, Turn, fill};
 use arrayvec::ArrayVec;
 use http_side::{Framing, HttpFault, HttpRequest, HttpResponse};
-use std::alloc::Global;
+use std::alloc::{AllocError, Global};
 use trace_core::{Event, Plan, State};
 use wire_kit::Wire;
 
@@ -64,6 +64,18 @@ pub struct SourceSide {
     judged: usize,
     interims: u32,
     fault: Option<RelayFault>,
+}
+
+/// These bytes, one text behind the other.
+fn joined(alloc: Global, first: &[u8], second: &[u8]) -> Result<RawBytes, AllocError>
+    ensures { IfOk result (λ raw. raw.items ≡ first.now ++ second.now) }
+{
+    let mut raw = RawBytes::new(alloc);
+    raw.reserve(first.len())?;
+    raw.extend_reserved(first);
+    raw.reserve(second.len())?;
+    raw.extend_reserved(second);
+    Ok(raw)
 }
 
 impl SourceSide {
@@ -236,6 +248,13 @@ impl SourceSide {
         !self.is_unread() && self.body.has_ended()
     }
 
+    /// Whether every byte that was read was taken: none is left over after the message.
+    pub fn has_none_left(&self) -> bool
+        ensures { result ≡ true ↔ self.now.raw.items ≡ [] }
+    {
+        self.raw.is_empty()
+    }
+
     /// Goes on to the next message on this connection: the raw bytes left over are its first.
     pub fn next(&mut self)
         requires over { self.old.body.ended ≡ true }
@@ -252,6 +271,39 @@ impl SourceSide {
         self.judged = 0;
         self.interims = 0;
         self.fault = None;
+    }
+
+    /// The same request again, of which no byte was read yet: the head's own bytes are the first ones that are kept, and what is left over
+    /// comes behind them. `None` where no request was read, it has a body, or no memory was found.
+    pub fn again(self) -> Option<SourceSide>
+        ensures begins { IfSome result (λ side. AtHead side.raw.items side) }
+        ensures same { IfSome result (λ side. ComesAgain self.head self.raw.items side.raw.items) }
+        ensures looks { IfSome result (λ side. IsLooking side) }
+        ensures fault { IfSome result (λ side. side.fault ≡ None) }
+        ensures asks { IfSome result (λ side. side.asks ≡ Asks.Request) }
+    {
+        let SourceSide {
+            alloc,
+            asks: _,
+            head,
+            head_fault: _,
+            body,
+            raw,
+            judged: _,
+            interims: _,
+            fault: _,
+        } = self;
+        let SourceHead::Request(head) = head else {
+            return None;
+        };
+        if !matches!(body.framing(), Framing::None | Framing::Length(0)) {
+            return None;
+        }
+        let text = head.into_text();
+        match joined(alloc, text.as_slice(), raw.as_slice()) {
+            Ok(raw) => Some(SourceSide::fresh(alloc, Asks::Request, raw)),
+            Err(AllocError) => None,
+        }
     }
 
     /// Whether requests come, and no responses.

@@ -1,14 +1,14 @@
 -- Why a request's head is refused.
-use Rattle.std.proofs.Common.{◌≡◌, ℕ, ◌≤◌, ◌⊎◌, inl, inr, Bool, true, false, List, length, take, drop, Option, Some, None, refl, sym, ap, ◌∙◌, subst, arith, length-take}
-use Rattle.std.proofs.lemmas.List.{length-map}
+use Rattle.std.proofs.Common.{◌≡◌, ℕ, ◌≤◌, ◌⊎◌, inl, inr, Bool, true, false, List, [], ◌∷◌, ◌++◌, length, take, drop, Option, Some, None, refl, sym, ap, ◌∙◌, subst, arith, length-take}
+use Rattle.std.proofs.lemmas.List.{append-nil, length-map}
 use Rattle.std.specs.Prelude.{bytes_eq, is_err}
-use Rattle.httparse.specs.Grammar.{RequestHead}
+use Rattle.httparse.specs.Grammar.{RequestHead, print_request}
 use Rattle.httparse.specs.Spans.{IsRequestAt as IsParsedAt, IsRequestOf, header_bytes, name_and_value}
 use Rattle.httparse.specs.declared.spans.HeaderSpan.{HeaderSpan}
 use Rattle.httparse.specs.declared.spans.RequestSpans.{RequestSpans}
 use Rattle.http_side.specs.declared.fault.HttpFault.{HttpFault}
 use Rattle.http_side.specs.declared.fault.HttpFault.TheVariants.{More, Bad, TooLong, TooMany, BothLengths, Lengths, Coding, Target, Connect, NoMemory}
-use Rattle.http_side.specs.Heads.{RequestParts, request_parts, parts_at, judged, request_fault, bad_hosts, both_lengths, unless, IsRequestAt}
+use Rattle.http_side.specs.Heads.{RequestParts, request_parts, parts_at, judged, request_fault, bad_hosts, both_lengths, unless, IsRequestAt, IsRequestText}
 use Rattle.http_side.specs.Lengths.{content_length, coding}
 use Rattle.http_side.specs.Requests.{Refuses, HasRefused, MayRefuseRequest, IsTaken, IsRead}
 
@@ -84,3 +84,20 @@ read_at adapted text front headers spans r is l of parts taken =
       few = few;
       taken = taken;
     }
+
+-- a head at the parser's offsets is there
+pub there_at : (front : List ℕ) (headers : List HeaderSpan) (spans : RequestSpans) → IsRequestOf front headers spans
+    → IsRequestAt front (parts_at front spans (take spans.headers headers)) spans.len
+there_at front headers spans of =
+    record { head = of.0; reads = of.1.reads; len_is = of.1.len; parts_are = sym (parts_same front headers spans of.0 of.1) }
+
+take_front : (a b : List ℕ) → take (length a) (a ++ b) ≡ a
+take_front [] b = refl
+take_front (x ∷ a) b = ap (λ t. x ∷ t) (take_front a b)
+
+-- the bytes of a head, to its last one, are its text
+pub own_text : (text : List ℕ) (parts : RequestParts) (len : ℕ) → IsRequestAt text parts len → IsRequestText (take len text) parts
+own_text text parts len at =
+    let printed : take len text ≡ print_request at.head = ap (λ n. take n text) at.len_is ∙ (ap (take (length (print_request at.head))) at.reads.1
+    ∙ take_front (print_request at.head) (drop len text)) in
+    (at.head, (at.reads.0, printed ∙ sym (append-nil (print_request at.head))), at.parts_are)

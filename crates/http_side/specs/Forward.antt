@@ -20,6 +20,10 @@ use Rattle.http_side.specs.declared.forward.Message.{Message}
 use Rattle.http_side.specs.declared.forward.Message.TheVariants.{Request, Response}
 use Rattle.http_side.specs.declared.forward.BodyKind.{BodyKind}
 use Rattle.http_side.specs.declared.forward.BodyKind.TheVariants.{Own, Body, NullBody}
+use Rattle.http_side.specs.declared.forward.OriginUse.{OriginUse}
+use Rattle.http_side.specs.declared.forward.OriginUse.TheVariants.{Once, Fresh, Kept}
+use Rattle.http_side.specs.declared.forward.NextServer.{NextServer}
+use Rattle.http_side.specs.declared.forward.NextServer.TheVariants.{Origin, Parent}
 use Rattle.http_side.specs.declared.forward.Forward.{Forward}
 use Rattle.http_side.specs.declared.forward.Encapsulated.{Encapsulated}
 
@@ -143,7 +147,7 @@ status_line status phrase = codes "HTTP/1.1 " ++ three_digits status ++ codes " 
 abbrev pub form_of : Bool → List ℕ → List ℕ → List ℕ
 form_of absolute authority path = if absolute then codes "http://" ++ authority ++ rooted path else rooted path
 
--- absolute form to a service, origin form to an origin
+-- absolute form to a service or a parent, origin form to an origin
 abbrev pub target_form : Bool → List ℕ → List ℕ → List ℕ
 target_form absolute authority target = if absolute then absolute_form authority target else origin_form target
 
@@ -242,16 +246,30 @@ is_none (Some x) = false
 abbrev pub gets_zero : Forward → Bool
 gets_zero f = is_response f.message && (not (has_no_place f.message) && (is_none (kept_length f.message) && not (has_body f.part f.message)))
 
--- an origin's connection always ends after its answer
+-- an origin's connection ends after the answer to this request
+abbrev pub is_once : OriginUse → Bool
+is_once Once = true
+is_once Fresh = false
+is_once Kept = false
+
+-- the head says that the connection ends after the message: an origin's by its use, a user's by what holds of the answer
+abbrev pub says_close : Forward → Bool
+says_close f = if is_response f.message then closes f else is_once f.origin.connection
+
 abbrev pub extra_of : Forward → Extra
-extra_of f = record { empty = gets_zero f; chunked = is_chunks (next_framing f); close = not (is_response f.message) || closes f; via = true }
+extra_of f = record { empty = gets_zero f; chunked = is_chunks (next_framing f); close = says_close f; via = true }
 
 abbrev pub no_extra : Extra
 no_extra = record { empty = false; chunked = false; close = false; via = false }
 
+-- a parent proxy gets the target in absolute form, an origin in origin form (RFC 9112, sections 3.2.1 and 3.2.2)
+abbrev pub is_absolute : NextServer → Bool
+is_absolute Origin = false
+is_absolute Parent = true
+
 -- the head as it goes to the next hop
 abbrev pub forwarded : Forward → List ℕ
-forwarded f = written_head f.message (authority_of f.user.now.target) false (extra_of f)
+forwarded f = written_head f.message (authority_of f.user.now.target) (is_absolute f.origin.next) (extra_of f)
 
 -- and to a service
 abbrev pub encapsulated : Encapsulated → List ℕ

@@ -1,5 +1,5 @@
 -- Heads by their parts, and which of them a proxy takes (RFC 9112, sections 2 to 6).
-use Rattle.std.specs.Prelude.{◌≡◌, ℕ, Bool, ◌||◌, ◌&&◌, List, length, map, take, drop, Option, Some, None, is_err, codes, if◌then◌else◌, ◌==◌, nat_lt, bytes_eq}
+use Rattle.std.specs.Prelude.{◌≡◌, ℕ, Bool, ◌||◌, ◌&&◌, List, [], length, map, take, drop, Option, Some, None, is_err, codes, if◌then◌else◌, ◌==◌, nat_lt, bytes_eq}
 use Rattle.httparse.specs.Grammar.{RequestHead, print_request, ReadsRequest, ResponseHead, print_response, ReadsResponse, status_code, reason_phrase}
 use Rattle.httparse.specs.Spans.{name_and_value, span_bytes, header_bytes}
 use Rattle.httparse.specs.declared.spans.HeaderSpan.{HeaderSpan}
@@ -46,6 +46,10 @@ request_parts h = record { method = h.method; target = h.target; minor = h.minor
 
 abbrev pub response_parts : ResponseHead → Bool → ResponseParts
 response_parts h to_head = record { status = status_code h; phrase = reason_phrase h.reason; minor = h.minor; fields = map name_and_value h.fields; to_head = to_head }
+
+-- the text is the head of a request with these parts, and nothing more
+abbrev pub IsRequestText : List ℕ → RequestParts → Type 0
+IsRequestText text parts = (head : RequestHead) × ReadsRequest text head [] × (request_parts head ≡ parts)
 
 -- the text begins with a request's head of this length, which has these parts
 pub record IsRequestAt (text : List ℕ) (parts : RequestParts) (len : ℕ) : Type 0 where

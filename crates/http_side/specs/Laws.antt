@@ -23,6 +23,11 @@ abbrev pub WasRead : Message → Type 0
 WasRead (Request r) = WasReadRequest r.now
 WasRead (Response r) = WasReadResponse r.now
 
+-- the message is this request
+abbrev pub IsRequestOf : RequestParts → Message → Type 0
+IsRequestOf parts (Request r) = r.now ≡ parts
+IsRequestOf parts (Response r) = ⊥
+
 -- the fields of a message as they go on, of this authority, and those of its head with what is added
 abbrev pub passed_fields : List ℕ → Message → List (List ℕ × List ℕ)
 passed_fields authority (Request r) = request_fields authority r.now.fields

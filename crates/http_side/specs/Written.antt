@@ -2,7 +2,7 @@
 use Rattle.std.specs.Prelude.{◌≡◌, ◌≢◌, ℕ, ◌<◌, List, [], ◌∷◌, ◌++◌, map, reverse, All, Some, Bool, false}
 use Rattle.httparse.specs.Grammar.{Field, crlf, IsToken, AllPass, is_value_byte, skip_ows, RequestHead, ReadsRequest, ResponseHead, ReadsResponse}
 use Rattle.adapt_bytes.specs.Numeral.{three_digits}
-use Rattle.http_side.specs.Heads.{RequestParts, ResponseParts, request_parts, response_parts}
+use Rattle.http_side.specs.Heads.{RequestParts, ResponseParts, response_parts, IsRequestText}
 use Rattle.http_side.specs.Requests.{IsRead}
 use Rattle.http_side.specs.Targets.{authority_of}
 use Rattle.http_side.specs.Forward.{request_text, response_text, target_form, request_fields, response_fields, added_fields}
@@ -33,10 +33,6 @@ pub record IsWritable (f : List ℕ × List ℕ) : Type 0 where
 -- no byte of it ends a line or a string
 abbrev pub HasNoBreak : List ℕ → Type 0
 HasNoBreak text = All (λ b. (b ≢ 13) × (b ≢ 10) × (b ≢ 0)) text
-
--- the text is the head of a request with these parts, and nothing more
-abbrev pub IsRequestText : List ℕ → RequestParts → Type 0
-IsRequestText text parts = (head : RequestHead) × ReadsRequest text head [] × (request_parts head ≡ parts)
 
 abbrev pub IsResponseText : List ℕ → ResponseParts → Type 0
 IsResponseText text parts = (head : ResponseHead) × ReadsResponse text head [] × (response_parts head parts.to_head ≡ parts)

@@ -3,7 +3,7 @@
 ghost use Rattle.std.specs.Prelude.{◌≡◌, length, IfOk};
 ghost use Rattle.std.specs.Vec.{vec_capacity};
 ghost use Rattle.http_side.specs.Lengths.{content_length, coding};
-ghost use Rattle.http_side.specs.Forward.{kept_length, has_no_place, is_response, has_body, has_own_body, is_to_old_user, unsized_framing, next_framing, closes, gets_zero, extra_of, forwarded, encapsulated, length_of, is_chunked};
+ghost use Rattle.http_side.specs.Forward.{kept_length, has_no_place, is_response, has_body, has_own_body, is_to_old_user, unsized_framing, next_framing, closes, says_close, gets_zero, is_absolute, extra_of, forwarded, encapsulated, length_of, is_chunked};
 
 use crate::body::Framing;
 use crate::connection::is_named_by;
@@ -35,6 +35,35 @@ pub enum BodyKind {
     NullBody,
 }
 
+/// The use of a connection to an origin or a parent that a request goes out on (RFC 9112, sections 9.3 and 9.6).
+#[derive(Clone, Copy, Debug, PartialEq, Eq)]
+pub enum OriginUse {
+    /// It is closed after the answer to this request, and the request's head says so.
+    Once,
+    /// It was opened for this request, and may carry further ones.
+    Fresh,
+    /// It was kept after the answer to an earlier request, and may carry further ones.
+    Kept,
+}
+
+/// The server that a request goes to next (RFC 9110, section 3.7).
+#[derive(Clone, Copy, Debug, PartialEq, Eq)]
+pub enum NextServer {
+    /// The origin of its target, which gets the target in origin form (RFC 9112, section 3.2.1).
+    Origin,
+    /// A parent proxy, which gets the target in absolute form (RFC 9112, section 3.2.2).
+    Parent,
+}
+
+/// How a request goes to its origin: to which server next, and over which connection.
+#[derive(Clone, Copy, Debug, PartialEq, Eq)]
+pub struct OriginWay {
+    /// The server at the connection's other end.
+    pub next: NextServer,
+    /// The use of the connection.
+    pub connection: OriginUse,
+}
+
 /// A message on its way to the next hop.
 #[derive(Clone, Copy, Debug)]
 pub struct Forward<'u, 'm> {
@@ -47,6 +76,8 @@ pub struct Forward<'u, 'm> {
     /// Whether the user's connection may carry a further request: the body of its request was read to its end, and the message isn't
     /// the last one of the connection.
     pub carries_on: bool,
+    /// How a request goes to its origin. The head of a response doesn't rest on it.
+    pub origin: OriginWay,
 }
 
 /// A message on its way to a service, within an ICAP message.
@@ -56,6 +87,18 @@ pub struct Encapsulated<'u, 'm> {
     pub user: &'u HttpRequest,
     /// What the service gets.
     pub message: Message<'m>,
+}
+
+impl OriginWay {
+    /// Straight to the origin, over a connection of this use.
+    pub fn straight(connection: OriginUse) -> OriginWay
+        ensures { result ≡ record { next = NextServer.Origin; connection = connection } }
+    {
+        OriginWay {
+            next: NextServer::Origin,
+            connection,
+        }
+    }
 }
 
 impl<'a> Message<'a> {
@@ -173,6 +216,16 @@ impl<'u, 'm> Forward<'u, 'm> {
                 || (!self.carries_on || self.framing() == Framing::Close))
     }
 
+    /// Whether the head says that the connection ends after this message: a request's by the use of its connection.
+    fn says_close(&self) -> bool
+        ensures { result ≡ says_close self.now }
+    {
+        match self.message {
+            Message::Request(_) => self.origin.connection == OriginUse::Once,
+            Message::Response(_) => self.closes(),
+        }
+    }
+
     /// Whether the head gets `Content-Length: 0`.
     fn gets_zero(&self) -> bool
         ensures { result ≡ gets_zero self.now }
@@ -182,20 +235,28 @@ impl<'u, 'm> Forward<'u, 'm> {
                 && (self.message.kept_length().is_none() && !self.has_body()))
     }
 
+    /// Whether a request's target is written in absolute form.
+    fn is_absolute(&self) -> bool
+        ensures { result ≡ is_absolute self.now.origin.next }
+    {
+        self.origin.next == NextServer::Parent
+    }
+
     fn extra(&self) -> Extra
         ensures { result ≡ extra_of self.now }
     {
         Extra {
             empty: self.gets_zero(),
             chunked: self.framing() == Framing::Chunked,
-            close: !self.message.is_response() || self.closes(),
+            close: self.says_close(),
             via: true,
         }
     }
 }
 
-/// The head as the next hop gets it. A request goes in origin form and as HTTP/1.1, with the authority of the user's target
-/// as its Host. Fields that end at a proxy, and those that Connection names, are dropped.
+/// The head as the next hop gets it. A request goes as HTTP/1.1, to an origin in origin form and to a parent in absolute form, with the
+/// authority of the user's target as its Host. Fields that end at a proxy, and those that Connection names, are dropped. It gets
+/// `Connection: close` exactly where the connection ends after it.
 pub fn forward_head(alloc: Global, forward: &Forward<'_, '_>) -> Result<Vec<u8>, AllocError>
     ensures text { IfOk result (λ text. text.items ≡ forwarded forward.now) }
 
@@ -203,7 +264,8 @@ pub fn forward_head(alloc: Global, forward: &Forward<'_, '_>) -> Result<Vec<u8>,
     ensures room { IfOk result (λ text. vec_capacity text ≡ length text.items) }
 {
     let authority = authority_of(forward.user.target());
-    written_head(alloc, forward.message, authority, false, forward.extra())
+    let absolute = forward.is_absolute();
+    written_head(alloc, forward.message, authority, absolute, forward.extra())
 }
 
 /// The head as a service gets it: a request in absolute form, and nothing added.

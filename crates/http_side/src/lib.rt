@@ -15,6 +15,7 @@ mod forward;
 mod framing;
 mod head;
 mod items;
+mod lasting;
 pub mod laws;
 mod lengths;
 mod names;
@@ -28,7 +29,10 @@ mod writing;
 pub use body::{BodyReader, Framing, ends_with_the_body};
 pub use fault::HttpFault;
 pub use fields::{Fields, Values};
-pub use forward::{BodyKind, Encapsulated, Forward, Message, encapsulated_head, forward_head};
+pub use forward::{
+    BodyKind, Encapsulated, Forward, Message, NextServer, OriginUse, OriginWay, encapsulated_head,
+    forward_head,
+};
 pub use head::Head;
 pub use refusal::own_refusal;
 pub use request::{HttpRequest, read_request};

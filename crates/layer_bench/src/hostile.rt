@@ -1,5 +1,7 @@
 //! A request of 100 fields in 16,384 bytes. Its Connection has as many items as fit, and they name no field.
-use http_side::{BodyKind, Forward, Message, NoMemory, forward_head, read_request};
+use http_side::{
+    BodyKind, Forward, Message, NoMemory, OriginUse, OriginWay, forward_head, read_request,
+};
 use std::alloc::Global;
 
 /// The names and the items have one letter each, so that as many as can be are there.
@@ -37,6 +39,7 @@ pub fn read_and_forward(alloc: Global, text: &[u8], times: u32) -> u64 {
                 message: Message::Request(&head.value),
                 part: BodyKind::Own,
                 carries_on: true,
+                origin: OriginWay::straight(OriginUse::Once),
             };
             if let Ok(text) = forward_head(alloc, &forward) {
                 bytes = bytes.saturating_add(text.len() as u64);

@@ -1,7 +1,8 @@
 //! A request of 400 bytes with 10 fields, read and written again and again.
 use adapt_bytes::MAX_FIELDS;
 use http_side::{
-    BodyKind, Encapsulated, Forward, Message, encapsulated_head, forward_head, read_request,
+    BodyKind, Encapsulated, Forward, Message, OriginUse, OriginWay, encapsulated_head,
+    forward_head, read_request,
 };
 use httparse::Status;
 use httparse::spans::{EMPTY_HEADER_SPAN, parse_request};
@@ -46,6 +47,7 @@ pub fn read_and_write(alloc: Global, times: u32) -> u64 {
                 message,
                 part: BodyKind::Own,
                 carries_on: true,
+                origin: OriginWay::straight(OriginUse::Once),
             };
             if let Ok(text) = forward_head(alloc, &forward) {
                 bytes = bytes.saturating_add(text.len() as u64);

@@ -1,3 +1,4 @@
 pub mod Marks
 pub mod Requests
+pub mod Shares
 pub mod Sparing

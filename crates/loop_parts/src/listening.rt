@@ -3,6 +3,7 @@
 use mio::net::{TcpListener, TcpStream};
 use mio::{Interest, Registry, Token};
 use std::io::{self, ErrorKind};
+use std::net::SocketAddr;
 use std::time::Duration;
 
 /// What the system answers if it has no room for a connection, whoever it comes from: no memory, or no descriptor, of the
@@ -21,8 +22,8 @@ const REST: u64 = 20;
 /// What asking for a connection gave.
 #[derive(Drop)]
 pub enum Accepted {
-    /// A connection.
-    One(TcpStream),
+    /// A connection, and where it comes from.
+    One(TcpStream, SocketAddr),
     /// One that was gone before it was taken: the next may be there.
     Gone,
     /// No connection waits.
@@ -107,7 +108,7 @@ impl Listening {
     pub fn accept(&mut self) -> Accepted {
         self.pause = Pause::None;
         match self.listener.accept() {
-            Ok((stream, _)) => Accepted::One(stream),
+            Ok((stream, from)) => Accepted::One(stream, from),
             Err(error) if error.kind() == ErrorKind::WouldBlock => Accepted::None,
             Err(error) if is_want_of_room(&error) => {
                 self.rest();

@@ -1,8 +1,9 @@
 //! The descriptors of the process, and who may have them: users, and idle connections to services.
 
-ghost use Rattle.std.specs.Prelude.{◌≡◌, ◌≤◌, ◌<◌, ◌+◌, ◌*◌, ◌↔◌, true, ℕ};
+ghost use Rattle.std.specs.Prelude.{◌≡◌, ◌≤◌, ◌<◌, ◌+◌, ◌*◌, ◌↔◌, true, false, ℕ, IfSome};
 ghost use Rattle.loop_parts.specs.declared.room.TheConstants.{USER};
 
+use crate::addresses::Share;
 use crate::asker::MAX_ASKERS;
 use libc::types::rlimit;
 use libc::{RLIMIT_NOFILE, getrlimit};
@@ -16,8 +17,8 @@ const OWN: u64 = 7;
 /// Descriptors of the administrator's port, and of that of the counters: its own, and its connections'.
 const ASKERS: u64 = 1 + MAX_ASKERS as u64;
 
-/// Descriptors of a loop: its poll and its waker.
-const LOOP: u64 = 2;
+/// Descriptors of a loop: its poll, the same once more for other threads, and its waker.
+const LOOP: u64 = 3;
 
 /// Descriptors of a user: its connection's, and those of its exchange, one to the origin and one to a service.
 pub const USER: u64 = 3;
@@ -35,6 +36,10 @@ pub struct Room {
     users: AtomicU64,
     /// How many of the users have ended their side.
     ended: AtomicU64,
+    /// How many connections were closed that came from elsewhere than users may.
+    refused: AtomicU64,
+    /// How many were refused since their address had as many as it may.
+    over: AtomicU64,
 }
 
 /// A user's permit. There is room for another one once it is dropped.
@@ -42,21 +47,48 @@ pub struct UserPermit {
     room: Arc<Room>,
     /// Whether the user has ended its side: then it is counted among those.
     ended: bool,
+    /// What it has of the connections of its address.
+    share: Share,
 }
 
 impl UserPermit {
+    ghost use Rattle.loop_parts.specs.Shares.{has_none, is_over};
+
     /// The user has ended its side. That is counted once.
-    pub fn end(&mut self) {
+    pub fn end(&mut self)
+        ensures { is_over self.new ≡ is_over self.old }
+    {
         if !self.ended {
             self.ended = true;
             let _ = self.room.ended.fetch_add(1, Ordering::SeqCst);
         }
     }
+
+    /// The user has this share of the connections of its address. One that has none is counted.
+    pub fn have(&mut self, share: Share)
+        ensures { is_over self.new ≡ has_none share }
+    {
+        if matches!(&share, Share::Over) {
+            let _ = self.room.over.fetch_add(1, Ordering::SeqCst);
+        }
+        self.share = share;
+    }
+
+    /// Whether the user's address has as many connections as it may without this one.
+    pub fn is_over(&self) -> bool
+        ensures { result ≡ is_over self.now }
+    {
+        matches!(&self.share, Share::Over)
+    }
 }
 
 impl Drop for UserPermit {
     fn drop(self) {
-        let UserPermit { room, ended } = self;
+        let UserPermit {
+            room,
+            ended,
+            share: _,
+        } = self;
         if ended {
             let _ = room.ended.fetch_sub(1, Ordering::SeqCst);
         }
@@ -94,6 +126,8 @@ fn fits(used: u64, more: u64, all: u64) -> bool
 }
 
 impl Room {
+    ghost use Rattle.loop_parts.specs.Shares.{is_over};
+
     /// Room for `most` users, and for `idle` idle connections beside them.
     pub fn new(most: u64, idle: u64) -> Room {
         Room {
@@ -102,6 +136,8 @@ impl Room {
             used: AtomicU64::new(0),
             users: AtomicU64::new(0),
             ended: AtomicU64::new(0),
+            refused: AtomicU64::new(0),
+            over: AtomicU64::new(0),
         }
     }
 
@@ -145,6 +181,21 @@ impl Room {
         self.ended.load(Ordering::SeqCst) > 0
     }
 
+    /// A connection was closed that came from elsewhere than users may.
+    pub fn refuse(&self) {
+        let _ = self.refused.fetch_add(1, Ordering::SeqCst);
+    }
+
+    /// How many connections were closed that came from elsewhere than users may.
+    pub fn refused(&self) -> u64 {
+        self.refused.load(Ordering::SeqCst)
+    }
+
+    /// How many users were refused since their address had as many connections as it may.
+    pub fn over(&self) -> u64 {
+        self.over.load(Ordering::SeqCst)
+    }
+
     /// Whether only idle connections keep the next user out.
     pub fn has_too_many_idle(&self) -> bool {
         self.users.load(Ordering::SeqCst) < self.most
@@ -152,7 +203,9 @@ impl Room {
     }
 
     /// A permit for one more user, if there is room.
-    pub fn enter(room: &Arc<Room>) -> Option<UserPermit> {
+    pub fn enter(room: &Arc<Room>) -> Option<UserPermit>
+        ensures { IfSome result (λ permit. is_over permit ≡ false) }
+    {
         if room.users.load(Ordering::SeqCst) >= room.most {
             return None;
         }
@@ -161,7 +214,11 @@ impl Room {
             return None;
         }
         let _ = room.users.fetch_add(1, Ordering::SeqCst);
-        Some(UserPermit { room, ended: false })
+        Some(UserPermit {
+            room,
+            ended: false,
+            share: Share::Unlimited,
+        })
     }
 
     /// A permit for one more idle connection, if there is room.

@@ -2,8 +2,8 @@
 use Rattle.std.specs.Prelude.{ℕ, List, ◌++◌, codes}
 use Rattle.adapt_bytes.specs.Numeral.{numeral}
 use Rattle.shard_report.specs.declared.audit.StopAudit.{StopAudit}
-use Rattle.shard_report.specs.declared.audit.ServeFault.{ServeFault}
-use Rattle.shard_report.specs.declared.audit.ServeFault.TheVariants.{System, Loop, Missing, NoMemory, Unheard}
+use Rattle.shard_report.specs.declared.audit.ProxyFault.{ProxyFault}
+use Rattle.shard_report.specs.declared.audit.ProxyFault.TheVariants.{System, Loop, Missing, NoMemory, Unheard}
 use Rattle.proxy_commands.specs.declared.error.Error.TheVariants.{NoMemory as WithoutMemory, WriteFailed}
 use Rattle.proxy_commands.specs.declared.serve_error.ServeError.{ServeError}
 use Rattle.proxy_commands.specs.declared.serve_error.ServeError.TheVariants.{Ended, CannotListen, AuditMissing}
@@ -13,7 +13,7 @@ abbrev pub audit_text : StopAudit → List ℕ
 audit_text a = (((((codes "audit rows " ++ numeral 10 a.rows) ++ codes " held ") ++ numeral 10 a.held) ++ codes " leased ") ++ numeral 10 a.leased) ++ codes "\n"
 
 -- the error that a fault of the proxy's ends the program with
-abbrev pub serve_error_of : ServeFault → ServeError
+abbrev pub serve_error_of : ProxyFault → ServeError
 serve_error_of System = CannotListen
 serve_error_of Loop = CannotListen
 serve_error_of Missing = AuditMissing

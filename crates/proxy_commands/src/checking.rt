@@ -90,6 +90,18 @@ fn warn_of_needs<E: Write>(
     Ok(())
 }
 
+/// Warns where everyone who reaches the users' port may use the proxy, and it isn't on the loopback.
+fn warn_of_users<E: Write>(config: &Config, errors: &mut E) -> io::Result<()> {
+    if config.users.is_some() || config.listen.ip().is_loopback() {
+        return Ok(());
+    }
+    let listen = config.listen;
+    writeln!(
+        errors,
+        "adaptproxy: users: everyone who reaches {listen} may use the proxy"
+    )
+}
+
 /// Says what is at fault: where a text is no document, and what the value of a key may be.
 fn explain<E: Write>(
     alloc: Global,
@@ -123,13 +135,15 @@ fn judge<O: Write, E: Write>(
     let config = configuration_of(alloc, text)?;
     // A warning that can't be written changes nothing.
     let _ = warn_of_needs(&config, machine, errors);
+    let _ = warn_of_users(&config, errors);
     let _ = warn_of_hosts(alloc, text, errors);
     say(output, b"ok\n")
 }
 
 /// Reads a configuration, and says that it is one; or why not, beginning with the line with which `serve` would end. Answers the
 /// exit status, which is that of `serve`. Warns if the configuration may need more descriptors or memory than there are, as far
-/// as the system says how many, and of hosts that no request names.
+/// as the system says how many, of users who may come from
+/// everywhere, and of hosts that no request names.
 pub fn check_with<I: Read + Drop, O: Write, E: Write>(
     alloc: Global,
     reader: I,

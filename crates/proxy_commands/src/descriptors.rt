@@ -7,12 +7,13 @@ ghost use Rattle.proxy_commands.specs.Descriptors.{connections_of, descriptors_o
 use adapt_bytes::read_decimal;
 use proxy_config::{Config, ServicePoint};
 
-/// Beside its users and theirs each thread has a poll and a waker, and users that it refuses.
-const OF_A_THREAD: u64 = 18;
+/// Beside its users and theirs each thread has a poll, the same once more for the other threads, a waker, and users that it
+/// refuses.
+const OF_A_THREAD: u64 = 19;
 
-/// The standard streams, the ports, the administrator's connections, the poll and the waker of their loop, and what the
-/// system's library may open.
-const OF_THE_PROGRAM: u64 = 24;
+/// The standard streams, the ports, the administrator's connections, the poll of their loop, the same once more, its waker, and
+/// what the system's library may open.
+const OF_THE_PROGRAM: u64 = 25;
 
 /// How the line on descriptors begins in what the system says of a process's limits.
 const OPEN_FILES: &[u8] = b"Max open files ";
@@ -29,13 +30,14 @@ fn connections(service: &Option<ServicePoint>) -> u64
 }
 
 /// The most descriptors that a configuration may need: each thread may have `rows` users, each with an origin's connection and
-/// a service's, and as many connections to services as are configured may be idle.
+/// a service's, and as many connections to services and to origins as are configured may be idle.
 pub fn descriptors(config: &Config) -> u64
     ensures { result ≡ descriptors_of config.now }
 {
     let users = config.shards * config.rows;
     let services = connections(&config.reqmod) + connections(&config.respmod);
-    users * 3 + services + config.shards * OF_A_THREAD + OF_THE_PROGRAM
+    let origins = config.shards * config.keep_origins;
+    users * 3 + services + origins + config.shards * OF_A_THREAD + OF_THE_PROGRAM
 }
 
 /// The number of descriptors that a process may have, by `/proc/self/limits`; `None` if that gives no number.

@@ -6,18 +6,18 @@ ghost use Rattle.proxy_commands.specs.Endings.{audit_text, serve_error_of};
 use crate::answers::write_number;
 use crate::error::Error;
 use crate::serve_error::ServeError;
-use shard_report::{ServeFault, StopAudit};
+use shard_report::{ProxyFault, StopAudit};
 use std::alloc::{AllocError as NoMemory, Global};
 
 /// The error that a fault of the proxy's ends the program with.
-pub fn error_of(fault: ServeFault) -> ServeError
+pub fn error_of(fault: ProxyFault) -> ServeError
     ensures { result ≡ serve_error_of fault }
 {
     match fault {
-        ServeFault::System | ServeFault::Loop => ServeError::CannotListen,
-        ServeFault::Missing => ServeError::AuditMissing,
-        ServeFault::NoMemory => ServeError::Ended(Error::NoMemory),
-        ServeFault::Unheard => ServeError::Ended(Error::WriteFailed),
+        ProxyFault::System | ProxyFault::Loop => ServeError::CannotListen,
+        ProxyFault::Missing => ServeError::AuditMissing,
+        ProxyFault::NoMemory => ServeError::Ended(Error::NoMemory),
+        ProxyFault::Unheard => ServeError::Ended(Error::WriteFailed),
     }
 }
 

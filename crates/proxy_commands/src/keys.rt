@@ -4,7 +4,7 @@
 type Entry = (&'static str, &'static str);
 
 /// The keys of the document.
-const OF_THE_DOCUMENT: [Entry; 23] = [
+const OF_THE_DOCUMENT: [Entry; 29] = [
     (
         "listen",
         "an IPv4 address and a port, as \"127.0.0.1:3128\"",
@@ -32,6 +32,20 @@ const OF_THE_DOCUMENT: [Entry; 23] = [
         "metrics",
         "an IPv4 address and a port, as \"127.0.0.1:9140\", which isn't that of listen or admin (default: none)",
     ),
+    (
+        "users",
+        "a list of networks, as [\"10.0.0.0/8\", \"192.0.2.7\"] (default: everyone)",
+    ),
+    (
+        "denied",
+        "a list of networks, as [\"127.0.0.0/8\"] (default: none)",
+    ),
+    (
+        "user_connections",
+        "0 to 4096 connections (default 0: no limit)",
+    ),
+    ("keep_origins", "0 to 1024 connections (default 0: none)"),
+    ("origin_idle", "1 to 3600 seconds (default 30)"),
     ("dial", "\"first\" or \"late\" (default \"first\")"),
     ("service_idle", "0 to 3600 seconds (default 60)"),
     (
@@ -49,6 +63,10 @@ const OF_THE_DOCUMENT: [Entry; 23] = [
     ),
     ("reqmod", "a table with host, port, path and connections"),
     ("respmod", "a table with host, port, path and connections"),
+    (
+        "parent",
+        "a table with host and port, which aren't those of listen, admin or metrics",
+    ),
 ];
 
 /// The keys of a service's table.
@@ -60,6 +78,12 @@ const OF_A_SERVICE: [Entry; 4] = [
         "a path that begins with / and has at most 1024 bytes, as \"/respmod\"",
     ),
     ("connections", "1 to 1024 (default 8)"),
+];
+
+/// The keys of the parent's table.
+const OF_THE_PARENT: [Entry; 2] = [
+    ("host", "an IPv4 address, as \"192.0.2.1\""),
+    ("port", "1 to 65535"),
 ];
 
 /// What the value of a host's name may be.
@@ -89,6 +113,9 @@ pub fn value_of_key(key: &str) -> &'static str {
     }
     if let Some(inner) = key.strip_prefix("respmod.") {
         return entry_of(&OF_A_SERVICE, inner);
+    }
+    if let Some(inner) = key.strip_prefix("parent.") {
+        return entry_of(&OF_THE_PARENT, inner);
     }
     entry_of(&OF_THE_DOCUMENT, key)
 }

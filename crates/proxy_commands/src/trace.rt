@@ -31,6 +31,7 @@ fn answer_event(state: &mut State, event: Event) -> Answer
     ensures answer { result ≡ answer_to (shows state.old) event }
     ensures after { shows state.new ≡ after_answer (shows state.old) event }
 {
+    // For the proof alone: a state's trace is legal.
     let _legal = state.trace();
     match state.step(event) {
         Ok(()) => Answer::Held(state.held_original(), shown_adapted(state)),

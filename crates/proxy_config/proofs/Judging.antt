@@ -43,7 +43,7 @@ pub first_fault : (name : List ℕ) (kind : Kind) (document : Members) → IsNex
 first_fault name kind document next = stops (rows_from name table) name kind document next.is_row next.reached
 
 -- an unknown key is the document's first fault once the last row is past
-pub first_unknown_fault : (document : Members) → IsPast (codes "respmod") document → (found : List ℕ) → IsFirst (IsUnknown document) found
+pub first_unknown_fault : (document : Members) → IsPast (codes "parent") document → (found : List ℕ) → IsFirst (IsUnknown document) found
     → IsFirstFault document found
 unfolding IsFirstIn
 first_unknown_fault document last = last.first
@@ -67,6 +67,14 @@ pub fault_found : {A : Type 0} (P : A → Type 0) (found : Option A) (r : Result
     → IfNone found ((value : A) → P value → ⊥) → IfErr r (λ _. found ≡ None) → IfErr r (IsFaultAt name) → IfErr r (Names (IsFirstFault document))
 fault_found P found (Ok value) name kind document next bad none is named = tt
 fault_found P found (Err fault) name kind document next bad none is named =
+    names_so (λ key. key ≡ name) (IsFirstFault document) (λ key same. first_fault name kind document next key (bad key (at_none is none) same)) fault named
+
+-- the same by whatever the want of a value means
+pub fault_without : {A : Type 0} {Q : Type 0} (found : Option A) (r : Result A ConfigFault) (name : List ℕ) (kind : Kind) (document : Members)
+    → IsNext name kind document → ((key : List ℕ) → Q → key ≡ name → IsFaultOf kind name document key)
+    → IfNone found Q → IfErr r (λ _. found ≡ None) → IfErr r (IsFaultAt name) → IfErr r (Names (IsFirstFault document))
+fault_without found (Ok value) name kind document next bad none is named = tt
+fault_without found (Err fault) name kind document next bad none is named =
     names_so (λ key. key ≡ name) (IsFirstFault document) (λ key same. first_fault name kind document next key (bad key (at_none is none) same)) fault named
 
 -- what was found is what the document says

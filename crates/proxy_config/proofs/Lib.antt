@@ -13,3 +13,5 @@ pub mod SeenNames
 pub mod Found
 pub mod PortLemmas
 pub mod Judging
+pub mod NetworkLists
+pub mod ParentLemmas

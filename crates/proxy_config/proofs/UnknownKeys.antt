@@ -12,7 +12,7 @@ use Rattle.toml.specs.Data.{Data, Members, get_member, as_table}
 use Rattle.toml.specs.View.{view, members_view}
 use Rattle.proxy_config.specs.Keys.{document_keys}
 use Rattle.proxy_config.specs.Order.{HasKey, IsFirst, IsFirstOrNone, comes_before, first_text, nested}
-use Rattle.proxy_config.specs.Unknown.{HasOther, IsUnknown, IsUnknownOf, service_keys, texts}
+use Rattle.proxy_config.specs.Unknown.{HasOther, IsUnknown, IsUnknownOf, parent_keys, service_keys, texts}
 use Rattle.proxy_config.proofs.Entries.{HasText, has_text, ahead, ascending_rest}
 use Rattle.proxy_config.proofs.TextOrder.{not_before_itself, not_both, goes_on, before_later, nested_order}
 
@@ -75,22 +75,22 @@ finds_none known table looking key other = elim (looking.done key other.0) as (�
 same_some : {A : Type 0} (x y : A) → Some x ≡ Some y → x ≡ y
 same_some x y e = search (rules, e)
 
--- the inner key of an unknown key of the point
-inner_of : (point : List ℕ) (document table : Members) (key : List ℕ) → option_and_then as_table (get_member point document) ≡ Some table → (unknown : IsUnknownOf point document key)
-    → HasOther service_keys table unknown.1
-inner_of point document table key is unknown =
+-- the inner key of an unknown key of the table
+inner_of : (known : List (List ℕ)) (name : List ℕ) (document table : Members) (key : List ℕ) → option_and_then as_table (get_member name document) ≡ Some table
+    → (unknown : IsUnknownOf known name document key) → HasOther known table unknown.1
+inner_of known name document table key is unknown =
     let same : unknown.0 ≡ table = same_some unknown.0 table (sym unknown.2 ∙ is) in
-    let P : Members → Type 0 = λ t. HasOther service_keys t unknown.1 in
+    let P : Members → Type 0 = λ t. HasOther known t unknown.1 in
     subst P same unknown.3
 
-pub first_of_point : (point : List ℕ) (document table : Members) (key : List ℕ) → option_and_then as_table (get_member point document) ≡ Some table → IsFirst (HasOther service_keys table) key
-    → IsFirst (IsUnknownOf point document) (nested point key)
-first_of_point point document table key is first = record {
+pub first_of_table : (known : List (List ℕ)) (name : List ℕ) (document table : Members) (key : List ℕ) → option_and_then as_table (get_member name document) ≡ Some table
+    → IsFirst (HasOther known table) key → IsFirst (IsUnknownOf known name document) (nested name key)
+first_of_table known name document table key is first = record {
   has = (table, key, is, first.has, refl);
   none_before = λ other unknown sooner.
-      let P : List ℕ → Type 0 = λ text. IsTrue (comes_before text (nested point key)) in
-      first.none_before unknown.1 (inner_of point document table other is unknown)
-      (sym (nested_order point unknown.1 key) ∙ subst P unknown.4 sooner);
+      let P : List ℕ → Type 0 = λ text. IsTrue (comes_before text (nested name key)) in
+      first.none_before unknown.1 (inner_of known name document table other is unknown)
+      (sym (nested_order name unknown.1 key) ∙ subst P unknown.4 sooner);
 }
 
 -- of two first texts the first one
@@ -158,16 +158,22 @@ if_known (other ∷ known) key contains = elim (Contains-append_cases (other.now
   | inr later ↦ or_right (bytes_eq other.now key) _ (if_known known key later)
 ]
 
--- the first of the document's and the points' first unknown keys is the first of all
-pub first_unknown_key : (document : Members) (a b d found : Option (List ℕ)) → found ≡ first_text a (first_text b d)
-    → IsFirstOrNone (HasOther document_keys document) a → IsFirstOrNone (IsUnknownOf (codes "reqmod") document) b
-    → IsFirstOrNone (IsUnknownOf (codes "respmod") document) d → IsFirstOrNone (IsUnknown document) found
-first_unknown_key document a b d found is at_top of_reqmod of_respmod =
+-- the first of the document's and its tables' first unknown keys is the first of all
+pub first_unknown_key : (document : Members) (a b d e found : Option (List ℕ)) → found ≡ first_text a (first_text b (first_text d e))
+    → IsFirstOrNone (HasOther document_keys document) a → IsFirstOrNone (IsUnknownOf service_keys (codes "reqmod") document) b
+    → IsFirstOrNone (IsUnknownOf service_keys (codes "respmod") document) d → IsFirstOrNone (IsUnknownOf parent_keys (codes "parent") document) e
+    → IsFirstOrNone (IsUnknown document) found
+first_unknown_key document a b d e found is at_top of_reqmod of_respmod of_parent =
     let P : Option (List ℕ) → Type 0 = λ text. IsFirstOrNone (IsUnknown document) text in
+    let R : List ℕ → Type 0 = IsUnknownOf service_keys (codes "reqmod") document in
+    let S : List ℕ → Type 0 = IsUnknownOf service_keys (codes "respmod") document in
+    let T : List ℕ → Type 0 = IsUnknownOf parent_keys (codes "parent") document in
+    let of_two = first_of_both S T d e of_respmod of_parent in
+    let of_three = first_of_both R (λ t. S t ⊎ T t) b (first_text d e) of_reqmod of_two in
     subst P (sym is) (first_of_both
     (HasOther document_keys document)
-    (λ t. IsUnknownOf (codes "reqmod") document t ⊎ IsUnknownOf (codes "respmod") document t)
+    (λ t. R t ⊎ (S t ⊎ T t))
     a
-    (first_text b d)
+    (first_text b (first_text d e))
     at_top
-    (first_of_both (IsUnknownOf (codes "reqmod") document) (IsUnknownOf (codes "respmod") document) b d of_reqmod of_respmod))
+    of_three)

@@ -8,12 +8,15 @@ use Rattle.proxy_config.specs.declared.limits.TheConstants.{MAX_SHARDS}
 use Rattle.proxy_config.specs.declared.config.Config.{Config}
 use Rattle.proxy_config.specs.declared.dial.Dial.{Dial}
 use Rattle.proxy_config.specs.declared.host_table.Hosts.{Hosts}
+use Rattle.proxy_config.specs.declared.network.Network.{Network}
 use Rattle.proxy_config.specs.declared.point.ServicePoint.{ServicePoint}
 use Rattle.proxy_config.specs.Values.{number_at, truth_or, HasAddress}
 use Rattle.proxy_config.specs.Ports.{IsAdmin, IsMetrics}
 use Rattle.proxy_config.specs.Log.{path_or_none}
 use Rattle.proxy_config.specs.Dial.{dial_or}
 use Rattle.proxy_config.specs.HostNames.{IsHostsOf, IsHostFault}
+use Rattle.proxy_config.specs.Networks.{SaysNetworks, SaysNetworksOrNone}
+use Rattle.proxy_config.specs.Parent.{IsParent, IsParentFault}
 use Rattle.proxy_config.specs.Services.{IsServiceOf, IsServiceFault}
 
 -- what the value of a key may be; a number has a range, and like a truth value a default
@@ -24,9 +27,12 @@ pub data Kind : Type 0 where
   admin_address : Kind
   metrics_address : Kind
   log_path : Kind
+  user_networks : Kind
+  denied_networks : Kind
   dial_time : Kind
   host_table : Kind
   service : Kind
+  parent_proxy : Kind
 
 -- the values of a kind
 abbrev pub ValueOf : Kind → Type 0
@@ -36,9 +42,12 @@ ValueOf address = SocketAddrV4
 ValueOf admin_address = SocketAddrV4
 ValueOf metrics_address = Option SocketAddrV4
 ValueOf log_path = Option (List ℕ)
+ValueOf user_networks = Option (List Network)
+ValueOf denied_networks = List Network
 ValueOf dial_time = Dial
 ValueOf host_table = Hosts
 ValueOf service = Option ServicePoint
+ValueOf parent_proxy = Option SocketAddrV4
 
 -- the value that a document says for a key, its default where the key is missing
 abbrev pub Says : (kind : Kind) → List ℕ → Members → ValueOf kind → Type 0
@@ -48,9 +57,12 @@ Says address name document value = HasAddress name document value
 Says admin_address name document value = IsAdmin document value
 Says metrics_address name document value = IsMetrics document value
 Says log_path name document value = path_or_none (get_member name document) ≡ Some value
+Says user_networks name document value = SaysNetworks name document value
+Says denied_networks name document value = SaysNetworksOrNone name document value
 Says dial_time name document value = dial_or (get_member name document) ≡ Some value
 Says host_table name document value = IsHostsOf document value
 Says service name document value = IsServiceOf name document value
+Says parent_proxy name document value = IsParent document value
 
 -- a key is good where the document says a value for it
 abbrev pub IsGood : Kind → List ℕ → Members → Type 0
@@ -60,6 +72,7 @@ IsGood kind name document = (value : ValueOf kind) × Says kind name document va
 abbrev pub IsFaultOf : Kind → List ℕ → Members → List ℕ → Type 0
 IsFaultOf host_table name document found = IsHostFault document found
 IsFaultOf service name document found = IsServiceFault name document found
+IsFaultOf parent_proxy name document found = IsParentFault document found
 IsFaultOf kind name document found = (IsGood kind name document → ⊥) × (found ≡ name)
 
 -- a key: its name, the kind of its value, and where in a configuration its value goes
@@ -88,6 +101,11 @@ table =
     ∷ row (codes "log") log_path (λ c. option_map string_bytes c.log)
     ∷ row (codes "log_query") (truth true) (λ c. c.log_query)
     ∷ row (codes "metrics") metrics_address (λ c. c.metrics)
+    ∷ row (codes "users") user_networks (λ c. option_map (λ networks. networks.items) c.users)
+    ∷ row (codes "denied") denied_networks (λ c. c.denied.items)
+    ∷ row (codes "user_connections") (number 0 4096 0) (λ c. c.user_connections)
+    ∷ row (codes "keep_origins") (number 0 1024 0) (λ c. c.keep_origins)
+    ∷ row (codes "origin_idle") (number 1 3600 30) (λ c. c.origin_idle)
     ∷ row (codes "dial") dial_time (λ c. c.dial)
     ∷ row (codes "service_idle") (number 0 3600 60) (λ c. c.service_idle)
     ∷ row (codes "options_ttl") (number 0 2147483648 0) (λ c. c.options_ttl)
@@ -96,6 +114,7 @@ table =
     ∷ row (codes "hosts") host_table (λ c. c.hosts)
     ∷ row (codes "reqmod") service (λ c. c.reqmod)
     ∷ row (codes "respmod") service (λ c. c.respmod)
+    ∷ row (codes "parent") parent_proxy (λ c. c.parent)
     ∷ []
 
 -- the names of the keys

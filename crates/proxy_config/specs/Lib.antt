@@ -12,3 +12,6 @@ pub mod Log
 pub mod Names
 pub mod Ports
 pub mod Dial
+pub mod Networks
+pub mod Reach
+pub mod Parent

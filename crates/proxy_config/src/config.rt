@@ -11,6 +11,9 @@ use crate::host_table::Hosts;
 use crate::hosts::read_hosts;
 use crate::limits::MAX_SHARDS;
 use crate::log::read_log;
+use crate::network::Network;
+use crate::networks::{read_denied, read_users};
+use crate::parent::read_parent;
 use crate::point::ServicePoint;
 use crate::ports::{read_admin, read_metrics};
 use crate::services::read_point;
@@ -64,6 +67,16 @@ pub struct Config {
     pub log_query: bool,
     /// Where the counters are asked for over HTTP; none where they aren't served so.
     pub metrics: Option<SocketAddrV4>,
+    /// The networks that users may come from; none where they may come from everywhere.
+    pub users: Option<Vec<Network>>,
+    /// The networks to which no request goes.
+    pub denied: Vec<Network>,
+    /// The most connections of one address of users at once: 0 to 4,096; 0 where there is no such limit.
+    pub user_connections: u64,
+    /// The most idle connections to origins that each thread keeps: 0 to 1,024; 0 where each is closed after its answer.
+    pub keep_origins: u64,
+    /// Seconds after which an idle connection to an origin is closed: 1 to 3,600.
+    pub origin_idle: u64,
     /// When the connection to an origin is opened.
     pub dial: Dial,
     /// Seconds after which an idle connection to a service is closed: 0 to 3,600; 0 where none is kept.
@@ -80,15 +93,18 @@ pub struct Config {
     pub reqmod: Option<ServicePoint>,
     /// The service of responses; none where they aren't adapted.
     pub respmod: Option<ServicePoint>,
+    /// The proxy to which each request goes whose host isn't named here; none where it goes to its origin.
+    pub parent: Option<SocketAddrV4>,
     ghost in_range: { IsWithin 1 MAX_SHARDS shards × IsWithin 1 MAX_CAPACITY capacity × IsWithin 1 MAX_ROWS rows
         × IsWithin 1 65536 journal × IsWithin 1 3600 deadline × IsWithin 0 MAX_PREVIEW preview_limit
         × IsWithin 0 MAX_ALLOW_LIMIT allow_limit × IsWithin 1 MAX_WINDOW window × IsWithin 0 3600 wait
-        × IsWithin 0 3600 service_idle × IsWithin 0 2147483648 options_ttl × IsWithin 0 3600 head_deadline
+        × IsWithin 0 4096 user_connections
+        × IsWithin 0 1024 keep_origins × IsWithin 1 3600 origin_idle × IsWithin 0 3600 service_idle × IsWithin 0 2147483648 options_ttl × IsWithin 0 3600 head_deadline
         × IsWithin 0 3600 connect_deadline },
 }
 
 /// The names of the keys.
-pub(crate) const KEYS: [&str; 23] = [
+pub(crate) const KEYS: [&str; 29] = [
     "listen",
     "admin",
     "shards",
@@ -104,6 +120,11 @@ pub(crate) const KEYS: [&str; 23] = [
     "log",
     "log_query",
     "metrics",
+    "users",
+    "denied",
+    "user_connections",
+    "keep_origins",
+    "origin_idle",
     "dial",
     "service_idle",
     "options_ttl",
@@ -112,6 +133,7 @@ pub(crate) const KEYS: [&str; 23] = [
     "hosts",
     "reqmod",
     "respmod",
+    "parent",
 ];
 
 impl Config {
@@ -143,6 +165,11 @@ impl Config {
             log: read_log(alloc, table)?,
             log_query: read_truth(alloc, table, "log_query", true)?,
             metrics: read_metrics(alloc, table, listen, admin)?,
+            users: read_users(alloc, table)?,
+            denied: read_denied(alloc, table)?,
+            user_connections: read_number(alloc, table, "user_connections", 0, 4_096, 0)?,
+            keep_origins: read_number(alloc, table, "keep_origins", 0, 1_024, 0)?,
+            origin_idle: read_number(alloc, table, "origin_idle", 1, 3_600, 30)?,
             dial: read_dial(alloc, table)?,
             service_idle: read_number(alloc, table, "service_idle", 0, 3_600, 60)?,
             options_ttl: read_number(alloc, table, "options_ttl", 0, 2_147_483_648, 0)?,
@@ -151,6 +178,7 @@ impl Config {
             hosts: read_hosts(alloc, table)?,
             reqmod: read_point(alloc, table, "reqmod")?,
             respmod: read_point(alloc, table, "respmod")?,
+            parent: read_parent(alloc, table)?,
         };
         check_keys(alloc, table)?;
         Ok(config)

@@ -38,8 +38,8 @@ fn text<'a>(table: &'a Table, key: &str) -> Option<&'a str>
     }
 }
 
-/// Reads the service's host: an IPv4 address.
-fn host(table: &Table) -> Option<(Ipv4Addr, &str)>
+/// Reads the host of a service, or of the parent: an IPv4 address.
+pub(crate) fn host(table: &Table) -> Option<(Ipv4Addr, &str)>
     ensures text { IfSome result (λ found. text_at (codes "host") (table_view table.now) ≡ Some found.1.now) }
     ensures ip { IfSome result (λ found. IsIpv4Text found.1.now found.0) }
     ensures none { IfNone result (HasHost (table_view table.now) → ⊥) }
@@ -89,8 +89,13 @@ fn path(alloc: Global, table: &Table) -> Result<Option<&str>, AllocError>
     }
 }
 
-/// What was found for a key of a point, or the fault of the key.
-fn of_point<T>(alloc: Global, point: &str, key: &str, found: Option<T>) -> Result<T, ConfigFault>
+/// What was found for a key of a point's table, or of the parent's, or the fault of the key.
+pub(crate) fn of_point<T>(
+    alloc: Global,
+    point: &str,
+    key: &str,
+    found: Option<T>,
+) -> Result<T, ConfigFault>
     ensures ok { IfOk result (λ value. found ≡ Some value) }
     ensures err { IfErr result (IsFaultAt (nested point.now key.now)) }
     ensures none { IfErr result (λ _. found ≡ None) }

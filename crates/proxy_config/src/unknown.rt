@@ -10,7 +10,7 @@ ghost use Rattle.proxy_config.specs.Unknown.{texts, HasOther, IsUnknownOf, IsUnk
 
 use crate::fault::{ConfigFault, at_key, nested};
 use crate::values::table_of;
-use crate::{config, point};
+use crate::{config, parent, point};
 use std::alloc::{AllocError, Global};
 use toml::Table;
 
@@ -33,15 +33,21 @@ fn first_unknown<'a>(table: &'a Table, known: &[&str]) -> Option<&'a str>
     None
 }
 
-/// The first unknown key of a point's table, after the point's name and a dot.
-fn unknown_of_point(alloc: Global, table: &Table, point: &str) -> Result<Option<String>, AllocError>
-    ensures { IfOk result (λ found. IsFirstOrNone (IsUnknownOf point.now (table_view table.now)) (option_map string_bytes found)) }
+/// The first key that isn't known of the table that a key of the document has, after that one's name and a dot.
+fn unknown_in(
+    alloc: Global,
+    table: &Table,
+    known: &[&str],
+    name: &str,
+) -> Result<Option<String>, AllocError>
+    ensures { IfOk result (λ found.
+        IsFirstOrNone (IsUnknownOf (texts known.now) name.now (table_view table.now)) (option_map string_bytes found)) }
 {
-    let Some(inner) = table_of(table, point) else {
+    let Some(inner) = table_of(table, name) else {
         return Ok(None);
     };
-    match first_unknown(inner, &point::KEYS) {
-        Some(key) => Ok(Some(nested(alloc, point, key)?)),
+    match first_unknown(inner, known) {
+        Some(key) => Ok(Some(nested(alloc, name, key)?)),
         None => Ok(None),
     }
 }
@@ -69,14 +75,18 @@ fn text_of(key: &Option<String>) -> Option<&str>
 
 /// Finds fault with the first unknown key, in the order of their bytes.
 pub(crate) fn check_keys(alloc: Global, table: &Table) -> Result<(), ConfigFault>
-    requires { IsPast (codes "respmod") (table_view table.now) }
+    requires { IsPast (codes "parent") (table_view table.now) }
     ensures ok { IfOk result (λ _. (key : List ℕ) → IsUnknown (table_view table.now) key → ⊥) }
     ensures err { IfErr result (Names (IsFirstFault (table_view table.now))) }
 {
-    let reqmod = unknown_of_point(alloc, table, "reqmod")?;
-    let respmod = unknown_of_point(alloc, table, "respmod")?;
-    let of_points = first_of(text_of(&reqmod), text_of(&respmod));
-    match first_of(first_unknown(table, &config::KEYS), of_points) {
+    let reqmod = unknown_in(alloc, table, &point::KEYS, "reqmod")?;
+    let respmod = unknown_in(alloc, table, &point::KEYS, "respmod")?;
+    let parent = unknown_in(alloc, table, &parent::KEYS, "parent")?;
+    let of_tables = first_of(
+        text_of(&reqmod),
+        first_of(text_of(&respmod), text_of(&parent)),
+    );
+    match first_of(first_unknown(table, &config::KEYS), of_tables) {
         Some(key) => Err(at_key(alloc, key)),
         None => Ok(()),
     }

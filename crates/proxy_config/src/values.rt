@@ -36,7 +36,7 @@ pub(crate) fn table_of<'a>(table: &'a Table, key: &str) -> Option<&'a Table>
 }
 
 /// The whole number of a value, where it lies in the range.
-fn number_in(value: &Value, low: u64, high: u64) -> Option<u64>
+pub(crate) fn number_in(value: &Value, low: u64, high: u64) -> Option<u64>
     ensures number { result ≡ number_in low high (view value.now) }
     ensures low { IfSome result (λ n. low ≤ n) }
     ensures high { IfSome result (λ n. n ≤ high) }

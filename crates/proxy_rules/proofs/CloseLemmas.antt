@@ -7,7 +7,7 @@ use Rattle.adapt_bytes.specs.Fields.{values_of}
 use Rattle.http_side.specs.declared.forward.Forward.{Forward}
 use Rattle.http_side.specs.declared.forward.Message.{Message}
 use Rattle.http_side.specs.declared.forward.Message.TheVariants.{Request, Response}
-use Rattle.http_side.specs.Forward.{is_response, is_named_by, gets_zero, is_chunks, next_framing, closes, when, via_value, added_fields, extra_of}
+use Rattle.http_side.specs.Forward.{is_response, is_named_by, gets_zero, is_chunks, next_framing, closes, is_once, says_close, when, via_value, added_fields, extra_of}
 use Rattle.http_side.specs.Laws.{passed_fields, minor_of, forwarded_fields}
 use Rattle.http_side.specs.Targets.{authority_of}
 use Rattle.http_side.proofs.Passing.{values-append}
@@ -19,8 +19,8 @@ CONNECTION = codes "connection"
 abbrev on_close : Bool → List (List ℕ)
 on_close b = if b then codes "close" ∷ [] else []
 
-added_close : (f : Forward) (minor : ℕ) → values_of CONNECTION (added_fields (extra_of f) minor) ≡ on_close (not (is_response f.message) || closes f)
-added_close f minor = by_four (gets_zero f) (is_chunks (next_framing f)) (not (is_response f.message) || closes f) true
+added_close : (f : Forward) (minor : ℕ) → values_of CONNECTION (added_fields (extra_of f) minor) ≡ on_close (says_close f)
+added_close f minor = by_four (gets_zero f) (is_chunks (next_framing f)) (says_close f) true
   where
     by_four : (a b c d : Bool) → values_of CONNECTION (when a (codes "Content-Length", codes "0") ++ when b (codes "Transfer-Encoding", codes "chunked")
         ++ when c (codes "Connection", codes "close") ++ when d (codes "Via", via_value minor)) ≡ on_close c
@@ -57,16 +57,16 @@ named : (b : Bool) → list_any (has_item (codes "close")) (on_close b) ≡ b
 named true = ap (λ t. t || false) close_in
 named false = refl
 
-says : (f : Forward) → is_named_by (forwarded_fields f) (codes "close") ≡ (not (is_response f.message) || closes f)
+says : (f : Forward) → is_named_by (forwarded_fields f) (codes "close") ≡ (says_close f)
 says f =
     ap (list_any (has_item (codes "close")))
     (values-append CONNECTION (passed_fields (authority_of f.user.now.target) f.message) (added_fields (extra_of f) (minor_of f.message))
     ∙ ap (λ t. t ++ values_of CONNECTION (added_fields (extra_of f) (minor_of f.message))) (passed_none (authority_of f.user.now.target) f.message)
     ∙ added_close f (minor_of f.message))
-    ∙ named (not (is_response f.message) || closes f)
+    ∙ named (says_close f)
 
 pub answer_says : (f : Forward) → is_response f.message ≡ true → is_named_by (forwarded_fields f) (codes "close") ≡ closes f
-answer_says f e = says f ∙ ap (λ b. not b || closes f) e
+answer_says f e = says f ∙ ap (λ b. if b then closes f else is_once f.origin.connection) e
 
-pub request_says : (f : Forward) → is_response f.message ≡ false → is_named_by (forwarded_fields f) (codes "close") ≡ true
-request_says f e = says f ∙ ap (λ b. not b || closes f) e
+pub request_says : (f : Forward) → is_response f.message ≡ false → is_named_by (forwarded_fields f) (codes "close") ≡ is_once f.origin.connection
+request_says f e = says f ∙ ap (λ b. if b then closes f else is_once f.origin.connection) e

@@ -6,6 +6,7 @@ pub mod BeginLemmas
 pub mod WireLemmas
 pub mod ArrivalLemmas
 pub mod OfferLemmas
+pub mod RouteLemmas
 pub mod RunLemmas
 pub mod SinceLemmas
 pub mod CallLemmas

@@ -1,5 +1,5 @@
 -- The head with which a message goes on (RFC 9110, section 7.6; RFC 9112, sections 6 and 9).
-use Rattle.std.specs.Prelude.{◌≡◌, ℕ, Bool, true, not, ◌||◌, ◌&&◌, List, length, nat_lt, if◌then◌else◌}
+use Rattle.std.specs.Prelude.{◌≡◌, ℕ, Bool, true, false, not, ◌||◌, ◌&&◌, List, length, nat_lt, if◌then◌else◌}
 use Rattle.trace_core.specs.declared.history.Cause.{Cause}
 use Rattle.trace_core.specs.declared.history.Cause.TheVariants as causes
 use Rattle.http_side.specs.declared.fault.HttpFault.{HttpFault}
@@ -9,11 +9,16 @@ use Rattle.http_side.specs.declared.forward.Message.{Message}
 use Rattle.http_side.specs.declared.forward.Message.TheVariants.{Request, Response}
 use Rattle.http_side.specs.declared.forward.BodyKind.{BodyKind}
 use Rattle.http_side.specs.declared.forward.BodyKind.TheVariants.{Body, NullBody}
+use Rattle.http_side.specs.declared.forward.OriginUse.{OriginUse}
+use Rattle.http_side.specs.declared.forward.OriginUse.TheVariants.{Once, Fresh, Kept}
+use Rattle.http_side.specs.declared.forward.OriginWay.{OriginWay}
+use Rattle.http_side.specs.declared.body.Framing.{Framing}
 use Rattle.http_side.specs.Forward.{forwarded, next_framing, closes}
 use Rattle.http_side.specs.Framings.{is_bare}
 use Rattle.http_side.specs.Heads.{RequestParts, ResponseParts}
 use Rattle.http_side.specs.Requests.{IsRead}
 use Rattle.http_side.specs.Responses.{IsResponseRead}
+use Rattle.proxy_rules.specs.Connections.{repeats}
 use Rattle.proxy_rules.specs.declared.onward.Headed.{Headed}
 
 -- the message is this request, or this response
@@ -55,12 +60,33 @@ NoAdaptedRequest text = (parts : RequestParts) → IsRead true text parts (lengt
 abbrev pub NoAdaptedResponse : Bool → Bool → List ℕ → Type 0
 NoAdaptedResponse to_head has_body text = (parts : ResponseParts) → IsAnswerOf to_head has_body text parts → ⊥
 
--- The head of a message of this kind, for a user with this request, whose connection may carry a further one or not: its text, how
--- its body goes, and whether the user's connection ends after it.
-pub record IsForwarded (user : RequestParts) (carries_on : Bool) (part : BodyKind) (is_it : Message → Type 0) (headed : Headed) : Type 0 where
+-- a message may go out on a connection of this use: a request goes out on one that was kept only if it may be sent again
+abbrev pub suits_use : OriginUse → Message → Framing → Bool
+suits_use Kept (Request r) framing = repeats r.now.method framing
+suits_use Kept (Response r) framing = true
+suits_use Once message framing = true
+suits_use Fresh message framing = true
+
+abbrev pub suits : Forward → Bool
+suits f = suits_use f.origin.connection f.message (next_framing f)
+
+-- a message of this kind, for a user with this request, that may not go out this way
+pub record IsUnfit (user : RequestParts) (origin : OriginWay) (part : BodyKind) (is_it : Message → Type 0) : Type 0 where
+  pub forward : Forward
+  pub user_is : forward.user.now ≡ user
+  pub origin_is : forward.origin ≡ origin
+  pub part_is : forward.part ≡ part
+  pub message_is : is_it forward.message
+  pub unfit : suits forward ≡ false
+
+-- The head of a message of this kind, for a user with this request, whose connection may carry a further one or not, this way to its
+-- origin where it is a request: its text, how its body goes, and whether the user's connection ends after it.
+pub record IsForwarded (user : RequestParts) (carries_on : Bool) (origin : OriginWay) (part : BodyKind) (is_it : Message → Type 0) (headed : Headed) : Type 0 where
   pub forward : Forward
   pub user_is : forward.user.now ≡ user
   pub carries_on_is : forward.carries_on ≡ carries_on
+  pub origin_is : forward.origin ≡ origin
+  pub suits_is : suits forward ≡ true
   pub part_is : forward.part ≡ part
   pub message_is : is_it forward.message
   pub head_is : headed.head.items ≡ forwarded forward

@@ -10,7 +10,7 @@ use crate::onward::{
 };
 use adapt_turn::MakesHead;
 use http_relay::{HopWriter, SourceHead, SourceSide};
-use http_side::{BodyKind, Framing, HttpRequest};
+use http_side::{BodyKind, Framing, HttpRequest, OriginUse, OriginWay};
 use std::alloc::Global;
 use trace_core::{Cause, State};
 
@@ -20,19 +20,24 @@ pub struct HeadMaker {
     user: Option<SourceSide>,
     /// Whether the message is the last one of its user's connection, whatever else is said.
     last: bool,
+    /// How a request goes to its origin. Nothing of a response rests on it.
+    origin: OriginWay,
     closes: bool,
 }
 
 impl HeadMaker {
-    /// For a request: its source is the user's side. An answer to it may be the last one of the user's connection.
-    pub fn for_request(last: bool) -> HeadMaker
+    /// For a request: its source is the user's side. It goes to its origin this way. An answer to it may be the last one of the user's
+    /// connection.
+    pub fn for_request(last: bool, origin: OriginWay) -> HeadMaker
         ensures user { result.user ≡ None }
         ensures last { result.last ≡ last }
+        ensures origin { result.origin ≡ origin }
         ensures closes { result.closes ≡ true }
     {
         HeadMaker {
             user: None,
             last,
+            origin,
             closes: true,
         }
     }
@@ -46,6 +51,7 @@ impl HeadMaker {
         HeadMaker {
             user: Some(user),
             last,
+            origin: OriginWay::straight(OriginUse::Once),
             closes: true,
         }
     }
@@ -92,7 +98,8 @@ impl HeadMaker {
         !self.last && read
     }
 
-    /// The head of the chosen message: of the original, or of what a service made, where its head is given.
+    /// The head of the chosen message: of the original, or of what a service made, where its head is given. On a connection that was kept no
+    /// head is made of a request that may not be sent again: then the fault is the next hop's.
     pub fn make(
         &self,
         alloc: Global,
@@ -101,8 +108,8 @@ impl HeadMaker {
         adapted: Option<&[u8]>,
         is_response: bool,
     ) -> Result<Headed, Cause>
-        ensures ok { IfOk result (Makes self.now.last self.now.user source.now.head (shows state.now) (option_copied adapted.entry) is_response) }
-        ensures err { IfErr result (MakesNone self.now.user source.now.head (shows state.now) (option_copied adapted.entry) is_response) }
+        ensures ok { IfOk result (Makes self.now.origin self.now.last self.now.user source.now.head (shows state.now) (option_copied adapted.entry) is_response) }
+        ensures err { IfErr result (MakesNone self.now.origin self.now.user source.now.head (shows state.now) (option_copied adapted.entry) is_response) }
     {
         let Some(user) = self.asked(source) else {
             return Err(Cause::Source);
@@ -110,6 +117,7 @@ impl HeadMaker {
         let asked = Asked {
             user,
             carries_on: self.carries_on(state),
+            origin: self.origin,
         };
         let has_body = state.seen().has_body;
         chosen(alloc, asked, source, adapted, is_response, has_body)
@@ -124,10 +132,11 @@ impl HeadMaker {
         adapted: Option<&[u8]>,
         is_response: bool,
     ) -> Result<(Vec<u8>, Framing), Cause>
-        ensures ok { IfOk result (λ made. Remembers self.old.last self.old.user source.now.head (shows state.now) (option_copied adapted.entry) is_response made.0.items made.1 self.new.closes) }
-        ensures err { IfErr result (MakesNone self.old.user source.now.head (shows state.now) (option_copied adapted.entry) is_response) }
+        ensures ok { IfOk result (λ made. Remembers self.old.origin self.old.last self.old.user source.now.head (shows state.now) (option_copied adapted.entry) is_response made.0.items made.1 self.new.closes) }
+        ensures err { IfErr result (MakesNone self.old.origin self.old.user source.now.head (shows state.now) (option_copied adapted.entry) is_response) }
         ensures user { self.new.user ≡ self.old.user }
         ensures last { self.new.last ≡ self.old.last }
+        ensures origin { self.new.origin ≡ self.old.origin }
     {
         let headed = self.make(alloc, state, source, adapted, is_response)?;
         self.closes = headed.closes;
@@ -137,8 +146,8 @@ impl HeadMaker {
 
 /// The head of the original.
 fn original(alloc: Global, asked: Asked<'_>, source: &SourceSide) -> Result<Headed, Cause>
-    ensures ok { IfOk result (MakesOf source.now.head asked.entry.user.now asked.entry.carries_on None false false) }
-    ensures err { IfErr result (MakesNoneOf source.now.head asked.entry.user.now None false false) }
+    ensures ok { IfOk result (MakesOf source.now.head asked.entry.user.now asked.entry.carries_on asked.entry.origin None false false) }
+    ensures err { IfErr result (MakesNoneOf source.now.head asked.entry.user.now asked.entry.origin None false false) }
 {
     if let Some(request) = source.request_head() {
         return request_onward(alloc, asked, request, BodyKind::Own);
@@ -158,8 +167,8 @@ fn chosen(
     is_response: bool,
     has_body: bool,
 ) -> Result<Headed, Cause>
-    ensures ok { IfOk result (MakesOf source.now.head asked.entry.user.now asked.entry.carries_on (option_copied adapted.entry) is_response has_body) }
-    ensures err { IfErr result (MakesNoneOf source.now.head asked.entry.user.now (option_copied adapted.entry) is_response has_body) }
+    ensures ok { IfOk result (MakesOf source.now.head asked.entry.user.now asked.entry.carries_on asked.entry.origin (option_copied adapted.entry) is_response has_body) }
+    ensures err { IfErr result (MakesNoneOf source.now.head asked.entry.user.now asked.entry.origin (option_copied adapted.entry) is_response has_body) }
 {
     match adapted {
         None => original(alloc, asked, source),
@@ -174,9 +183,9 @@ fn chosen(
 }
 
 impl MakesHead<SourceSide, HopWriter> for HeadMaker {
-    ghost makes = { λ maker source x adapted is_response head framing. Remembers maker.last maker.user source x adapted is_response head framing maker.closes };
+    ghost makes = { λ maker source x adapted is_response head framing. Remembers maker.origin maker.last maker.user source x adapted is_response head framing maker.closes };
 
-    ghost makes_none = { λ maker source x adapted is_response cause. MakesNone maker.user source x adapted is_response cause };
+    ghost makes_none = { λ maker source x adapted is_response cause. MakesNone maker.origin maker.user source x adapted is_response cause };
 
     fn forward(
         &mut self,

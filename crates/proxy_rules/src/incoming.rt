@@ -3,7 +3,7 @@
 ghost use Rattle.std.specs.Prelude.{◌≡◌, ◌↔◌, ◌++◌, List, ℕ, [], true, false, None, Some, IfSome, IsSome, option_copied};
 ghost use Rattle.trace_core.specs.History.{seen};
 ghost use Rattle.http_relay.specs.Source.{Agrees};
-ghost use Rattle.http_relay.specs.Reading.{HeadTurn, request_of, response_of};
+ghost use Rattle.http_relay.specs.Reading.{ComesAgain, HeadTurn, request_of, response_of};
 ghost use Rattle.proxy_rules.specs.Heads.{user_head};
 ghost use Rattle.proxy_rules.specs.Arrivals.{Arrives, HasCome, Came, point_of, is_head_in};
 
@@ -11,7 +11,7 @@ use crate::expect::is_head_request;
 use crate::head_maker::HeadMaker;
 use adapt_sides::{RelayFault, Source};
 use http_relay::{Asks, HeadProgress, SourceHead, SourceSide};
-use http_side::{HttpFault, HttpRequest, HttpResponse};
+use http_side::{HttpFault, HttpRequest, HttpResponse, OriginWay};
 use std::alloc::Global;
 use std::marker::Model;
 use trace_core::{Plan, Point};
@@ -89,6 +89,28 @@ impl Incoming {
         Some(next)
     }
 
+    /// A user's request again, whose head was read and that has no body, before its first byte: the head's bytes are its first, and the
+    /// bytes left over follow. `None` where it has a body, or no memory was found.
+    pub fn again(request: SourceSide) -> Option<Incoming>
+        ensures user { IfSome result (λ same. same.user ≡ None) }
+        ensures same { IfSome result (λ same. ComesAgain request.head request.raw.items same.side.raw.items) }
+        ensures begins { IfSome result (λ same. HasCome same.side.raw.items same.side) }
+    {
+        let side = request.again()?;
+        let same = Incoming { side, user: None };
+        Some(same)
+    }
+
+    /// The request again that this is to answer, before its first byte. `None` where this is no response, or the request can't come again.
+    pub fn into_request(self) -> Option<Incoming>
+        ensures user { IfSome result (λ same. same.user ≡ None) }
+        ensures same { IfSome result (λ same. IfSome self.user (λ user. ComesAgain user.head user.raw.items same.side.raw.items)) }
+        ensures begins { IfSome result (λ same. HasCome same.side.raw.items same.side) }
+    {
+        let Incoming { side: _, user } = self;
+        Incoming::again(user?)
+    }
+
     /// Which message it is.
     pub fn point(&self) -> Point
         ensures { result ≡ point_of self.now.user }
@@ -162,16 +184,18 @@ impl Incoming {
         Source::begins(&self.side, plan)
     }
 
-    /// The source's side, and what makes the heads of the message that goes on, which may be the last one of the user's connection.
-    pub(crate) fn into_sides(self, last: bool) -> (SourceSide, HeadMaker)
+    /// The source's side, and what makes the heads of the message that goes on, which may be the last one of the user's connection, and
+    /// goes to its origin this way if it is a request.
+    pub(crate) fn into_sides(self, last: bool, origin: OriginWay) -> (SourceSide, HeadMaker)
         ensures side { result.0 ≡ self.side }
         ensures heads { (result.1.user ≡ self.user) × (result.1.last ≡ last) }
+        ensures origin { self.user ≡ None → result.1.origin ≡ origin }
         ensures arrives { Arrives result.0 self.user }
     {
         let Incoming { side, user } = self;
         let heads = match user {
             Some(user) => HeadMaker::for_response(user, last),
-            None => HeadMaker::for_request(last),
+            None => HeadMaker::for_request(last, origin),
         };
         (side, heads)
     }

@@ -22,7 +22,8 @@ ghost use Rattle.http_relay.specs.declared.side.SourceSide.{SourceSide as UserSi
 ghost use Rattle.http_relay.specs.Reading.{SideRead};
 ghost use Rattle.icap_client.specs.Turns.{ServiceHeard};
 ghost use Rattle.http_side.specs.declared.forward.Forward.{Forward as Sent};
-ghost use Rattle.http_side.specs.Forward.{is_response, is_named_by, closes};
+ghost use Rattle.http_side.specs.declared.forward.OriginWay.{OriginWay as AnyWay};
+ghost use Rattle.http_side.specs.Forward.{is_response, is_named_by, is_once, closes};
 ghost use Rattle.http_side.specs.Laws.{forwarded_fields};
 ghost use Rattle.proxy_rules.specs.Heads.{MakesNone};
 ghost use Rattle.proxy_rules.specs.Wires.{WiresTook};
@@ -50,20 +51,20 @@ use std::alloc::Global;
 use std::sync::Wait;
 use wire_kit::Wire;
 
-/// An answer's head says `close` exactly if the user's connection ends after it; a request's head says it always, for each
-/// exchange has an origin's connection of its own (RFC 9112, section 9.6).
+/// An answer's head says `close` exactly if the user's connection ends after it, and a request's exactly if the connection that it goes out
+/// on is for this request alone (RFC 9112, section 9.6).
 pub fn says_close_where_it_ends()
     ensures answer { (f : Sent) → is_response f.message ≡ true → is_named_by (forwarded_fields f) (codes "close") ≡ closes f }
-    ensures request { (f : Sent) → is_response f.message ≡ false → is_named_by (forwarded_fields f) (codes "close") ≡ true }
+    ensures request { (f : Sent) → is_response f.message ≡ false → is_named_by (forwarded_fields f) (codes "close") ≡ is_once f.origin.connection }
 {}
 
 /// Why no head of a chosen message could be made lies with a side or with memory: it is never the deadline, and never a stop. So of a
 /// transaction of the proxy's own sides only a turn at its deadline fails it as Deadline, and only `halt` as Stopping.
 pub fn a_missing_head_is_of_a_side()
-    ensures deadline { (user : Option UserSide) (source : SourceHead) (x : Seen) (adapted : Option (List ℕ)) (is_response : Bool)
-        → MakesNone user source x adapted is_response Deadline → ⊥ }
-    ensures stopping { (user : Option UserSide) (source : SourceHead) (x : Seen) (adapted : Option (List ℕ)) (is_response : Bool)
-        → MakesNone user source x adapted is_response Stopping → ⊥ }
+    ensures deadline { (origin : AnyWay) (user : Option UserSide) (source : SourceHead) (x : Seen) (adapted : Option (List ℕ)) (is_response : Bool)
+        → MakesNone origin user source x adapted is_response Deadline → ⊥ }
+    ensures stopping { (origin : AnyWay) (user : Option UserSide) (source : SourceHead) (x : Seen) (adapted : Option (List ℕ)) (is_response : Bool)
+        → MakesNone origin user source x adapted is_response Stopping → ⊥ }
 {}
 
 /// What the wires of a transaction of the proxy's own sides gave and took, wherever it stands. The source's wire gave a message with

@@ -25,7 +25,7 @@ mod starting;
 
 pub use address::{Origin, origin_of};
 pub use calls::Call;
-pub use connections::keeps_user;
+pub use connections::{keeps_origin, keeps_user, may_repeat};
 pub use expect::{awaits_continue, interim_continue, is_head_request};
 pub use head_maker::HeadMaker;
 pub use incoming::Incoming;
@@ -34,6 +34,6 @@ pub use onward::Headed;
 pub use own_ends::{OwnEnds, OwnTx, Way, Wires};
 pub use plans::{limits_of, request_plan, response_plan};
 pub use pools::{is_reusable_after_options, pool_maximum};
-pub use route::origin_address;
+pub use route::{Route, Unrouted, route_of};
 pub use running::{Accounting, Lasting, Running};
 pub use starting::{Beginning, begin};

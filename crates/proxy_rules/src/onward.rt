@@ -4,12 +4,13 @@ ghost use Rattle.std.specs.Prelude.{◌≡◌, ◌⊎◌, IfOk, IfErr};
 ghost use Rattle.http_side.specs.Forward.{forwarded, next_framing, closes};
 ghost use Rattle.trace_core.specs.declared.history.Cause.TheVariants as causes;
 ghost use Rattle.proxy_rules.specs.Users.{is_head_request};
-ghost use Rattle.proxy_rules.specs.Onward.{IsForwarded, IsRequest, IsResponse, IsAdaptedRequest, IsAdaptedResponse, NoAdaptedRequest, NoAdaptedResponse, part_of, cause_of, may_answer};
+ghost use Rattle.proxy_rules.specs.Onward.{IsForwarded, IsUnfit, suits, IsRequest, IsResponse, IsAdaptedRequest, IsAdaptedResponse, NoAdaptedRequest, NoAdaptedResponse, part_of, cause_of, may_answer};
 
+use crate::connections::repeats;
 use crate::expect::is_head_request;
 use http_side::{
-    BodyKind, Forward, Framing, HttpFault, HttpRequest, HttpResponse, Message, forward_head,
-    read_request, read_response,
+    BodyKind, Forward, Framing, HttpFault, HttpRequest, HttpResponse, Message, OriginUse,
+    OriginWay, forward_head, read_request, read_response,
 };
 use std::alloc::Global;
 use trace_core::Cause;
@@ -25,11 +26,24 @@ pub struct Headed {
     pub closes: bool,
 }
 
-/// The user whose request is served, and whether its connection may carry a further one.
+/// The user whose request is served, and whether its connection may carry a further one; and how a request goes to its origin.
 #[derive(Clone, Copy)]
 pub(crate) struct Asked<'a> {
     pub user: &'a HttpRequest,
     pub carries_on: bool,
+    pub origin: OriginWay,
+}
+
+/// Whether a message may go out on a connection: on one that was kept, only a request that may be sent again.
+fn suits(forward: &Forward<'_, '_>) -> bool
+    ensures { result ≡ suits forward.now }
+{
+    match forward.message {
+        Message::Request(request) if forward.origin.connection == OriginUse::Kept => {
+            repeats(request.method(), forward.framing())
+        }
+        _ => true,
+    }
 }
 
 /// What follows an adapted message's head.
@@ -70,22 +84,28 @@ fn onward(alloc: Global, forward: &Forward<'_, '_>) -> Result<Headed, Cause>
     }
 }
 
-/// The head of a request, for the origin of the user's target.
+/// The head of a request, for the origin of the user's target, or for the parent. On a connection that was kept only a request that may be sent again goes
+/// out: for another one the fault is the next hop's, and nothing was written.
 pub(crate) fn request_onward(
     alloc: Global,
     asked: Asked<'_>,
     request: &HttpRequest,
     part: BodyKind,
 ) -> Result<Headed, Cause>
-    ensures ok { IfOk result (IsForwarded asked.entry.user.now asked.entry.carries_on part (IsRequest request.now)) }
-    ensures err { IfErr result (λ cause. cause ≡ causes.Memory) }
+    ensures ok { IfOk result (IsForwarded asked.entry.user.now asked.entry.carries_on asked.entry.origin part (IsRequest request.now)) }
+    ensures err { IfErr result (λ cause. (cause ≡ causes.Memory)
+        ⊎ ((cause ≡ causes.NextHop) × IsUnfit asked.entry.user.now asked.entry.origin part (IsRequest request.now))) }
 {
     let forward = Forward {
         user: asked.user,
         message: Message::Request(request),
         part,
         carries_on: asked.carries_on,
+        origin: asked.origin,
     };
+    if !suits(&forward) {
+        return Err(Cause::NextHop);
+    }
     onward(alloc, &forward)
 }
 
@@ -96,7 +116,7 @@ pub(crate) fn response_onward(
     response: &HttpResponse,
     part: BodyKind,
 ) -> Result<Headed, Cause>
-    ensures ok { IfOk result (IsForwarded asked.entry.user.now asked.entry.carries_on part (IsResponse response.now)) }
+    ensures ok { IfOk result (IsForwarded asked.entry.user.now asked.entry.carries_on asked.entry.origin part (IsResponse response.now)) }
     ensures err { IfErr result (λ cause. cause ≡ causes.Memory) }
 {
     let forward = Forward {
@@ -104,21 +124,23 @@ pub(crate) fn response_onward(
         message: Message::Response(response),
         part,
         carries_on: asked.carries_on,
+        origin: asked.origin,
     };
     onward(alloc, &forward)
 }
 
-/// The head of a request that a service made, for the origin of the user's target. The text has to be just the head.
+/// The head of a request that a service made, for the origin of the user's target, or for the parent. The text has to be just the head.
 pub(crate) fn adapted_request(
     alloc: Global,
     asked: Asked<'_>,
     text: &[u8],
     has_body: bool,
 ) -> Result<Headed, Cause>
-    ensures ok { IfOk result (IsForwarded asked.entry.user.now asked.entry.carries_on (part_of has_body) (IsAdaptedRequest text.now)) }
+    ensures ok { IfOk result (IsForwarded asked.entry.user.now asked.entry.carries_on asked.entry.origin (part_of has_body) (IsAdaptedRequest text.now)) }
 
-    // The service is blamed only if its head can't go on.
-    ensures err { IfErr result (λ cause. (cause ≡ causes.Memory) ⊎ ((cause ≡ causes.Service) × NoAdaptedRequest text.now)) }
+    // The service is blamed only if its head can't go on, the next hop only if it can't go out on a kept connection.
+    ensures err { IfErr result (λ cause. (cause ≡ causes.Memory) ⊎ ((cause ≡ causes.Service) × NoAdaptedRequest text.now)
+        ⊎ ((cause ≡ causes.NextHop) × IsUnfit asked.entry.user.now asked.entry.origin (part_of has_body) (IsAdaptedRequest text.now))) }
 {
     let head = match read_request(alloc, text, true) {
         Ok(head) => head,
@@ -146,7 +168,7 @@ pub(crate) fn adapted_response(
     text: &[u8],
     has_body: bool,
 ) -> Result<Headed, Cause>
-    ensures ok { IfOk result (IsForwarded asked.entry.user.now asked.entry.carries_on (part_of has_body) (IsAdaptedResponse (is_head_request asked.entry.user.now) has_body text.now)) }
+    ensures ok { IfOk result (IsForwarded asked.entry.user.now asked.entry.carries_on asked.entry.origin (part_of has_body) (IsAdaptedResponse (is_head_request asked.entry.user.now) has_body text.now)) }
 
     // The service is blamed only if its head can't go on.
     ensures err { IfErr result (λ cause. (cause ≡ causes.Memory) ⊎ ((cause ≡ causes.Service) × NoAdaptedResponse (is_head_request asked.entry.user.now) has_body text.now)) }

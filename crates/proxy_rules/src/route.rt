@@ -1,29 +1,16 @@
-//! Where the origin of a request is: the configuration has the table of hosts (RFC 9110, section 7.3).
+//! Where a request goes: straight to its origin, by the configured table of hosts, or to the parent (RFC 9110, section 7.3).
 
-ghost use Rattle.std.specs.Prelude.{◌↔◌, IsTrue, IfSome, IfNone};
-ghost use Rattle.std.specs.declared.net.socket_addr.SocketAddrV4.{SocketAddrV4 as AnyAddress};
-ghost use Rattle.proxy_rules.specs.Routes.{IsOriginAt, IsOwn, IsSameMachine, Reaches, ReachesSome};
+ghost use Rattle.std.specs.Prelude.{◌≡◌, ◌↔◌, IsTrue, IfOk, IfErr, Ok, Err, true, false};
+ghost use Rattle.std.specs.Net.Grammar.{IsIpv4Text};
+ghost use Rattle.std.specs.declared.net.ipv4_addr.Ipv4Addr.{Ipv4Addr as AnyIp};
+ghost use Rattle.proxy_config.specs.Hosts.{IsAt};
+ghost use Rattle.proxy_rules.specs.declared.route.Route.{Route as AnyRoute};
+ghost use Rattle.proxy_rules.specs.Routes.{IsOwn, ReachesSome, IsDeniedAt, GoesBy, GoesNowhereBy, IsRoute, IsUnrouted};
 
-use crate::address::origin_of;
-use http_side::HttpRequest;
-use proxy_config::Config;
+use crate::address::{Origin, origin_of};
+use http_side::{HttpRequest, NextServer};
+use proxy_config::{Config, is_in, reaches};
 use std::net::{Ipv4Addr, SocketAddrV4};
-
-/// Whether a connection to an address comes to a listener on the other, their ports aside.
-fn is_same_machine(to: Ipv4Addr, on: Ipv4Addr) -> bool
-    ensures { IsTrue result ↔ IsSameMachine to on }
-{
-    to == on
-        || to.is_unspecified()
-        || (to.is_loopback() && (on.is_loopback() || on.is_unspecified()))
-}
-
-/// Whether a connection to an address comes to a listener.
-fn reaches(to: SocketAddrV4, listener: SocketAddrV4) -> bool
-    ensures { IsTrue result ↔ Reaches to listener }
-{
-    to.port() == listener.port() && is_same_machine(*to.ip(), *listener.ip())
-}
 
 /// Whether a connection to an address comes to a listener, if there is one.
 fn reaches_some(to: SocketAddrV4, listener: Option<SocketAddrV4>) -> bool
@@ -44,24 +31,108 @@ fn is_own(config: &Config, address: SocketAddrV4) -> bool
         || reaches_some(address, config.metrics)
 }
 
-/// Where the origin of a request is, by the configured hosts. `None` where its host is unknown, or is the proxy itself: no
-/// request comes to the administrator's port or to that of the counters, or back to the users', by whatever name.
-pub fn origin_address(config: &Config, user: &HttpRequest) -> Option<SocketAddrV4>
-    ensures found { IfSome result (IsOriginAt config.now user.now) }
-    ensures other { IfSome result (λ address. IsOwn config.now address → ⊥) }
-
-    // None comes exactly where the host is unknown, or its address is the proxy's own.
-    ensures none { IfNone result ((address : AnyAddress) → IsOriginAt config.now user.now address → IsOwn config.now address) }
+/// Whether an address is in a network to which no request is sent.
+fn is_denied(config: &Config, address: SocketAddrV4) -> bool
+    ensures { IsTrue result ↔ IsDeniedAt config.now address }
 {
-    let origin = origin_of(user);
-    match config.hosts.resolve(origin.host, origin.port) {
-        Some(address) => {
-            if is_own(config, address) {
-                None
-            } else {
-                Some(address)
-            }
-        }
-        None => None,
+    is_in(&config.denied, *address.ip())
+}
+
+/// Where a request goes next.
+#[derive(Clone, Copy, Debug, PartialEq, Eq)]
+pub struct Route {
+    /// Whether it goes straight to its origin, or to the parent.
+    pub next: NextServer,
+    pub address: SocketAddrV4,
+}
+
+/// Why a request goes nowhere.
+#[derive(Clone, Copy, Debug, PartialEq, Eq)]
+pub enum Unrouted {
+    /// Its host is unknown, or is the proxy itself.
+    Unknown,
+    /// Its origin is in a network to which no request is sent.
+    Denied,
+}
+
+/// Whether a host is an IPv4 address, and no name.
+fn is_literal(host: &[u8]) -> bool
+    ensures address { result ≡ true → (ip : AnyIp) × IsIpv4Text host.now ip }
+    ensures name { result ≡ false → (ip : AnyIp) → IsIpv4Text host.now ip → ⊥ }
+{
+    match Ipv4Addr::parse_ascii(host) {
+        Ok(_) => true,
+        Err(_) => false,
     }
+}
+
+/// Straight to the origin at this address.
+fn straight(address: SocketAddrV4) -> Route
+    ensures { (result.next ≡ NextServer.Origin) × (result.address ≡ address) }
+{
+    Route {
+        next: NextServer::Origin,
+        address,
+    }
+}
+
+/// To the parent at this address.
+fn through(parent: SocketAddrV4) -> Route
+    ensures { (result.next ≡ NextServer.Parent) × (result.address ≡ parent) }
+{
+    Route {
+        next: NextServer::Parent,
+        address: parent,
+    }
+}
+
+/// Where a request goes whose host is at this address: a name of the table straight, and an address to the parent, if there is one.
+fn route_to(config: &Config, origin: Origin<'_>, address: SocketAddrV4) -> Result<Route, Unrouted>
+    requires { IsAt config.now.hosts origin.host.now origin.port address }
+    ensures route { IfOk result (GoesBy config.now origin.entry.host.now origin.entry.port) }
+    ensures none { IfErr result (GoesNowhereBy config.now origin.entry.host.now origin.entry.port) }
+{
+    if is_own(config, address) {
+        return Err(Unrouted::Unknown);
+    }
+    if is_denied(config, address) {
+        return Err(Unrouted::Denied);
+    }
+    let Some(parent) = config.parent else {
+        return Ok(straight(address));
+    };
+    if is_literal(origin.host) {
+        Ok(through(parent))
+    } else {
+        Ok(straight(address))
+    }
+}
+
+/// Where a request goes by its target's host and port.
+fn found_route(config: &Config, origin: Origin<'_>) -> Result<Route, Unrouted>
+    ensures route { IfOk result (GoesBy config.now origin.entry.host.now origin.entry.port) }
+    ensures none { IfErr result (GoesNowhereBy config.now origin.entry.host.now origin.entry.port) }
+{
+    match (
+        config.hosts.resolve(origin.host, origin.port),
+        config.parent,
+    ) {
+        (Some(address), _) => route_to(config, origin, address),
+        (None, Some(parent)) => Ok(through(parent)),
+        (None, None) => Err(Unrouted::Unknown),
+    }
+}
+
+/// Where a request goes: straight to its origin where the table of hosts has it, and else to the parent, if there is one. Without a parent
+/// a host that is an address is reached there, and each other one is unknown. Nothing is sent to the proxy itself, by whatever name: to the
+/// administrator's port, to that of the counters, or back to the users'. Nor is anything sent for an origin in a network that is denied;
+/// of a name that only the parent knows nobody here can say where it is.
+pub fn route_of(config: &Config, user: &HttpRequest) -> Result<Route, Unrouted>
+    ensures route { (route : AnyRoute) → result ≡ Ok route ↔ IsRoute config.now user.now route }
+
+    // Each reason comes exactly where it holds.
+    ensures unknown { result ≡ Err Unrouted.Unknown ↔ IsUnrouted config.now user.now Unrouted.Unknown }
+    ensures denied { result ≡ Err Unrouted.Denied ↔ IsUnrouted config.now user.now Unrouted.Denied }
+{
+    found_route(config, origin_of(user))
 }

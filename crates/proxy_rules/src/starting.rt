@@ -1,6 +1,6 @@
 //! The beginning of a transaction of the proxy's own sides.
 
-ghost use Rattle.std.specs.Prelude.{◌≡◌, ◌≤◌, ◌↔◌, List, ℕ, [], true, false, is_some, IsOk, IfOk, IfErr};
+ghost use Rattle.std.specs.Prelude.{◌≡◌, ◌≤◌, ◌↔◌, List, ℕ, [], None, true, false, is_some, IsOk, IfOk, IfErr};
 ghost use Rattle.span_bank.specs.declared.limits.TheConstants.{MAX_CAPACITY};
 ghost use Rattle.plan_rules.specs.Claims.{claim_of};
 ghost use Rattle.adapt_turn.specs.Stands.{no_texts};
@@ -15,6 +15,7 @@ use crate::own_ends::{OwnEnds, Way, Wires};
 use crate::running::{Accounting, Running};
 use adapt_turn::{Ends, ServiceEnd, Standing, Start, Tx};
 use http_relay::HopWriter;
+use http_side::OriginWay;
 use icap_client::ServiceSide;
 use plan_rules::{Limits, Pace};
 use span_bank::{Ledgers, Stake};
@@ -33,6 +34,8 @@ pub struct Beginning<B: Ledgers, W: Wires> {
     pub pace: Pace,
     /// Whether the user's connection ends after the answer, whatever else is said.
     pub last: bool,
+    /// How a request goes to its origin. Nothing of a response rests on it.
+    pub origin: OriginWay,
 }
 
 impl<B: Ledgers, W: Wires> Beginning<B, W> {
@@ -48,6 +51,7 @@ impl<B: Ledgers, W: Wires> Beginning<B, W> {
             way,
             pace: _,
             last: _,
+            origin: _,
         } = self;
         (stake, way)
     }
@@ -97,6 +101,7 @@ pub fn begin<B: Ledgers, W: Wires>(
     ensures since { IfOk result (λ running. (first : W.SourceWire) (ahead since beside : List ℕ) → Came W.SourceWire.Wire first ahead since beside beginning.message.side beginning.way.source
         → ⟦<Tx<B, OwnEnds<W>> as Accounting<W>>⟧.since (first_snapshot (text_of beginning.offer.side) ahead beside first beginning.way.next beginning.way.service) running.tx) }
     ensures sides { IfOk result (λ running. (running.tx.ends.source ≡ beginning.message.side) × (running.tx.ends.maker.user ≡ beginning.message.user) × (running.tx.ends.maker.last ≡ beginning.last) × (running.tx.ends.service ≡ service_end_of beginning.offer.side beginning.way.service)) }
+    ensures origin { IfOk result (λ running. beginning.message.user ≡ None → running.tx.ends.maker.origin ≡ beginning.origin) }
     ensures wires { IfOk result (λ running. (running.tx.ends.source_wire ≡ beginning.way.source) × (running.tx.ends.next_wire ≡ beginning.way.next)) }
     ensures back { IfErr result (λ back. back ≡ beginning) }
 {
@@ -112,6 +117,7 @@ pub fn begin<B: Ledgers, W: Wires>(
         way,
         pace,
         last,
+        origin,
     } = beginning;
     let Way {
         source: source_wire,
@@ -119,7 +125,7 @@ pub fn begin<B: Ledgers, W: Wires>(
         next: next_wire,
     } = way;
     let (plan, side) = offer.into_plan();
-    let (source, maker) = message.into_sides(last);
+    let (source, maker) = message.into_sides(last, origin);
     let start = Start {
         plan,
         limits,

@@ -13,6 +13,9 @@ pub trait Leasing: Lender {
     /// Takes a connection: what was found, with its lease.
     fn take(&self) -> Option<(Found<u32>, Self::Lent)>;
 
+    /// Takes a connection, one above 20 before any other, and of those one above 30: what was found, with its lease.
+    fn take_preferred(&self) -> Option<(Found<u32>, Self::Lent)>;
+
     /// Puts a connection back: the one that is closed, where one is.
     fn put(&self, connection: u32, lease: Self::Lent) -> Option<u32>;
 
@@ -38,13 +41,24 @@ impl<'a, L: Ledger, R: Wait> Lender for Counter<'a, L, R> {
     }
 }
 
+/// What was found, with its lease.
+fn found_of<L: Ledger>(taken: Taken<u32, L>) -> Option<(Found<u32>, Lease<L>)> {
+    match taken {
+        Taken::Idle(connection, lease) => Some((Found::Idle(connection), lease)),
+        Taken::Fresh(lease) => Some((Found::Fresh, lease)),
+        Taken::Busy => None,
+    }
+}
+
 impl<'a, L: Ledger, R: Wait> Leasing for Counter<'a, L, R> {
     fn take(&self) -> Option<(Found<u32>, Lease<L>)> {
-        match self.pool.take(self.rt) {
-            Taken::Idle(connection, lease) => Some((Found::Idle(connection), lease)),
-            Taken::Fresh(lease) => Some((Found::Fresh, lease)),
-            Taken::Busy => None,
-        }
+        found_of(self.pool.take(self.rt))
+    }
+
+    fn take_preferred(&self) -> Option<(Found<u32>, Lease<L>)> {
+        let picked = |connection: &u32| *connection > 20;
+        let prefers = |connection: &u32| *connection > 30;
+        found_of(self.pool.take_preferred(self.rt, &picked, &prefers))
     }
 
     fn put(&self, connection: u32, lease: Lease<L>) -> Option<u32> {
@@ -75,9 +89,13 @@ pub struct Leased<'a, T: Leasing> {
     pub leases: &'a mut Vec<T::Lent>,
 }
 
-/// Takes a connection, keeps its lease with the others, and says what came.
-fn take_one<T: Leasing>(pool: &T, leases: &mut Vec<T::Lent>) -> Found<u32> {
-    match pool.take() {
+/// Keeps the lease of what was taken with the others, and says what came.
+fn keep_one<T: Leasing>(
+    pool: &T,
+    leases: &mut Vec<T::Lent>,
+    taken: Option<(Found<u32>, T::Lent)>,
+) -> Found<u32> {
+    match taken {
         Some((found, lease)) => {
             keep(pool, leases, lease);
             found
@@ -109,10 +127,15 @@ fn put_last<T: Leasing>(
 }
 
 impl<'a, T: Leasing> Stage for Leased<'a, T> {
-    /// `take`, `limit 1`, or a step of the last lease.
+    /// `take`, `prefer`, `limit 1`, or a step of the last lease.
     fn put_step(&mut self, step: &[u8], out: &mut Vec<u8>) -> Result<(), NoMemory> {
-        if says(step, b"take") {
-            return put_shown(out, b"found", &take_one(self.pool, self.leases));
+        if says(step, b"take") || says(step, b"prefer") {
+            let taken = if says(step, b"take") {
+                self.pool.take()
+            } else {
+                self.pool.take_preferred()
+            };
+            return put_shown(out, b"found", &keep_one(self.pool, self.leases, taken));
         }
         if let Some(maximum) = number_after(step, b"limit") {
             let closed = self.pool.limit(*out.allocator(), maximum)?;

@@ -60,6 +60,11 @@ impl<J: Journal> Stage for PoolState<u32, J> {
         if says(step, b"take") {
             return put_shown(out, b"found", &self.take());
         }
+        if says(step, b"prefer") {
+            let picked = |connection: &u32| *connection > 20;
+            let prefers = |connection: &u32| *connection > 30;
+            return put_shown(out, b"chosen", &self.take_preferred(&picked, &prefers));
+        }
         if let Some(maximum) = number_after(step, b"limit") {
             let closed = self.set_max(*out.allocator(), maximum.min(MAX_CONNECTIONS))?;
             return put_closed(out, &closed);

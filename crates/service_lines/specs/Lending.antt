@@ -1,5 +1,5 @@
 -- What was asked of a connector, the newest answer first, where connections are lent, renewed and put back.
-use Rattle.std.specs.Prelude.{◌≡◌, ℕ, zero, suc, ◌-◌, ◌<◌, ◌⊎◌, Bool, true, false, List, ◌∷◌, Option, Some, None, Result, Ok, Err}
+use Rattle.std.specs.Prelude.{◌≡◌, ℕ, zero, suc, ◌-◌, ◌<◌, ◌==◌, ◌⊎◌, Bool, true, false, List, ◌∷◌, Option, Some, None, Result, Ok, Err}
 use Rattle.trace_core.specs.declared.history.Point.{Point}
 use Rattle.trace_core.specs.declared.history.Point.TheVariants.{Reqmod, Respmod}
 use Rattle.service_lines.specs.declared.connector.Act.{Act}
@@ -27,6 +27,11 @@ abbrev pub is_reused : {Q A : Type 0} → Leased Q A → Bool
 is_reused (leased.Request lease) = lease.reused
 is_reused (leased.Response lease) = lease.reused
 
+-- whether its connection was idle and lay with the thread that took it, and hasn't been replaced since
+abbrev pub is_own : {Q A : Type 0} → Leased Q A → Bool
+is_own (leased.Request lease) = lease.picked
+is_own (leased.Response lease) = lease.picked
+
 -- it has a lease of this point, which tells whether the connection was idle
 abbrev pub Tells : {I Q A : Type 0} → Point → Found I Q A → Type 0
 Tells point (found.Idle idle lease) = (point_of lease ≡ point) × (is_reused lease ≡ true)
@@ -42,6 +47,13 @@ abbrev pub FindsYoung : {I Q A : Type 0} → (I → ℕ) → (now most : ℕ) �
 FindsYoung since now most (found.Idle idle lease) = IsYoung (since idle) now most
 FindsYoung since now most (found.Fresh lease) = now ≡ now
 FindsYoung since now most found.Busy = now ≡ now
+
+-- the lease tells whether the idle connection that was found lies with this thread. A pool gives one of another thread's only where
+-- none lies with this one
+abbrev pub FindsOwn : {I Q A : Type 0} → (I → ℕ) → (thread : ℕ) → Found I Q A → Type 0
+FindsOwn home thread (found.Idle idle lease) = is_own lease ≡ (home idle == thread)
+FindsOwn home thread (found.Fresh lease) = is_own lease ≡ false
+FindsOwn home thread found.Busy = true ≡ true
 
 -- an idle connection that was found leads to where it should
 abbrev pub FindsLeading : {I Q A : Type 0} → (I → Type 0) → Found I Q A → Type 0
@@ -63,10 +75,10 @@ after_take (Some (found.Fresh lease)) p = p
 after_take (Some found.Busy) p = p
 
 -- what was asked to lend it: an idle connection is brought into use, and a fresh one is opened; and this was the fault
-abbrev pub after_lend : {I Q A : Type 0} → (I → ℕ) → Found I Q A → Option LendFault → List Act → List Act
-after_lend since (found.Idle idle lease) fault p = Resumed (since idle) fault ∷ p
-after_lend since (found.Fresh lease) fault p = Opened fault ∷ p
-after_lend since found.Busy fault p = p
+abbrev pub after_lend : {I Q A : Type 0} → (since home : I → ℕ) → Found I Q A → Option LendFault → List Act → List Act
+after_lend since home (found.Idle idle lease) fault p = Resumed (since idle) (home idle) fault ∷ p
+after_lend since home (found.Fresh lease) fault p = Opened fault ∷ p
+after_lend since home found.Busy fault p = p
 
 -- this many idle connections were looked at that aren't fit for use
 abbrev pub after_dead : ℕ → List Act → List Act
@@ -79,25 +91,29 @@ pub record TakesLive {I Q A : Type 0} (before after : List Act → Type 0) (resu
   pub each : (p : List Act) → before p → after (after_take (Some result) (after_dead dead p))
 
 -- An idle connection was lent at this moment, or failed for this: it was young, was looked at and brought into use, once this many that
--- aren't fit for use were passed over.
-pub record LendsIdle (now most : ℕ) (before after : List Act → Type 0) (fault : Option LendFault) : Type 0 where
+-- aren't fit for use were passed over. It is this thread's own, or isn't: then none lay with this thread.
+pub record LendsIdle (now most thread : ℕ) (own : Bool) (before after : List Act → Type 0) (fault : Option LendFault) : Type 0 where
   pub dead : ℕ
   pub since : ℕ
+  pub home : ℕ
   pub young : IsYoung since now most
-  pub each : (p : List Act) → before p → after (Resumed since fault ∷ Looked true ∷ after_dead dead p)
+  pub at_home : own ≡ (home == thread)
+  pub each : (p : List Act) → before p → after (Resumed since home fault ∷ Looked true ∷ after_dead dead p)
 
 -- A connection was opened, or failed for this, once this many idle ones that aren't fit for use were passed over.
 pub record LendsFresh (before after : List Act → Type 0) (fault : Option LendFault) : Type 0 where
   pub dead : ℕ
   pub each : (p : List Act) → before p → after (Opened fault ∷ after_dead dead p)
 
--- Lending at this moment, where a connection may lie idle for so many seconds: the lease tells whether the connection was idle.
-abbrev pub Lends : {U Q A : Type 0} → (now most : ℕ) → (before after : List Act → Type 0) → Result (LeasedConnection U Q A) LendFault → Type 0
-Lends now most before after (Ok connection) =
-    (is_reused connection.lease ≡ true → LendsIdle now most before after None)
+-- Lending at this moment to this thread, where a connection may lie idle for so many seconds: the lease tells whether the connection was
+-- idle, and whether it was this thread's own.
+abbrev pub Lends : {U Q A : Type 0} → (now most thread : ℕ) → (before after : List Act → Type 0) → Result (LeasedConnection U Q A) LendFault → Type 0
+Lends now most thread before after (Ok connection) =
+    (is_reused connection.lease ≡ true → LendsIdle now most thread (is_own connection.lease) before after None)
     × (is_reused connection.lease ≡ false → LendsFresh before after None)
-Lends now most before after (Err Busy) = (n : ℕ) × ((p : List Act) → before p → after (after_dead n p))
-Lends now most before after (Err fault) = LendsIdle now most before after (Some fault) ⊎ LendsFresh before after (Some fault)
+Lends now most thread before after (Err Busy) = (n : ℕ) × ((p : List Act) → before p → after (after_dead n p))
+Lends now most thread before after (Err fault) =
+    ((own : Bool) × LendsIdle now most thread own before after (Some fault)) ⊎ LendsFresh before after (Some fault)
 
 -- A connection with a lease of this point was lent, if any was.
 abbrev pub IsOf : {U Q A : Type 0} → Point → Result (LeasedConnection U Q A) LendFault → Type 0

@@ -22,8 +22,8 @@ pub enum Act {
     Opened(Option<LendFault>),
     /// Whether an idle connection is fit for use.
     Looked(bool),
-    /// It brought a connection into use that lay idle since this moment, or failed for this.
-    Resumed(u64, Option<LendFault>),
+    /// It brought a connection into use that lay idle since this moment, with the thread of this number, or failed for this.
+    Resumed(u64, usize, Option<LendFault>),
     /// Whether a used connection may lie idle.
     Checked(bool),
     /// Whether it took a connection out of use, to lie idle. Otherwise it closed it.
@@ -42,12 +42,19 @@ pub trait Edge: Copy + Drop {
 
     ghost since: { Self.Idle → ℕ };
 
+    // the number of the thread with which a connection lies idle
+    ghost home: { Self.Idle → ℕ };
+
     // the number of the thread that was woken
     ghost thread_of: { Self.Woken → ℕ };
 
     /// The moment since which a connection lies idle, in seconds.
     fn since(idle: &Self::Idle) -> u64
         ensures { result ≡ since idle.now };
+
+    /// The number of the thread with which a connection lies idle: the one that used it last, whose loop still hears of it.
+    fn home(idle: &Self::Idle) -> usize
+        ensures { result ≡ home idle.now };
 
     /// Whether an idle connection's service hasn't ended it, and has said nothing on it that nobody asked for.
     fn is_quiet(&self, idle: &Self::Idle) -> bool;
@@ -70,6 +77,9 @@ pub trait Keeper<E: Edge> {
 
     ghost past: { Self → List AnyAct → Type 0 };
 
+    // the number of the thread whose exchange it is
+    ghost thread: { Self → ℕ };
+
     // a connection that lies idle is this one, which was in use
     ghost is_line: { E.Idle → Self.Used → Type 0 };
 
@@ -77,10 +87,11 @@ pub trait Keeper<E: Edge> {
     fn may_rest(&mut self, used: &Self::Used) -> bool
         ensures { (p : List AnyAct) → past self.old p → past self.new (Act.Checked result ∷ p) };
 
-    /// Takes a connection out of use, to lie idle since this moment. `None` where it can't lie idle, as without a descriptor for it:
+    /// Takes a connection out of use, to lie idle with this thread since this moment. `None` where it can't lie idle, as without a descriptor for it:
     /// then it is closed.
     fn rest(&mut self, used: Self::Used, now: u64) -> Option<E::Idle>
         ensures since { IfSome result (λ idle. E.since idle ≡ now) }
+        ensures home { IfSome result (λ idle. E.home idle ≡ thread self.old) }
         ensures line { IfSome result (λ idle. is_line idle used) }
         ensures asked { (p : List AnyAct) → past self.old p → past self.new (Act.Rested (is_some result) ∷ p) };
 
@@ -99,6 +110,10 @@ pub trait Connector<E: Edge>: Keeper<E> {
 
     ghost idle_leads: { Self.Place → E.Idle → Type 0 };
 
+    /// Whether it is known without a further look that nothing came on an idle connection of this thread's since it was laid down. Such ones
+    /// are lent first.
+    fn is_known_quiet(&self, idle: &E::Idle) -> bool;
+
     /// Opens a connection to the service that is there. It may still be on its way. It is never `Busy`.
     fn open(&mut self, place: Self::Place) -> Result<Self::Used, LendFault>
         ensures free { result ≡ Err LendFault.Busy → ⊥ }
@@ -115,5 +130,5 @@ pub trait Connector<E: Edge>: Keeper<E> {
     fn resume(&mut self, idle: E::Idle) -> Result<Self::Used, LendFault>
         ensures free { result ≡ Err LendFault.Busy → ⊥ }
         ensures leads { (place : Self.Place) → idle_leads place idle → IfOk result (λ used. leads place used) }
-        ensures asked { (p : List AnyAct) → Self.past self.old p → Self.past self.new (Act.Resumed (E.since idle) (fault_in result) ∷ p) };
+        ensures asked { (p : List AnyAct) → Self.past self.old p → Self.past self.new (Act.Resumed (E.since idle) (E.home idle) (fault_in result) ∷ p) };
 }

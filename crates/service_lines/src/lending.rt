@@ -3,7 +3,7 @@
 ghost use Rattle.std.specs.Prelude.{◌≡◌, ◌↔◌, false, List, Err, Ok, IfOk, IfSome, OnOk, ◌∷◌};
 ghost use Rattle.service_lines.specs.declared.connector.Act.{Act as AnyAct};
 ghost use Rattle.service_lines.specs.Calls.{Calls};
-ghost use Rattle.service_lines.specs.Lending.{point_of, is_reused, fault_in, Tells, HasLease, IsOf, FindsYoung, FindsLeading, Leads, after_take, after_lend, TakesLive, Lends, Reopens, LaysDown, PutsBack};
+ghost use Rattle.service_lines.specs.Lending.{point_of, is_reused, fault_in, Tells, HasLease, IsOf, FindsYoung, FindsOwn, FindsLeading, Leads, after_take, after_lend, TakesLive, Lends, Reopens, LaysDown, PutsBack};
 
 use crate::connector::{Act, Connector, Edge, Keeper, LendFault};
 use crate::leased::{Found, Leased, LeasedConnection};
@@ -47,9 +47,10 @@ impl<'a, E: Edge, Q: Ledger, A: Ledger> Pools<'a, E, Q, A> {
         ensures leads { IfSome result (FindsLeading (C.idle_leads place)) }
         ensures tells { IfSome result (Tells point) }
         ensures young { IfSome result (FindsYoung E.since now self.now.idle_seconds) }
+        ensures own { IfSome result (FindsOwn E.home self.now.thread) }
         ensures looks { (p : List AnyAct) → C.past connector.old p → C.past connector.new (after_take result p) }
     {
-        match self.take_young(rt, point, now) {
+        match self.take_young(rt, connector, point, now) {
             Found::Idle(idle, lease) => {
                 if connector.is_fit(place, &idle) {
                     Some(Found::Idle(idle, lease))
@@ -77,6 +78,7 @@ impl<'a, E: Edge, Q: Ledger, A: Ledger> Pools<'a, E, Q, A> {
         ensures leads { FindsLeading (C.idle_leads place) result }
         ensures tells { Tells point result }
         ensures young { FindsYoung E.since now self.now.idle_seconds result }
+        ensures own { FindsOwn E.home self.now.thread result }
         ensures takes { TakesLive (C.past connector.old) (C.past connector.new) result }
     {
         for _ in 0..MAX_CONNECTIONS {
@@ -118,7 +120,7 @@ impl<'a, E: Edge, Q: Ledger, A: Ledger> Pools<'a, E, Q, A> {
         ensures leads { Leads (C.leads place) result }
         ensures busy { (result ≡ Err LendFault.Busy) ↔ (found ≡ Found.Busy) }
         ensures lease { IfOk result (λ connection. HasLease found connection.lease) }
-        ensures asked { (p : List AnyAct) → C.past connector.old p → C.past connector.new (after_lend E.since found (fault_in result) p) }
+        ensures asked { (p : List AnyAct) → C.past connector.old p → C.past connector.new (after_lend E.since E.home found (fault_in result) p) }
     {
         match found {
             Found::Idle(idle, lease) => {
@@ -133,8 +135,8 @@ impl<'a, E: Edge, Q: Ledger, A: Ledger> Pools<'a, E, Q, A> {
         }
     }
 
-    /// Lends a connection to a point's service, which is there, at this moment, in seconds: an idle one first. It is the turn of the one
-    /// who gets it.
+    /// Lends a connection to a point's service, which is there, at this moment, in seconds: an idle one first, and its
+    /// own thread's before another's. It is the turn of the one who gets it.
     fn lend_now<R: Wait, C: Connector<E>>(
         &self,
         rt: &R,
@@ -147,7 +149,7 @@ impl<'a, E: Edge, Q: Ledger, A: Ledger> Pools<'a, E, Q, A> {
         requires { turn.seconds ≡ self.now.waiting.seconds }
         ensures leads { Leads (C.leads place) result }
         ensures point { IsOf point result }
-        ensures lends { Lends now self.now.idle_seconds (C.past connector.old) (C.past connector.new) result }
+        ensures lends { Lends now self.now.idle_seconds self.now.thread (C.past connector.old) (C.past connector.new) result }
     {
         // That it is had is all that is asked of it.
         drop(turn);
@@ -155,8 +157,8 @@ impl<'a, E: Edge, Q: Ledger, A: Ledger> Pools<'a, E, Q, A> {
         self.lend_found(rt, connector, place, found)
     }
 
-    /// Lends a connection to a point's service, which is there, at this moment, in seconds: an idle one first. One who comes while others
-    /// wait for theirs gets none.
+    /// Lends a connection to a point's service, which is there, at this moment, in seconds: an idle one first, and this
+    /// thread's own before another's. One who comes while others wait for theirs gets none.
     pub fn lend<R: Wait, C: Connector<E>>(
         &self,
         rt: &R,
@@ -167,7 +169,7 @@ impl<'a, E: Edge, Q: Ledger, A: Ledger> Pools<'a, E, Q, A> {
     ) -> Result<LeasedConnection<C::Used, Q, A>, LendFault>
         ensures leads { Leads (C.leads place) result }
         ensures point { IsOf point result }
-        ensures lends { Lends now self.now.idle_seconds (C.past connector.old) (C.past connector.new) result }
+        ensures lends { Lends now self.now.idle_seconds self.now.thread (C.past connector.old) (C.past connector.new) result }
     {
         match self.waiting.turn_of(rt, point, None) {
             Some(turn) => self.lend_now(rt, connector, point, place, turn, now),
@@ -187,7 +189,7 @@ impl<'a, E: Edge, Q: Ledger, A: Ledger> Pools<'a, E, Q, A> {
     ) -> Result<LeasedConnection<C::Used, Q, A>, LendFault>
         ensures leads { Leads (C.leads place) result }
         ensures point { IsOf point result }
-        ensures lends { Lends now self.now.idle_seconds (C.past connector.old) (C.past connector.new) result }
+        ensures lends { Lends now self.now.idle_seconds self.now.thread (C.past connector.old) (C.past connector.new) result }
     {
         let Some(turn) = self.waiting.turn_of(rt, point, Some(waiter)) else {
             return Err(LendFault::Busy);

@@ -1,12 +1,12 @@
 //! The pools of both points.
 
-ghost use Rattle.std.specs.Prelude.{◌≡◌, ◌↔◌, ◌≤◌, true, false, Some, None, IfOk, OnOk, OnErr};
-ghost use Rattle.service_lines.specs.Lending.{Tells, IsYoung, FindsYoung, point_of, is_reused};
+ghost use Rattle.std.specs.Prelude.{◌≡◌, ◌↔◌, ◌≤◌, ◌==◌, true, false, Some, None, IfOk, OnOk, OnErr};
+ghost use Rattle.service_lines.specs.Lending.{Tells, IsYoung, FindsYoung, FindsOwn, point_of, is_reused};
 ghost use Rattle.service_lines.specs.Calls.{Calls};
 ghost use Rattle.service_lines.specs.Limits.{limited_point, maximum_of, IsSetTo};
 
 use crate::book::PointBook;
-use crate::connector::Edge;
+use crate::connector::{Connector, Edge};
 use crate::leased::{Found, Leased, Limit};
 use crate::queues::{Call, Waiting};
 use adapt_bytes::MAX_CONNECTIONS;
@@ -31,32 +31,53 @@ pub struct Pools<'a, E: Edge, Q: Ledger, A: Ledger> {
     pub response: &'a Pool<E::Idle, A>,
     /// How many seconds a connection may lie idle. None does where it is 0.
     pub idle_seconds: u64,
+    /// The number of the thread that takes connections here: what lies idle with it comes before what lies with others.
+    pub thread: usize,
     /// Those who wait for a connection of them.
     pub waiting: Waiting<'a, E>,
 }
 
 impl<'a, E: Edge, Q: Ledger, A: Ledger> Pools<'a, E, Q, A> {
-    /// These pools, for another thread.
-    pub fn for_thread(&self) -> Pools<'a, E, Q, A> {
+    /// These pools, for the thread of this number.
+    pub fn for_thread(&self, thread: usize) -> Pools<'a, E, Q, A>
+        ensures { result.thread ≡ thread }
+    {
         Pools {
             request: self.request,
             response: self.response,
             idle_seconds: self.idle_seconds,
+            thread,
             waiting: self.waiting.for_thread(),
         }
     }
 
-    /// Leases a connection of a point's service, an idle one first.
-    pub(crate) fn take<R: Wait>(&self, rt: &R, point: Point) -> Found<E::Idle, Q, A>
-        ensures { Tells point result }
+    /// Whether an idle connection lies with this thread.
+    fn is_own(&self, idle: &E::Idle) -> bool
+        ensures { result ≡ (E.home idle.now == self.now.thread) }
     {
+        E::home(idle) == self.thread
+    }
+
+    /// Leases a connection of a point's service, an idle one first: of those that lie with this thread the youngest that is known to be
+    /// quiet, or the youngest where none is; where none lies with this thread, the youngest of another one's.
+    pub(crate) fn take<R: Wait, C: Connector<E>>(
+        &self,
+        rt: &R,
+        connector: &C,
+        point: Point,
+    ) -> Found<E::Idle, Q, A>
+        ensures tells { Tells point result }
+        ensures own { FindsOwn E.home self.now.thread result }
+    {
+        let is_own = |idle: &E::Idle| self.is_own(idle);
+        let is_quiet = |idle: &E::Idle| connector.is_known_quiet(idle);
         match point {
-            Point::Reqmod => match self.request.take(rt) {
+            Point::Reqmod => match self.request.take_preferred(rt, &is_own, &is_quiet) {
                 Taken::Idle(idle, lease) => Found::Idle(idle, Leased::Request(lease)),
                 Taken::Fresh(lease) => Found::Fresh(Leased::Request(lease)),
                 Taken::Busy => Found::Busy,
             },
-            Point::Respmod => match self.response.take(rt) {
+            Point::Respmod => match self.response.take_preferred(rt, &is_own, &is_quiet) {
                 Taken::Idle(idle, lease) => Found::Idle(idle, Leased::Response(lease)),
                 Taken::Fresh(lease) => Found::Fresh(Leased::Response(lease)),
                 Taken::Busy => Found::Busy,
@@ -72,12 +93,19 @@ impl<'a, E: Edge, Q: Ledger, A: Ledger> Pools<'a, E, Q, A> {
     }
 
     /// Takes a connection of a point's service, but never one that is too old: those are closed, and their leases given up.
-    pub(crate) fn take_young<R: Wait>(&self, rt: &R, point: Point, now: u64) -> Found<E::Idle, Q, A>
+    pub(crate) fn take_young<R: Wait, C: Connector<E>>(
+        &self,
+        rt: &R,
+        connector: &C,
+        point: Point,
+        now: u64,
+    ) -> Found<E::Idle, Q, A>
         ensures tells { Tells point result }
         ensures young { FindsYoung E.since now self.now.idle_seconds result }
+        ensures own { FindsOwn E.home self.now.thread result }
     {
         for _ in 0..MAX_CONNECTIONS {
-            match self.take(rt, point) {
+            match self.take(rt, connector, point) {
                 Found::Idle(idle, lease) => {
                     if !self.is_old(&idle, now) {
                         return Found::Idle(idle, lease);
@@ -157,20 +185,20 @@ impl<'a, E: Edge, Q: Ledger, A: Ledger> Pools<'a, E, Q, A> {
         }
     }
 
-    /// Closes an idle connection to a point's service. False if there is none.
+    /// Closes the oldest idle connection to a point's service, with whichever thread it lies: the one that waits longest may open another.
+    /// False if there is none.
     fn close_idle<R: Wait>(&self, rt: &R, point: Point) -> bool {
-        match self.take(rt, point) {
-            Found::Idle(idle, lease) => {
-                drop(idle);
-                self.give_up(rt, lease);
-                true
-            }
-            Found::Fresh(lease) => {
-                self.give_up(rt, lease);
-                false
-            }
-            Found::Busy => false,
+        let any = |_idle: &E::Idle| true;
+        let checked = match point {
+            Point::Reqmod => self.request.close_idle(rt, 0, &any),
+            Point::Respmod => self.response.close_idle(rt, 0, &any),
+        };
+        match checked {
+            Checked::Closed(idle) => drop(idle),
+            Checked::Stays | Checked::Missing => return false,
         }
+        self.waiting.call(rt, point);
+        true
     }
 
     /// Closes as many idle connections as keep the next user out, and at most this many. False if none is left that could be closed.

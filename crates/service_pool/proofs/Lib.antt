@@ -1,3 +1,4 @@
 pub mod HistoryLemmas
 pub mod JournalLemmas
+pub mod PickLemmas
 pub mod StepLemmas

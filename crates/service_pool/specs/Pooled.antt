@@ -1,10 +1,12 @@
 -- What a pool shows, what it keeps, and what a take does.
-use Rattle.std.specs.Prelude.{◌≡◌, ℕ, ◌≤◌, ◌<◌, Bool, true, false, List, [], ◌∷◌, ◌++◌, length, slice_index_or}
+use Rattle.std.specs.Prelude.{◌≡◌, ℕ, ◌+◌, ◌≤◌, ◌<◌, ◌⊎◌, Bool, true, false, List, [], ◌∷◌, ◌++◌, length, slice_index_or}
 use Rattle.std.specs.Borrow.{Bor}
 use Rattle.std.specs.Fn.{Shared, FnReturnsAt}
 use Rattle.std.specs.List.{remove}
 use Rattle.service_pool.specs.declared.state.Found.{Found}
 use Rattle.service_pool.specs.declared.state.Found.TheVariants.{Idle, Fresh, Busy}
+use Rattle.service_pool.specs.declared.state.Choice.{Choice}
+use Rattle.service_pool.specs.declared.state.Choice.TheVariants as choice
 use Rattle.service_pool.specs.declared.state.Checked.{Checked}
 use Rattle.service_pool.specs.declared.state.Checked.TheVariants.{Closed, Stays, Missing}
 use Rattle.service_pool.specs.declared.step.Numbers.{Numbers}
@@ -61,3 +63,45 @@ abbrev pub IsPicked : {F C : Type 0} → Shared F (Bor C × Unit {0}) Bool → F
 IsPicked test f idle index (Closed c) = Tests test f idle index true
 IsPicked test f idle index Stays = Tests test f idle index false
 IsPicked test f idle index Missing = Unit {0}
+
+-- the test picks none of the connections from an index on, so none that is younger than the one before it
+abbrev pub NonePicked : {F C : Type 0} → Shared F (Bor C × Unit {0}) Bool → F → List C → ℕ → Type 0
+NonePicked test f idle from = (i : ℕ) → from ≤ i → i < length idle → Tests test f idle i false
+
+-- none of them is picked by the one test and preferred by the other
+abbrev pub NonePreferred : {F G C : Type 0} → Shared F (Bor C × Unit {0}) Bool → F → Shared G (Bor C × Unit {0}) Bool → G → List C → ℕ → Type 0
+NonePreferred test f better g idle from = (i : ℕ) → from ≤ i → i < length idle → Tests test f idle i false ⊎ Tests better g idle i false
+
+-- the connection at this index comes first of those that the one test picks: the other one prefers it, and no younger one; or it prefers
+-- none of them, and this is the youngest
+abbrev pub IsFirst : {F G C : Type 0} → Shared F (Bor C × Unit {0}) Bool → F → Shared G (Bor C × Unit {0}) Bool → G → List C → ℕ → Type 0
+IsFirst test f better g idle index =
+    (Tests better g idle index true × NonePreferred test f better g idle (index + 1))
+    ⊎ (NonePreferred test f better g idle 0 × NonePicked test f idle (index + 1))
+
+-- The idle connection at this index is taken: the test picks it, and it comes first of those. The others keep their order.
+pub record TakesAt {F G C : Type 0} (test : Shared F (Bor C × Unit {0}) Bool) (f : F) (better : Shared G (Bor C × Unit {0}) Bool) (g : G)
+    (old new : List C) (index : ℕ) (c : C) : Type 0 where
+  pub within : index < length old
+  pub taken : c ≡ slice_index_or old index c
+  pub rest : new ≡ remove old index
+  pub picked : FnReturnsAt test f c true
+  pub first : IsFirst test f better g old index
+
+-- a take by a preference gives the first one of those that a test picks; where it picks none, the youngest of all; where none is idle,
+-- what any take gives
+abbrev pub Chooses : {F G C : Type 0} → (Journaled → Journaled) → Shared F (Bor C × Unit {0}) Bool → F → Shared G (Bor C × Unit {0}) Bool → G
+    → Pooled C → Pooled C → Choice C → Type 0
+Chooses make_room test f better g old new (choice.Picked c) =
+    ((index : ℕ) × TakesAt test f better g old.idle new.idle index c) × (new.journal ≡ stepped make_room old.journal Take)
+Chooses make_room test f better g old new (choice.Unpicked c) =
+    Takes make_room old new (Idle c) × FnReturnsAt test f c false × NonePicked test f old.idle 0
+Chooses make_room test f better g old new choice.Fresh = Takes make_room old new Fresh
+Chooses make_room test f better g old new choice.Busy = Takes make_room old new Busy
+
+-- how many connections such a take leases
+abbrev pub choice_count : {C : Type 0} → Choice C → ℕ
+choice_count (choice.Picked c) = 1
+choice_count (choice.Unpicked c) = 1
+choice_count choice.Fresh = 1
+choice_count choice.Busy = 0

@@ -1,35 +1,48 @@
 //! Leases: the shares of a pool's leased number.
 ghost use Rattle.std.specs.Prelude.{◌≡◌, ◌+◌, ◌≤◌, ◌<◌, true, false};
+ghost use Rattle.service_pool.specs.Leased.{leased_of};
 
 use std::marker::Model;
 use std::sync::ledger::{Book, Ledger, Share};
+
+/// How the connection of a lease was found.
+#[derive(Clone, Copy, Debug, PartialEq, Eq)]
+pub(crate) enum Source {
+    /// It was idle, and the test of the take picked it.
+    Picked,
+    /// It was idle.
+    Idle,
+    /// It was opened for the lease.
+    Fresh,
+}
 
 /// A lease, or connection slot: the right to have one connection of a pool open.
 ///
 /// `L` names the ledger of its pool, so a pool takes no lease of another pool. A lease has one part
 /// of the ledger, and counts one in it. It has no `Drop`: it must go back to its pool, by `put`,
-/// `give_up` or `audit`. Contracts see whether its connection was idle when it was taken.
+/// `give_up` or `audit`. Contracts see whether its connection was idle when it was taken, and whether
+/// the test of a `take_preferred` picked it.
 #[must_use]
 pub struct Lease<L: Ledger> {
-    reused: bool,
+    source: Source,
     share: Share<L>,
 }
 
 impl<L: Ledger> Model for Lease<L> {
     ghost use Rattle.std.specs.Prelude.{◌≡◌};
-    ghost use Rattle.service_pool.specs.Leased.{Leased};
+    ghost use Rattle.service_pool.specs.Leased.{Leased, leased_of};
 
     ghost Value = { Leased };
 
-    ghost view = { λ l. record { reused = l.reused } };
+    ghost view = { λ l. leased_of l.source };
 
     ghost invariant = { λ l. (l.share.parts ≡ 1) × (l.share.amount ≡ 1) };
 }
 
-/// The result of a `take`.
+/// The result of a `take` or a `take_preferred`.
 #[must_use]
 pub enum Taken<C, L: Ledger> {
-    /// The idle connection that was put last, leased.
+    /// An idle connection, leased: the one that was put last, or one that is preferred.
     Idle(C, Lease<L>),
     /// No connection is idle: the lease of one that the caller may open.
     Fresh(Lease<L>),
@@ -38,17 +51,17 @@ pub enum Taken<C, L: Ledger> {
 }
 
 // One lease more, with a part of those that stay under the lock.
-pub(crate) fn lend<L: Ledger>(leased: &mut Book<L>, rest: &mut Share<L>, reused: bool) -> Lease<L>
+pub(crate) fn lend<L: Ledger>(leased: &mut Book<L>, rest: &mut Share<L>, source: Source) -> Lease<L>
     requires parts { 1 < rest.old.parts }
     requires none { rest.old.amount ≡ 0 }
     ensures total { leased.new.total ≡ leased.old.total + 1 }
     ensures parts { rest.new.parts + 1 ≡ rest.old.parts }
     ensures none { rest.new.amount ≡ 0 }
-    ensures lease { result ≡ record { reused = reused } }
+    ensures lease { result ≡ leased_of source }
 {
     let mut share = rest.split_off(1, 0);
     leased.add(&mut share, 1);
-    Lease { reused, share }
+    Lease { source, share }
 }
 
 // One lease less, whose part goes back to those that stay under the lock.
@@ -60,7 +73,7 @@ pub(crate) fn give_back<L: Ledger>(leased: &mut Book<L>, rest: &mut Share<L>, le
 {
     // A lease has no `Drop`, so it ends here.
     let Lease {
-        reused: _,
+        source: _,
         mut share,
     } = lease;
     leased.sub(&mut share, 1);
@@ -72,7 +85,10 @@ impl<L: Ledger> Lease<L> {
     pub fn reused(&self) -> bool
         ensures { result ≡ self.now.reused }
     {
-        self.reused
+        match self.source {
+            Source::Picked | Source::Idle => true,
+            Source::Fresh => false,
+        }
     }
 
     // Changes nothing, and shows that the lease is counted.
@@ -85,9 +101,9 @@ impl<L: Ledger> Lease<L> {
 
     // Its connection is one that was opened for it.
     pub(crate) fn renew(&mut self)
-        ensures { self.new ≡ record { reused = false } }
+        ensures { self.new ≡ leased_of Source.Fresh }
     {
-        self.reused = false;
+        self.source = Source::Fresh;
     }
 
     // Adds the lease to a share.
@@ -96,7 +112,7 @@ impl<L: Ledger> Lease<L> {
         ensures amount { all.new.amount ≡ all.old.amount + 1 }
         ensures apart { all.new.parts ≤ L.parts }
     {
-        let Lease { reused: _, share } = self;
+        let Lease { source: _, share } = self;
         all.merge(share);
     }
 }

@@ -18,7 +18,7 @@ pub use crate::lease::{Lease, Taken};
 pub use crate::locked::{Limited, Locked, SetTo};
 pub use crate::pool::Pool;
 pub use crate::rebasing::RebasingJournal;
-pub use crate::state::{Checked, Found, PoolState};
+pub use crate::state::{Checked, Choice, Found, PoolState};
 pub use crate::step::{AuditFault, LEDGER_PARTS, Numbers, Over, PoolStep};
 pub use crate::window::Window;
 pub use std::alloc::AllocError as NoMemory;

@@ -1,13 +1,13 @@
 //! The locked part of a pool: its state, and the book of its leases.
 ghost use Rattle.std.specs.Prelude.{◌≡◌, ◌↔◌, ◌+◌, ◌≤◌, ◌<◌, [], ◌∷◌, ◌++◌, false, IsErr, IfOk, IfErr, OnOk, OnErr, IfSome, IfNone, vec_len};
-ghost use Rattle.service_pool.specs.Leasing.{found, Tells};
-ghost use Rattle.service_pool.specs.Pooled.{Takes, Closes, IsPicked, IsBusy, IsKept};
+ghost use Rattle.service_pool.specs.Leasing.{found, chosen, Tells, TellsTest};
+ghost use Rattle.service_pool.specs.Pooled.{Takes, Chooses, Closes, IsPicked, IsBusy, IsKept};
 ghost use Rattle.service_pool.specs.Replay.{open_count};
 ghost use Rattle.service_pool.specs.Journal.{slid, stepped};
 
 use crate::NoMemory;
-use crate::lease::{Lease, Taken, give_back, lend};
-use crate::state::{Checked, Found, PoolState};
+use crate::lease::{Lease, Source, Taken, give_back, lend};
+use crate::state::{Checked, Choice, Found, PoolState};
 use crate::step::{AuditFault, LEDGER_PARTS, Numbers, Over, PoolStep};
 use crate::window::Window;
 use adapt_bytes::MAX_CONNECTIONS;
@@ -117,9 +117,41 @@ impl<C, L: Ledger> Locked<C, L> {
             rest,
         } = self;
         match state.take() {
-            Found::Idle(connection) => Taken::Idle(connection, lend(leased, rest, true)),
-            Found::Fresh => Taken::Fresh(lend(leased, rest, false)),
+            Found::Idle(connection) => Taken::Idle(connection, lend(leased, rest, Source::Idle)),
+            Found::Fresh => Taken::Fresh(lend(leased, rest, Source::Fresh)),
             Found::Busy => Taken::Busy,
+        }
+    }
+
+    /// Takes the first idle connection of those that the one test picks, whatever younger ones there are: the
+    /// youngest that the other test prefers, or the youngest where it prefers none. Where none is picked it
+    /// takes the youngest of all, or the right to open one. It comes with a lease, as the step `Take`, and the
+    /// others keep their order.
+    pub fn take_preferred<F: Fn(&C) -> bool, G: Fn(&C) -> bool>(
+        &mut self,
+        picked: &F,
+        prefers: &G,
+    ) -> Taken<C, L>
+        requires picked { F.IsAlwaysCallable picked.now }
+        requires prefers { G.IsAlwaysCallable prefers.now }
+        ensures take { Chooses slid F.Fn picked.now G.Fn prefers.now self.old self.new (chosen result) }
+        ensures tells { Tells result }
+        ensures picked { TellsTest F.Fn picked.now result }
+
+        // A preference refuses nothing.
+        ensures busy { (result ≡ Taken.Busy) ↔ IsBusy self.old }
+        ensures kept { IsKept self.new }
+    {
+        let Locked {
+            state,
+            leased,
+            rest,
+        } = self;
+        match state.take_preferred(picked, prefers) {
+            Choice::Picked(c) => Taken::Idle(c, lend(leased, rest, Source::Picked)),
+            Choice::Unpicked(c) => Taken::Idle(c, lend(leased, rest, Source::Idle)),
+            Choice::Fresh => Taken::Fresh(lend(leased, rest, Source::Fresh)),
+            Choice::Busy => Taken::Busy,
         }
     }
 
@@ -170,7 +202,7 @@ impl<C, L: Ledger> Locked<C, L> {
         ensures idle { self.new.idle ≡ self.old.idle }
         ensures step { OnOk result
             (self.new.journal ≡ stepped slid self.old.journal PoolStep.Replace) }
-        ensures fresh { OnOk result (lease.new ≡ record { reused = false }) }
+        ensures fresh { OnOk result (lease.new ≡ record { reused = false; picked = false }) }
         ensures err { OnErr result ((self.new ≡ self.old) × (lease.new ≡ lease.old)) }
         ensures leased { 1 ≤ self.old.journal.numbers.leased }
         ensures kept { IsKept self.new }

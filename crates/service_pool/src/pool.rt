@@ -1,7 +1,7 @@
 //! The pool that threads share: each call takes its one lock, calls one method of the locked part,
 //! and releases the lock.
 ghost use Rattle.std.specs.Prelude.{◌≡◌, ◌≤◌, ◌<◌, false, OnOk, OnErr, IfOk, IfErr, IfSome, vec_len};
-ghost use Rattle.service_pool.specs.Leasing.{Tells};
+ghost use Rattle.service_pool.specs.Leasing.{Tells, TellsTest};
 
 use crate::NoMemory;
 use crate::lease::{Lease, Taken};
@@ -71,6 +71,24 @@ impl<C, L: Ledger> Pool<C, L> {
         self.locked.lock(rt).take()
     }
 
+    /// Takes the first idle connection of those that the one test picks, whatever younger ones there are: the
+    /// youngest that the other test prefers, or the youngest where it prefers none. Where none is picked it
+    /// takes what `take` takes. The lease tells whether one was picked. The tests are made of each idle
+    /// connection, the youngest first, under the lock, so they have to be short ones.
+    pub fn take_preferred<F: Fn(&C) -> bool, G: Fn(&C) -> bool>(
+        &self,
+        rt: &impl Wait,
+        picked: &F,
+        prefers: &G,
+    ) -> Taken<C, L>
+        requires picked { F.IsAlwaysCallable picked.now }
+        requires prefers { G.IsAlwaysCallable prefers.now }
+        ensures tells { Tells result }
+        ensures picked { TellsTest F.Fn picked.now result }
+    {
+        self.locked.lock(rt).take_preferred(picked, prefers)
+    }
+
     /// Puts a leased connection back. If more than the maximum are open, itself included, it is
     /// handed back to be closed.
     pub fn put(&self, rt: &impl Wait, connection: C, lease: Lease<L>) -> Option<C>
@@ -88,7 +106,7 @@ impl<C, L: Ledger> Pool<C, L> {
     /// The caller closes the old one, at the latest once the fresh one is opened. `Over` if more than
     /// the maximum are open; then the lease stays as it is.
     pub fn replace(&self, rt: &impl Wait, lease: &mut Lease<L>) -> Result<(), Over>
-        ensures fresh { OnOk result (lease.new ≡ record { reused = false }) }
+        ensures fresh { OnOk result (lease.new ≡ record { reused = false; picked = false }) }
         ensures err { OnErr result (lease.new ≡ lease.old) }
     {
         self.locked.lock(rt).replace(lease)

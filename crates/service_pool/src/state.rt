@@ -1,9 +1,9 @@
 //! A pool as one thread sees it: its idle connections, and its numbers with their journal. Nothing
 //! here knows a lock.
-ghost use Rattle.std.specs.Prelude.{◌≡◌, ◌↔◌, ◌+◌, ◌≤◌, ◌<◌, [], ◌∷◌, ◌++◌, take, drop, IsErr, IfOk, OnOk, OnErr, IfSome, IfNone, slice_get, vec_len, vec_capacity};
+ghost use Rattle.std.specs.Prelude.{◌≡◌, ◌↔◌, ◌+◌, ◌≤◌, ◌<◌, ◌⊎◌, true, false, [], ◌∷◌, ◌++◌, take, drop, IsErr, IfOk, OnOk, OnErr, IfSome, IfNone, slice_get, length, vec_len, vec_capacity};
 ghost use Rattle.std.specs.Fn.{FnReturnsAt};
 ghost use Rattle.std.specs.VecDeque.{deque_len, deque_capacity};
-ghost use Rattle.service_pool.specs.Pooled.{Takes, Closes, IsPicked, IsBusy, IsKept, lease_count, none_open};
+ghost use Rattle.service_pool.specs.Pooled.{Takes, Chooses, Closes, IsPicked, NonePicked, NonePreferred, IsFirst, Tests, IsBusy, IsKept, lease_count, choice_count, none_open};
 ghost use Rattle.service_pool.specs.Replay.{open_count, replay};
 ghost use Rattle.service_pool.specs.Journal.{opening, stepped};
 
@@ -46,6 +46,19 @@ impl<C, J: Journal> Model for PoolState<C, J> {
 pub enum Found<C> {
     /// The idle connection that was put last.
     Idle(C),
+    /// No connection is idle, and one may be opened.
+    Fresh,
+    /// No connection is idle, and no more may be opened.
+    Busy,
+}
+
+/// The result of a `take_preferred`.
+#[derive(Debug, Drop, PartialEq, Eq)]
+pub enum Choice<C> {
+    /// The first idle connection of those that the test picks.
+    Picked(C),
+    /// The youngest idle connection: the test picks none.
+    Unpicked(C),
     /// No connection is idle, and one may be opened.
     Fresh,
     /// No connection is idle, and no more may be opened.
@@ -129,6 +142,43 @@ impl<C, J: Journal> PoolState<C, J> {
                 Found::Fresh
             }
             None => Found::Busy,
+        }
+    }
+
+    /// Takes the first idle connection of those that the one test picks, whatever younger ones there are: the
+    /// youngest that the other test prefers, or the youngest where it prefers none. Where none is picked it
+    /// takes the youngest of all, or the right to open one. It is the step `Take`, and the others keep their
+    /// order.
+    pub fn take_preferred<F: Fn(&C) -> bool, G: Fn(&C) -> bool>(
+        &mut self,
+        picked: &F,
+        prefers: &G,
+    ) -> Choice<C>
+        requires picked { F.IsAlwaysCallable picked.now }
+        requires prefers { G.IsAlwaysCallable prefers.now }
+        ensures take { Chooses J.makes_room F.Fn picked.now G.Fn prefers.now self.old self.new result }
+
+        // A preference refuses nothing.
+        ensures busy { (result ≡ Choice.Busy) ↔ IsBusy self.old }
+        ensures leased { self.new.journal.numbers.leased
+            ≡ self.old.journal.numbers.leased + choice_count result }
+        ensures kept { IsKept self.new }
+    {
+        let Some(index) = first_picked(&self.idle, picked, prefers) else {
+            return match self.take() {
+                Found::Idle(connection) => Choice::Unpicked(connection),
+                Found::Fresh => Choice::Fresh,
+                Found::Busy => Choice::Busy,
+            };
+        };
+        // Shows that one is idle.
+        let _numbers = self.journal.numbers();
+        match self.idle.remove(index) {
+            Some(connection) => {
+                self.journal.apply(PoolStep::Take);
+                Choice::Picked(connection)
+            }
+            None => unreachable!(),
         }
     }
 
@@ -248,6 +298,83 @@ fn picks<C, F: Fn(&C) -> bool>(is_over: &F, connection: &C) -> bool
     ensures { FnReturnsAt F.Fn is_over.now connection.now result }
 {
     is_over(connection)
+}
+
+// The index of the first connection of those that the one test picks, 0 being the oldest.
+fn first_picked<C, F: Fn(&C) -> bool, G: Fn(&C) -> bool>(
+    idle: &VecDeque<C>,
+    picked: &F,
+    prefers: &G,
+) -> Option<usize>
+    requires picked { F.IsAlwaysCallable picked.now }
+    requires prefers { G.IsAlwaysCallable prefers.now }
+    ensures picked { IfSome result (λ index. (index < length idle.now.items)
+        × Tests F.Fn picked.now idle.now.items index true
+        × IsFirst F.Fn picked.now G.Fn prefers.now idle.now.items index) }
+    ensures none { IfNone result (NonePicked F.Fn picked.now idle.now.items 0) }
+{
+    match youngest_preferred(idle, picked, prefers) {
+        Some(index) => Some(index),
+        None => youngest_picked(idle, picked),
+    }
+}
+
+// Whether the one test picks a connection and the other one prefers it.
+fn is_preferred<C, F: Fn(&C) -> bool, G: Fn(&C) -> bool>(
+    picked: &F,
+    prefers: &G,
+    connection: &C,
+) -> bool
+    requires picked { F.IsAlwaysCallable picked.now }
+    requires prefers { G.IsAlwaysCallable prefers.now }
+    ensures yes { result ≡ true → FnReturnsAt F.Fn picked.now connection.now true
+        × FnReturnsAt G.Fn prefers.now connection.now true }
+    ensures no { result ≡ false → FnReturnsAt F.Fn picked.now connection.now false
+        ⊎ FnReturnsAt G.Fn prefers.now connection.now false }
+{
+    picks(picked, connection) && picks(prefers, connection)
+}
+
+// The index of the youngest connection that the one test picks and the other one prefers.
+fn youngest_preferred<C, F: Fn(&C) -> bool, G: Fn(&C) -> bool>(
+    idle: &VecDeque<C>,
+    picked: &F,
+    prefers: &G,
+) -> Option<usize>
+    requires picked { F.IsAlwaysCallable picked.now }
+    requires prefers { G.IsAlwaysCallable prefers.now }
+    ensures picked { IfSome result (λ index. (index < length idle.now.items)
+        × Tests F.Fn picked.now idle.now.items index true
+        × Tests G.Fn prefers.now idle.now.items index true
+        × NonePreferred F.Fn picked.now G.Fn prefers.now idle.now.items (index + 1)) }
+    ensures none { IfNone result (NonePreferred F.Fn picked.now G.Fn prefers.now idle.now.items 0) }
+{
+    let count = idle.len();
+    for passed in 0..count {
+        let index = count - 1 - passed;
+        if is_preferred(picked, prefers, &idle[index]) {
+            return Some(index);
+        }
+    }
+    None
+}
+
+// The index of the youngest connection that the test picks.
+fn youngest_picked<C, F: Fn(&C) -> bool>(idle: &VecDeque<C>, picked: &F) -> Option<usize>
+    requires { F.IsAlwaysCallable picked.now }
+    ensures picked { IfSome result (λ index. (index < length idle.now.items)
+        × Tests F.Fn picked.now idle.now.items index true
+        × NonePicked F.Fn picked.now idle.now.items (index + 1)) }
+    ensures none { IfNone result (NonePicked F.Fn picked.now idle.now.items 0) }
+{
+    let count = idle.len();
+    for passed in 0..count {
+        let index = count - 1 - passed;
+        if picks(picked, &idle[index]) {
+            return Some(index);
+        }
+    }
+    None
 }
 
 // Moves the first items of a queue to the end of a list, which has room for them.

@@ -13,28 +13,29 @@ use Rattle.service_lines.specs.Lending.{LendsIdle, LendsFresh, Lends, Reopens, P
 use Rattle.shard_desk.specs.Asked.{LendsBy, FailsBy, PutsBy, laid, closed, unkept}
 
 -- a connection that was lent was looked at and brought into use last, or opened
-pub lends_of : {U Q A : Type 0} → (now most : ℕ) → (old asked : Latest) → (lent : Result (LeasedConnection U Q A) LendFault)
-    → IsLatest old [] → Lends now most (IsLatest old) (IsLatest asked) lent → IfOk lent (λ connection. LendsBy now most asked connection.lease)
-lends_of now most old asked (Ok connection) start lends = record {
+pub lends_of : {U Q A : Type 0} → (now most thread : ℕ) → (old asked : Latest) → (lent : Result (LeasedConnection U Q A) LendFault)
+    → IsLatest old [] → Lends now most thread (IsLatest old) (IsLatest asked) lent → IfOk lent (λ connection. LendsBy now most asked connection.lease)
+lends_of now most thread old asked (Ok connection) start lends = record {
   idle = λ reused. record {
     since = (lends.0 reused).since;
+    home = (lends.0 reused).home;
     young = (lends.0 reused).young;
     resumed = ((lends.0 reused).each [] start).last;
     looked = ((lends.0 reused).each [] start).before;
   };
   fresh = λ fresh. ((lends.1 fresh).each [] start).last;
 }
-lends_of now most old asked (Err fault) start lends = tt
+lends_of now most thread old asked (Err fault) start lends = tt
 
 -- where none was lent the connector failed last, for that very fault
-pub fails_of : {U Q A : Type 0} → (now most : ℕ) → (old asked : Latest) → (lent : Result (LeasedConnection U Q A) LendFault)
-    → IsLatest old [] → Lends now most (IsLatest old) (IsLatest asked) lent → IfErr lent (FailsBy asked)
-fails_of now most old asked (Ok connection) start fails = tt
-fails_of now most old asked (Err Busy) start fails = tt
-fails_of now most old asked (Err Unreached) start (inl idle) = inr (idle.since, (idle.each [] start).last)
-fails_of now most old asked (Err Unreached) start (inr fresh) = inl (fresh.each [] start).last
-fails_of now most old asked (Err NoMemory) start (inl idle) = inr (idle.since, (idle.each [] start).last)
-fails_of now most old asked (Err NoMemory) start (inr fresh) = inl (fresh.each [] start).last
+pub fails_of : {U Q A : Type 0} → (now most thread : ℕ) → (old asked : Latest) → (lent : Result (LeasedConnection U Q A) LendFault)
+    → IsLatest old [] → Lends now most thread (IsLatest old) (IsLatest asked) lent → IfErr lent (FailsBy asked)
+fails_of now most thread old asked (Ok connection) start fails = tt
+fails_of now most thread old asked (Err Busy) start fails = tt
+fails_of now most thread old asked (Err Unreached) start (inl idle) = inr (idle.1.since, idle.1.home, (idle.1.each [] start).last)
+fails_of now most thread old asked (Err Unreached) start (inr fresh) = inl (fresh.each [] start).last
+fails_of now most thread old asked (Err NoMemory) start (inl idle) = inr (idle.1.since, idle.1.home, (idle.1.each [] start).last)
+fails_of now most thread old asked (Err NoMemory) start (inr fresh) = inl (fresh.each [] start).last
 
 -- the seconds are those that are configured
 pub lends_within : {Q A : Type 0} {now most seconds : ℕ} {asked : Latest} {lease : Leased Q A}

@@ -1,2 +1,3 @@
 mod Asking
 mod Keeping
+mod Sifting

@@ -8,11 +8,12 @@ use Rattle.service_lines.specs.declared.leased.Leased.{Leased}
 use Rattle.service_lines.specs.Lending.{is_reused, IsYoung}
 
 -- an idle connection was looked at, and found fit for use, before it was brought into use; at this moment it had lain idle for fewer
--- seconds than one may
+-- seconds than one may, with the thread of this number
 pub record LendsIdle (now most : ℕ) (asked : Latest) : Type 0 where
   pub since : ℕ
+  pub home : ℕ
   pub young : IsYoung since now most
-  pub resumed : asked.last ≡ Some (Resumed since None)
+  pub resumed : asked.last ≡ Some (Resumed since home None)
   pub looked : asked.before ≡ Some (Looked true)
 
 -- a connection was lent with this lease: an idle one, or one that was opened last
@@ -23,7 +24,7 @@ pub record LendsBy {Q A : Type 0} (now most : ℕ) (asked : Latest) (lease : Lea
 -- none was lent: the connector itself failed last, for just that, unless others go first
 abbrev pub FailsBy : Latest → LendFault → Type 0
 FailsBy asked Busy = ⊤
-FailsBy asked fault = (asked.last ≡ Some (Opened (Some fault))) ⊎ ((since : ℕ) × (asked.last ≡ Some (Resumed since (Some fault))))
+FailsBy asked fault = (asked.last ≡ Some (Opened (Some fault))) ⊎ ((since : ℕ) × (home : ℕ) × (asked.last ≡ Some (Resumed since home (Some fault))))
 
 -- a connection was put back, where one may lie idle for so many seconds: it was laid down once it was found quiet, and is closed otherwise
 pub data PutsBy (most : ℕ) (asked : Latest) : Type 0 where

@@ -1,3 +1,5 @@
 pub mod Asked
 pub mod Books
+pub mod Failures
+pub mod Kept
 pub mod Places

@@ -1,6 +1,6 @@
 //! Connections to services and origins, as the exchanges of a thread use them.
 
-ghost use Rattle.std.specs.Prelude.{◌≡◌, ℕ, [], Option, None, Some, IfOk, IfErr, OnErr, true};
+ghost use Rattle.std.specs.Prelude.{◌≡◌, ℕ, [], Option, None, Some, IfOk, IfErr, OnErr, false, true};
 ghost use Rattle.std.specs.declared.net.socket_addr.SocketAddrV4.{SocketAddrV4 as AnyAddress};
 ghost use Rattle.shard_effects.specs.Reasons.{lies_elsewhere};
 ghost use Rattle.proxy_config.specs.declared.config.Config.{Config as AnyConfig};
@@ -8,7 +8,7 @@ ghost use Rattle.trace_core.specs.declared.history.Point.{Point as AnyPoint};
 ghost use Rattle.service_lines.specs.declared.connector.Act.TheVariants.{Opened};
 ghost use Rattle.service_lines.specs.declared.latest.Latest.{Latest as AnyLatest};
 ghost use Rattle.service_lines.specs.Latest.{IsLatest};
-ghost use Rattle.service_lines.specs.Lending.{point_of, IsOf, Leads, Lends};
+ghost use Rattle.service_lines.specs.Lending.{point_of, is_reused, IsOf, Leads, Lends};
 ghost use Rattle.shard_desk.specs.Asked.{LendsBy, FailsBy, PutsBy};
 ghost use Rattle.shard_desk.specs.Books.{Keeps, HasKept};
 ghost use Rattle.shard_desk.specs.Places.{place_at};
@@ -41,9 +41,9 @@ fn lent_of<Q: Ledger, A: Ledger>(
 ) -> Lent<Q, A>
     ensures point { (point : AnyPoint) → IsOf point lent → IfOk result (λ lent. point_of lent.1 ≡ point) }
     ensures leads { (place : Option AnyAddress) → Leads (λ wire. wire.stream.to ≡ place) lent → IfOk result (λ lent. lent.0.stream.to ≡ place) }
-    ensures lends { (now : ℕ) → (most : ℕ) → (old : AnyLatest) → (asked : AnyLatest) → IsLatest old [] → Lends now most (IsLatest old) (IsLatest asked) lent
+    ensures lends { (now : ℕ) → (most : ℕ) → (thread : ℕ) → (old : AnyLatest) → (asked : AnyLatest) → IsLatest old [] → Lends now most thread (IsLatest old) (IsLatest asked) lent
         → IfOk result (λ lent. LendsBy now most asked lent.1) }
-    ensures fails { (now : ℕ) → (most : ℕ) → (old : AnyLatest) → (asked : AnyLatest) → IsLatest old [] → Lends now most (IsLatest old) (IsLatest asked) lent
+    ensures fails { (now : ℕ) → (most : ℕ) → (thread : ℕ) → (old : AnyLatest) → (asked : AnyLatest) → IsLatest old [] → Lends now most thread (IsLatest old) (IsLatest asked) lent
         → IfErr result (FailsBy asked) }
 {
     match lent {
@@ -80,38 +80,42 @@ pub(crate) fn open_origin<R: Dial, G>(
     match opened {
         Ok(wire) => Ok(wire),
         Err(LendFault::NoMemory) => Err(Reason::NoMemory),
-        Err(_) => Err(Reason::NoOrigin),
+        Err(_) => Err(Reason::OriginRefused),
     }
 }
 
 /// The seat of an exchange. The seats of its thread are in it, and come back after the call.
-fn berth_of<'r, 'a, R, G>(
+fn berth_of<'r, 'a, S: Shares, R, G>(
+    shared: &'a S,
     seats: &mut Seats,
     at: &Spot<'r, R, G>,
-    room: &'a Arc<Room>,
 ) -> Berth<'r, 'a>
     ensures { IsLatest result.asked [] }
 {
     let registry = at.registry;
+    let inboxes = shared.inboxes();
+    let room = shared.room();
     Berth {
         registry,
         key: at.key,
+        thread: shared.number(),
         seats: seats.lend(),
+        inboxes,
         room,
         asked: Latest::new(),
     }
 }
 
 /// The seat of an exchange that may dial. The seats of its thread are in it, and come back after the call.
-fn port_of<'r, 'a, R: Dial, G>(
+fn port_of<'r, 'a, S: Shares, R: Dial, G>(
+    shared: &'a S,
     seats: &mut Seats,
     at: &Spot<'r, R, G>,
-    room: &'a Arc<Room>,
 ) -> Port<'r, 'a, R>
     ensures { IsLatest result.berth.asked [] }
 {
     let rt = at.rt;
-    let berth = berth_of(seats, at, room);
+    let berth = berth_of(shared, seats, at);
     Port { rt, berth }
 }
 
@@ -137,7 +141,7 @@ pub(crate) fn lend_now<S: Shares, R: Wait + Dial, G>(
     ensures fails { IfErr result (FailsBy asked.new) }
 {
     let place = address_of(shared.config(), point);
-    let mut port = port_of(seats, at, shared.room());
+    let mut port = port_of(shared, seats, at);
     let lent = pools_of(shared).lend(at.rt, &mut port, point, place, at.now);
     *seats = port.berth.seats;
     *asked = port.berth.asked;
@@ -159,7 +163,7 @@ pub(crate) fn lend_waiting<S: Shares, R: Wait + Dial, G>(
 {
     let waiter = waiter_of(shared, at.key);
     let place = address_of(shared.config(), point);
-    let mut port = port_of(seats, at, shared.room());
+    let mut port = port_of(shared, seats, at);
     let lent = pools_of(shared).lend_in_turn(at.rt, &mut port, point, place, waiter, at.now);
     *seats = port.berth.seats;
     *asked = port.berth.asked;
@@ -175,11 +179,12 @@ pub(crate) fn lend_anew<S: Shares, R: Wait + Dial, G>(
     lease: &mut Leased<S::Requests, S::Responses>,
 ) -> Result<ServiceWire, LendFault>
     ensures point { point_of lease.new ≡ point_of lease.old }
+    ensures fresh { IfOk result (λ _. is_reused lease.new ≡ false) }
     ensures leads { IfOk result (λ wire. (config : AnyConfig) × S.config_is shared.now config × (wire.stream.to ≡ place_at config (point_of lease.new))) }
     ensures opened { IfOk result (λ _. asked.new.last ≡ Some (Opened None)) }
 {
     let place = address_of(shared.config(), lease.point());
-    let mut port = port_of(seats, at, shared.room());
+    let mut port = port_of(shared, seats, at);
     let wire = pools_of(shared).reopen(at.rt, &mut port, place, lease);
     *seats = port.berth.seats;
     *asked = port.berth.asked;
@@ -197,7 +202,7 @@ pub(crate) fn put_back<S: Shares, R: Wait, G>(
 )
     ensures { (config : AnyConfig) × S.config_is shared.now config × PutsBy config.service_idle asked.new }
 {
-    let mut berth = berth_of(seats, at, shared.room());
+    let mut berth = berth_of(shared, seats, at);
     let connection = LeasedConnection { wire, lease };
     pools_of(shared).put(at.rt, &mut berth, connection, at.now);
     *seats = berth.seats;

@@ -1,7 +1,11 @@
 //! What the exchanges of one thread have in common.
 
-ghost use Rattle.std.specs.Prelude.{◌≡◌};
+ghost use Rattle.std.specs.Prelude.{◌≡◌, IfOk};
+ghost use Rattle.proxy_config.specs.declared.config.Config.{Config as AnyConfig};
+ghost use Rattle.proxy_rules.specs.Plans.{AreLimits};
 
+use crate::kept::Moment;
+use crate::origins::KeptOrigins;
 use crate::pools::pools_of;
 use crate::reporter::Reporter;
 use crate::shared::Shares;
@@ -11,9 +15,9 @@ use mio::net::TcpStream;
 use plan_rules::Limits;
 use proxy_config::Config;
 use proxy_rules::limits_of;
-use service_lines::{Edge, Latest, POINTS, PointBook};
-use shard_report::Count;
-use shard_work::{Purpose, Seating, Seats, Terms};
+use service_lines::{Latest, POINTS, PointBook};
+use shard_report::{Count, Dealing};
+use shard_work::{Purpose, SECOND, Seating, Seats, Terms};
 use std::alloc::{AllocError, Global};
 use std::sync::Wait;
 use std::time::Clock;
@@ -36,10 +40,23 @@ pub struct Desk<S> {
     /// What a connector was asked last, where a connection to a service was lent or put back.
     pub(crate) asked: Latest,
     pub(crate) scratch: Vec<u8>,
+    /// The connections to origins that lie idle between exchanges.
+    pub(crate) kept: KeptOrigins,
+    /// The second in which they were looked at last.
+    pub(crate) looked: u64,
+}
+
+/// How many connections to origins may lie idle.
+fn most_origins(config: &Config) -> usize
+    ensures { result ≡ config.now.keep_origins }
+{
+    config.keep_origins as usize
 }
 
 /// The times that are configured.
-fn terms_of(config: &Config) -> Terms {
+fn terms_of(config: &Config) -> Terms
+    ensures { result ≡ record { head = config.now.head_deadline; connection = config.now.connect_deadline } }
+{
     Terms {
         head: config.head_deadline,
         connection: config.connect_deadline,
@@ -51,13 +68,18 @@ impl<S: Shares> Desk<S> {
     pub fn new(alloc: Global, shared: S, rows: usize) -> Result<Desk<S>, AllocError>
     where
         S: Drop,
+        ensures { IfOk result (λ desk. (config : AnyConfig) × S.config_is shared config × AreLimits config desk.limits × (desk.deadline ≡ config.deadline)
+            × (desk.terms ≡ record { head = config.head_deadline; connection = config.connect_deadline }) × (desk.kept.most ≡ config.keep_origins)) }
     {
         let scratch = Vec::from_elem(alloc, 0u8, MAX_READ)?;
-        let limits = limits_of(shared.config());
-        let deadline = shared.config().deadline;
-        let terms = terms_of(shared.config());
+        let config = shared.config();
+        let limits = limits_of(config);
+        let deadline = config.deadline;
+        let terms = terms_of(config);
+        let most = most_origins(config);
         let seats = Seats::new(alloc, rows)?;
         let reporter = Reporter::new(alloc, seats.bound(), shared.log())?;
+        let kept = KeptOrigins::new(alloc, most)?;
         Ok(Desk {
             alloc,
             shared,
@@ -70,6 +92,8 @@ impl<S: Shares> Desk<S> {
             response_book: PointBook::new(),
             asked: Latest::new(),
             scratch,
+            kept,
+            looked: 0,
         })
     }
 
@@ -86,6 +110,24 @@ impl<S: Shares> Desk<S> {
         if let Some(office) = self.shared.inboxes().last() {
             office.wake();
         }
+    }
+
+    /// Says how many connections to origins lie idle.
+    pub(crate) fn tell_kept(&self) {
+        let count = self.kept.count() as u64;
+        self.shared
+            .tally()
+            .set(Count::Origins(Dealing::Idle), count);
+    }
+
+    /// Closes connections to origins that lie idle, the oldest first, while they keep the next user out, and as many as it needs at most.
+    fn close_kept(&mut self) {
+        for _ in 0..USER {
+            if !self.shared.room().has_too_many_idle() || !self.kept.close_oldest() {
+                break;
+            }
+        }
+        self.tell_kept();
     }
 
     /// Has the services asked again before the next message is planned, where the administrator wants that.
@@ -122,6 +164,8 @@ pub(crate) fn note_lease(seats: &mut Seats, key: usize, point: Point, is_lent: b
 }
 
 impl<S: Shares> Seating for Desk<S> {
+    ghost seats_of = { λ desk. desk.seats };
+
     fn seats(&self) -> &Seats {
         &self.seats
     }
@@ -160,13 +204,42 @@ impl<S: Shares> Seating for Desk<S> {
         }
     }
 
+    /// The own thread's connections to origins go first: a service's is used by more messages. Where it has none, and none to a service lies
+    /// idle, another thread is asked after a few milliseconds.
     fn close_idle<R: Wait>(&mut self, rt: &R) -> Option<bool> {
-        let pools = pools_of(&self.shared);
-        if pools.waiting.edge.is_crowded() {
-            Some(pools.make_room(rt, USER))
-        } else {
-            None
+        if !self.shared.room().has_too_many_idle() {
+            return None;
         }
+        self.close_kept();
+        Some(pools_of(&self.shared).make_room(rt, USER))
+    }
+
+    /// Looks once a second.
+    fn turn_over(&mut self, now: u64) {
+        if now == self.looked || self.kept.count() == 0 {
+            return;
+        }
+        self.looked = now;
+        let at = Moment {
+            now,
+            turn: self.seats.heard_at(),
+        };
+        let seconds = self.shared.config().origin_idle;
+        self.kept.close_unfit(at, seconds);
+        self.tell_kept();
+    }
+
+    fn patience(&self) -> Option<u64> {
+        if self.kept.count() == 0 {
+            None
+        } else {
+            Some(SECOND)
+        }
+    }
+
+    fn drain(&mut self) {
+        self.kept.end();
+        self.tell_kept();
     }
 
     fn has_ended_elsewhere(&self) -> bool {

@@ -7,6 +7,9 @@
 
 mod connections;
 mod desk;
+mod kept;
+pub mod laws;
+mod origins;
 mod outside;
 mod pools;
 mod reporter;
@@ -14,5 +17,7 @@ mod shared;
 mod words;
 
 pub use desk::Desk;
-pub use pools::{Loops, Pools, Spare, pools_of};
+pub use kept::{Heard, Kept, Moment, Rests};
+pub use origins::KeptOrigin;
+pub use pools::{Loops, SharedPools, Spare, pools_of};
 pub use shared::{Shared, Shares};

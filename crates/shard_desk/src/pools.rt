@@ -9,20 +9,55 @@ use crate::shared::Shares;
 use event_loop::{IdlePermit, Inbox, Room};
 use mio::Registry;
 use service_lines::{Act, Connector, Edge, Keeper, Latest, LendFault, Waiting};
-use shard_work::Seats;
-use socket_wire::{Called, Dial, Readiness, Role, ServiceWire, SocketWire, Stream, Unread};
+use shard_work::{IdleLine, Seats, SinceLaid};
+use socket_wire::{Called, Dial, Peer, Readiness, Role, ServiceWire, SocketWire, Stream, Unread};
 use std::io;
 use std::net::SocketAddrV4;
 use std::sync::Arc;
 
-/// A connection to a service that no transaction uses, with its readiness, its permit among the descriptors, and the moment since which it
-/// lies idle, in seconds.
-#[derive(Drop)]
+/// A connection to a service that no transaction uses, with its line, the number of the thread whose poll reports it, its permit among the
+/// descriptors, and the moment since which it lies idle, in seconds.
+///
+/// Any thread may drop one: the wire goes first, and closing its descriptor takes it out of the poll; its line is free only after that, so
+/// that no event of it can be taken for another connection's.
 pub struct Spare {
     pub wire: ServiceWire,
-    pub ready: Arc<Readiness>,
+    pub line: IdleLine,
+    pub thread: usize,
     pub permit: IdlePermit,
     pub since: u64,
+}
+
+impl Drop for Spare {
+    fn drop(self) {
+        let Spare {
+            wire,
+            line,
+            thread: _,
+            permit,
+            since: _,
+        } = self;
+        drop(wire);
+        drop(line);
+        drop(permit);
+    }
+}
+
+impl Spare {
+    /// Its wire and its line, and the number of the thread with which it lay idle. Its permit goes back.
+    fn into_parts(self) -> (ServiceWire, IdleLine, usize)
+        ensures { (result.0 ≡ self.wire) × (result.2 ≡ self.thread) }
+    {
+        let Spare {
+            wire,
+            line,
+            thread,
+            permit,
+            since: _,
+        } = self;
+        drop(permit);
+        (wire, line, thread)
+    }
 }
 
 /// That the loop of a thread was woken.
@@ -46,6 +81,8 @@ impl<'a> Edge for Loops<'a> {
 
     ghost since = { λ idle. idle.since };
 
+    ghost home = { λ idle. idle.thread };
+
     ghost thread_of = { λ woken. woken.thread };
 
     fn since(idle: &Spare) -> u64
@@ -54,8 +91,15 @@ impl<'a> Edge for Loops<'a> {
         idle.since
     }
 
+    fn home(idle: &Spare) -> usize
+        ensures { result ≡ idle.now.thread }
+    {
+        idle.thread
+    }
+
+    /// The system isn't asked: the thread with which it lies hears of a byte and of the end, and has them noted.
     fn is_quiet(&self, idle: &Spare) -> bool {
-        idle.wire.unread() == Unread::Nothing
+        idle.line.is_quiet()
     }
 
     fn wake(&self, thread: usize) -> Woken {
@@ -71,10 +115,10 @@ impl<'a> Edge for Loops<'a> {
 }
 
 /// The connections to services of both points, which all threads share.
-pub type Pools<'a, Q, A> = service_lines::Pools<'a, Loops<'a>, Q, A>;
+pub type SharedPools<'a, Q, A> = service_lines::Pools<'a, Loops<'a>, Q, A>;
 
 /// The connections to services of both points, and those who wait for one.
-pub fn pools_of<S: Shares>(shared: &S) -> Pools<'_, S::Requests, S::Responses>
+pub fn pools_of<S: Shares>(shared: &S) -> SharedPools<'_, S::Requests, S::Responses>
     ensures idle { (config : AnyConfig) × S.config_is shared.now config × (result.idle_seconds ≡ config.service_idle) }
     ensures wait { (config : AnyConfig) × S.config_is shared.now config × (result.waiting.seconds ≡ config.wait) }
 {
@@ -89,10 +133,11 @@ pub fn pools_of<S: Shares>(shared: &S) -> Pools<'_, S::Requests, S::Responses>
         edge,
         seconds: shared.config().wait,
     };
-    Pools {
+    SharedPools {
         request,
         response,
         idle_seconds: shared.config().service_idle,
+        thread: shared.number(),
         waiting,
     }
 }
@@ -176,35 +221,66 @@ pub(crate) fn dial_late<P: Role + Called, R: Dial>(
 pub(crate) struct Berth<'r, 'a> {
     pub registry: &'r Registry,
     pub key: usize,
+    /// The number of its thread.
+    pub thread: usize,
     pub seats: Seats,
+    pub inboxes: &'a [Inbox],
     pub room: &'a Arc<Room>,
     pub asked: Latest,
 }
 
-/// Takes a connection out of the poll, to lie idle since this moment, and gives it a permit among the descriptors of idle ones.
-fn lay_idle(
-    registry: &Registry,
-    key: usize,
-    seats: &mut Seats,
-    room: &Arc<Room>,
-    used: ServiceWire,
-    now: u64,
-) -> Option<Spare>
-    ensures { IfSome result (λ idle. (idle.since ≡ now) × (idle.wire ≡ used)) }
-{
-    let mut wire = used;
-    let is_out = wire.deregister(registry).is_ok();
-    let ready = seats.dismiss(key)?;
-    if !is_out {
-        return None;
+impl<'r, 'a> Berth<'r, 'a> {
+    /// Has a connection lie idle with this thread since this moment, with a permit among the descriptors of idle ones. The poll goes on
+    /// reporting it, so that a byte or its end is noted on its line while nobody uses it.
+    ///
+    /// Nothing lay unread on it when it was asked (`is_quiet`), so it counts as read out from here on, also where the last read took just
+    /// what there was and didn't find the end of it: else no idle connection would look quiet that was read so. No event is lost by that:
+    /// the poll reports edges, and what comes later is one. An event of before, of bytes that were read meanwhile, may still be noted on
+    /// the line: then the connection is closed, though it needn't be.
+    fn lay_idle(&mut self, used: ServiceWire, now: u64) -> Option<Spare>
+        ensures idle { IfSome result (λ idle. (idle.since ≡ now) × (idle.thread ≡ self.old.thread) × (idle.wire ≡ used)) }
+        ensures asked { self.new.asked ≡ self.old.asked }
+    {
+        let permit = Room::keep(self.room)?;
+        let line = self.seats.dismiss(self.key, Peer::Service)?;
+        Some(Spare {
+            wire: used,
+            line,
+            thread: self.thread,
+            permit,
+            since: now,
+        })
     }
-    let permit = Room::keep(room)?;
-    Some(Spare {
-        wire,
-        ready,
-        permit,
-        since: now,
-    })
+
+    /// Whether nothing came on an idle connection since it was laid down. For one that lies with this thread the line tells, once a poll
+    /// has been since; else the system is asked.
+    fn is_still(&self, idle: &Spare) -> bool {
+        if idle.thread == self.thread {
+            match idle.line.since_laid(self.seats.heard_at()) {
+                SinceLaid::Nothing => return true,
+                SinceLaid::Something => return false,
+                SinceLaid::NotPolled => {}
+            }
+        }
+        idle.wire.unread() == Unread::Nothing
+    }
+
+    /// Has the exchange use an idle connection. One that lies with this thread is reported as before, for this exchange from now on. One
+    /// that lies with another thread is taken out of that one's poll, and this thread's reports it. `None` where the system refuses:
+    /// then it is closed.
+    fn take_up(&mut self, idle: Spare) -> Option<ServiceWire>
+        ensures wire { IfSome result (λ wire. wire ≡ idle.wire) }
+        ensures asked { self.new.asked ≡ self.old.asked }
+    {
+        let (wire, line, thread) = idle.into_parts();
+        if thread == self.thread {
+            self.seats.seize(self.key, Peer::Service, line);
+            return Some(wire);
+        }
+        let mut wire = wire;
+        wire.deregister(self.inboxes.get(thread)?.registry()).ok()?;
+        self.seats.enlist(self.registry, self.key, wire, line).ok()
+    }
 }
 
 /// Whether a connection still lives, and nothing lies unread on it.
@@ -217,6 +293,8 @@ impl<'r, 'a> Keeper<Loops<'a>> for Berth<'r, 'a> {
 
     ghost past = { λ berth p. IsLatest berth.asked p };
 
+    ghost thread = { λ berth. berth.thread };
+
     ghost is_line = { λ idle used. idle.wire ≡ used };
 
     fn may_rest(&mut self, used: &ServiceWire) -> bool {
@@ -226,9 +304,7 @@ impl<'r, 'a> Keeper<Loops<'a>> for Berth<'r, 'a> {
     }
 
     fn rest(&mut self, used: ServiceWire, now: u64) -> Option<Spare> {
-        let registry = self.registry;
-        let room = self.room;
-        let idle = lay_idle(registry, self.key, &mut self.seats, room, used, now);
+        let idle = self.lay_idle(used, now);
         self.asked.note(Act::Rested(idle.is_some()));
         idle
     }
@@ -268,6 +344,8 @@ impl<'r, 'a, R: Dial> Keeper<Loops<'a>> for Port<'r, 'a, R> {
 
     ghost past = { λ port p. IsLatest port.berth.asked p };
 
+    ghost thread = { λ port. port.berth.thread };
+
     ghost is_line = { λ idle used. idle.wire ≡ used };
 
     fn may_rest(&mut self, used: &ServiceWire) -> bool {
@@ -291,6 +369,10 @@ impl<'r, 'a, R: Dial> Connector<Loops<'a>> for Port<'r, 'a, R> {
 
     ghost idle_leads = { λ place idle. idle.wire.stream.to ≡ place };
 
+    fn is_known_quiet(&self, idle: &Spare) -> bool {
+        idle.line.since_laid(self.berth.seats.heard_at()) == SinceLaid::Nothing
+    }
+
     fn open(&mut self, place: Option<SocketAddrV4>) -> Result<ServiceWire, LendFault> {
         let rt = self.rt;
         let registry = self.berth.registry;
@@ -304,26 +386,20 @@ impl<'r, 'a, R: Dial> Connector<Loops<'a>> for Port<'r, 'a, R> {
     }
 
     fn is_fit(&mut self, place: Option<SocketAddrV4>, idle: &Spare) -> bool {
-        let is_fit = leads_to(&idle.wire, place) && idle.wire.unread() == Unread::Nothing;
+        let is_fit = leads_to(&idle.wire, place) && self.berth.is_still(idle);
         self.berth.asked.note(Act::Looked(is_fit));
         is_fit
     }
 
     fn resume(&mut self, idle: Spare) -> Result<ServiceWire, LendFault> {
-        let Spare {
-            wire,
-            ready,
-            permit: _,
-            since,
-        } = idle;
-        let registry = self.berth.registry;
-        let key = self.berth.key;
-        let resumed = match self.berth.seats.enlist(registry, key, wire, ready) {
-            Ok(wire) => Ok(wire),
-            Err(_) => Err(LendFault::NoMemory),
+        let since = idle.since;
+        let home = idle.thread;
+        let resumed = match self.berth.take_up(idle) {
+            Some(wire) => Ok(wire),
+            None => Err(LendFault::NoMemory),
         };
         let fault = fault_of(&resumed);
-        self.berth.asked.note(Act::Resumed(since, fault));
+        self.berth.asked.note(Act::Resumed(since, home, fault));
         resumed
     }
 }

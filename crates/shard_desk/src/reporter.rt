@@ -1,20 +1,19 @@
 //! When something is noted of an exchange, and what becomes of it at its end.
 
-use crate::words::{is_answer, is_of_service, reason_word, service_word};
+use crate::words::{is_answer, is_of_service, service_reason};
 use adapt_turn::Outcome;
-use exchange_report::{Reply, Why};
-use http_side::Values;
+use exchange_report::{Destination, Reason, Reply, Why};
+use http_side::{NextServer, Values};
 use mio::net::TcpStream;
-use proxy_rules::Incoming;
-use shard_effects::Reason;
+use proxy_rules::{Incoming, Route};
 use shard_outside::MessageEnd;
 use shard_report::{
-    Bound, Class, Count, Evidence, Log, Note, Notes, Tally, address_of, elapsed_of, failed_status,
+    Bound, Class, Count, Dealing, Evidence, Log, LoopTally, Note, Notes, address_of, elapsed_of,
     failed_word, kind_in, kind_of, moment, request_line, status_in, status_of, verdict_of,
     what_was_found, why_of, without_query,
 };
 use std::alloc::{AllocError, Global};
-use std::net::{SocketAddr, SocketAddrV4};
+use std::net::SocketAddr;
 use std::sync::Wait;
 use std::time::Clock;
 use trace_core::{Point, Seen};
@@ -49,7 +48,7 @@ impl Reporter {
 
     /// There is no seat for the user.
     pub fn turn_away(&mut self, key: usize) {
-        self.notes.refuse(key, Why::NoSeat, 503);
+        self.notes.refuse(key, Reason::NoSeat);
     }
 
     /// A request's head was read, or is refused, when its user had taken so many bytes. `has_query`: targets are noted with their query.
@@ -89,22 +88,26 @@ impl Reporter {
         }
     }
 
-    /// A request is to go to this address.
-    pub fn origin(&mut self, key: usize, address: SocketAddrV4) {
+    /// A request is to go there.
+    pub fn route(&mut self, key: usize, route: Route) {
         if let Some(note) = self.notes.get_mut(key) {
-            note.dialled = Some(address_of(address));
+            let address = address_of(route.address);
+            note.dialled = Some(match route.next {
+                NextServer::Origin => Destination::Origin(address),
+                NextServer::Parent => Destination::Parent(address),
+            });
         }
     }
 
     /// Why a service can't serve.
-    pub fn blame(&mut self, key: usize, why: Why) {
+    pub fn blame(&mut self, key: usize, reason: Reason) {
         if let Some(note) = self.notes.get_mut(key) {
-            note.blamed = Some(why);
+            note.blamed = Some(reason);
         }
     }
 
     /// Counts what was read of a user since the last time, of whom so many bytes were read in all.
-    pub fn read(&mut self, tally: &Tally, key: usize, read: u64) {
+    pub fn read(&mut self, tally: &LoopTally, key: usize, read: u64) {
         if let Some(note) = self.notes.get_mut(key) {
             let more = read.saturating_sub(note.read);
             note.read = read;
@@ -113,29 +116,25 @@ impl Reporter {
     }
 
     /// The proxy's own refusal is the answer, to a user that had taken so many bytes before.
-    pub fn refusal(
-        &mut self,
-        tally: &Tally,
-        key: usize,
-        taken: u64,
-        reason: Reason,
-        is_asking: bool,
-    ) {
+    pub fn refusal(&mut self, tally: &LoopTally, key: usize, taken: u64, reason: Reason) {
         if !self.notes.is_open(key) {
             self.notes.begin(key, 0, taken, b"", b"");
         }
         if let Some(note) = self.notes.get_mut(key) {
-            let why = reason_word(reason, is_asking, note.blamed, note.dialled.is_some());
-            if is_of_service(why) {
+            let reason = match note.blamed {
+                Some(blamed) if is_of_service(reason) => blamed,
+                _ => reason,
+            };
+            if is_of_service(reason) {
                 // Its service gave no final reply: it wasn't even asked for one.
                 tally.add(Count::Messages(note.point, Reply::Missing), 1);
             }
-            self.notes.refuse(key, why, reason.status());
+            self.notes.refuse(key, reason);
         }
     }
 
     /// A transaction is over: what became of its message, and of the answer where its user wasn't gone before.
-    pub fn end(&mut self, tally: &Tally, key: usize, end: MessageEnd<'_>) {
+    pub fn end(&mut self, tally: &LoopTally, key: usize, end: MessageEnd<'_>) {
         let MessageEnd {
             seen,
             outcome,
@@ -147,7 +146,7 @@ impl Reporter {
             has_answered,
         } = end;
         let evidence = Evidence {
-            service: service_word(service_fault, service_is_fresh),
+            service: service_reason(service_fault, service_is_fresh),
             next_is_fresh,
             to_user: seen.plan.point == Point::Respmod || seen.modified && is_answer(adapted_head),
         };
@@ -176,7 +175,7 @@ impl Reporter {
     }
 
     /// What became of a message, of whose answer a byte went to the user or not.
-    fn message(&mut self, tally: &Tally, key: usize, seen: &Seen, has_answered: bool) {
+    fn message(&mut self, tally: &LoopTally, key: usize, seen: &Seen, has_answered: bool) {
         let point = seen.plan.point;
         let verdict = verdict_of(seen);
         self.notes.judge(key, point, verdict);
@@ -189,14 +188,20 @@ impl Reporter {
         }
     }
 
-    /// A request's transaction is over, of whose body so many bytes came. It reached its origin, unless its connection is fresh.
+    /// A request's transaction is over, of whose body so many bytes came. A byte of it went there, unless its connection is fresh.
     fn sent(&mut self, key: usize, received: u64, next_is_fresh: bool) {
         if let Some(note) = self.notes.get_mut(key) {
             note.received = received;
             if !next_is_fresh {
-                note.origin = note.dialled;
+                note.destination = note.dialled;
             }
         }
+    }
+
+    /// The request is begun anew, on another connection: nothing that became of it before is said.
+    pub fn anew(&mut self, tally: &LoopTally, key: usize) {
+        tally.add(Count::Origins(Dealing::BegunAnew), 1);
+        self.notes.withdraw(key);
     }
 
     /// The request is out: its response is under way.
@@ -213,12 +218,11 @@ impl Reporter {
             Outcome::Done if point == Point::Respmod => self.ends(key, Why::Served),
             Outcome::Done => self.goes_on(key),
             Outcome::Fail(cause) => {
-                let why = failed_word(cause, seen, evidence);
-                // A user that is gone gets no refusal.
-                if self.has_answered(key) || why == Why::UserGone {
-                    self.ends(key, why);
-                } else {
-                    self.notes.refuse(key, why, failed_status(cause, point));
+                let answered = self.has_answered(key);
+                match failed_word(cause, seen, evidence) {
+                    Why::Failed(reason) if !answered => self.notes.refuse(key, reason),
+                    // A user that is gone gets no refusal.
+                    why => self.ends(key, why),
                 }
             }
         }
@@ -234,7 +238,7 @@ impl Reporter {
 
     /// The exchange ends because the proxy stops.
     pub fn stop(&mut self, key: usize) {
-        self.ends(key, Why::Stopping);
+        self.ends(key, Why::Failed(Reason::Stopping));
     }
 
     /// The answer ends for this reason.
@@ -249,7 +253,7 @@ impl Reporter {
     pub fn report<R: Wait + Clock>(
         &mut self,
         rt: &R,
-        tally: &Tally,
+        tally: &LoopTally,
         log: &Log,
         number: usize,
         key: usize,
@@ -275,16 +279,15 @@ impl Reporter {
 }
 
 /// Counts an exchange that is over: the bytes that went to its user, and the milliseconds that it took.
-fn count(tally: &Tally, note: &Note, sent: u64, elapsed: u64) {
-    let why = why_of(note);
+fn count(tally: &LoopTally, note: &Note, sent: u64, elapsed: u64) {
     tally.add(Count::Requests, 1);
     tally.add(Count::Sent, sent);
     tally.add(Count::Milliseconds, elapsed);
     tally.add(Count::Times(Bound::of(elapsed)), 1);
     tally.add(Count::Answers(Class::of(status_of(note))), 1);
-    if note.refused {
-        tally.add(Count::Refusals(note.point, why), 1);
-    } else if why != Why::Served {
-        tally.add(Count::Failures(note.point, why), 1);
+    match why_of(note) {
+        Why::Served => {}
+        Why::Failed(reason) if note.refused => tally.add(Count::Refusals(note.point, reason), 1),
+        why => tally.add(Count::Failures(note.point, why), 1),
     }
 }

@@ -8,7 +8,7 @@ use event_loop::{Inbox, Room};
 use proxy_config::Config;
 use service_lines::Queues;
 use service_pool::Pool;
-use shard_report::{Log, Tally};
+use shard_report::{Log, LoopTally};
 use span_bank::{Bank, Ledgers};
 use std::sync::Arc;
 use std::sync::ledger::Ledger;
@@ -51,7 +51,7 @@ pub trait Shares {
     fn number(&self) -> usize;
 
     /// What the thread counts.
-    fn tally(&self) -> &Tally;
+    fn tally(&self) -> &LoopTally;
 
     /// The lines of the log that wait to be written, and their file.
     fn log(&self) -> &Log;
@@ -69,7 +69,7 @@ pub struct Shared<'a, B: Ledgers, Q: Ledger, A: Ledger> {
     pub room: &'a Arc<Room>,
     /// The number of the thread, what it counts, and the log.
     pub number: usize,
-    pub tally: &'a Tally,
+    pub tally: &'a LoopTally,
     pub log: &'a Log,
 }
 
@@ -114,7 +114,7 @@ impl<'a, B: Ledgers, Q: Ledger, A: Ledger> Shares for Shared<'a, B, Q, A> {
         self.number
     }
 
-    fn tally(&self) -> &Tally {
+    fn tally(&self) -> &LoopTally {
         self.tally
     }
 

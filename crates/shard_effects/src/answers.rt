@@ -2,8 +2,8 @@
 
 ghost use Rattle.std.specs.Prelude.{◌≡◌};
 
-use crate::reason::Reason;
 use adapt_sides::{ClientFault, RelayFault};
+use exchange_report::Reason;
 use icap_head::IcapResponse;
 
 /// What a turn at a head brought.
@@ -50,7 +50,7 @@ impl Unplanned {
         ensures { result ≡ unplanned_reason self }
     {
         match self {
-            Unplanned::Stale => Reason::Service,
+            Unplanned::Stale => Reason::ServiceRefused,
             Unplanned::Refused(reason) => reason,
         }
     }
@@ -63,6 +63,8 @@ pub struct Marks {
     pub offered: bool,
     /// Whether its user waits to be told to send its body.
     pub waits: bool,
+    /// Whether it may be sent again without harm, and so go out on a connection that was kept (RFC 9112, section 9.3.1).
+    pub repeatable: bool,
 }
 
 /// How much of a text a user has taken.
@@ -76,6 +78,17 @@ pub enum Said {
     Nothing,
     /// Its connection has failed.
     Broken,
+}
+
+/// What came of a request whose origin's kept connection has ended before an answer was read.
+#[derive(Clone, Copy, Debug, PartialEq, Eq)]
+pub enum Withdrawal {
+    /// It is the message again.
+    Again,
+    /// It isn't sent again: its origin has said something.
+    Heard,
+    /// No memory was found for it.
+    NoMemory,
 }
 
 /// What came of starting a message's transaction.

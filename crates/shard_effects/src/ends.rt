@@ -22,8 +22,10 @@ pub enum EndedBy {
 pub enum End {
     /// The origin has the whole request. Its response is waited for, where memory was found for that.
     Sent { has_memory: bool },
-    /// The user has the whole answer, and its connection serves further requests or not.
-    Answered { keeps: bool },
+    /// The user has the whole answer; its connection serves further requests or not, and the origin's one lasts or not.
+    Answered { keeps: bool, lasts: bool },
+    /// The origin's kept connection has ended with no byte of an answer. The request is there again, where memory was found for that.
+    Withdrawn { has_memory: bool },
     /// The message goes no further.
     Failed(RefusalCause),
     /// The proxy stops.

@@ -7,17 +7,19 @@
 #![tactic(auto)]
 
 mod answers;
-mod causes;
 mod effects;
 mod ends;
 mod reason;
 mod tasks;
 
-pub use answers::{HeadTurn, Lingered, Marks, OptionsTurn, Round, Said, Started, Unplanned};
-pub use causes::{lend_reason, refusal_cause_of};
+pub use answers::{
+    HeadTurn, Lingered, Marks, OptionsTurn, Round, Said, Started, Unplanned, Withdrawal,
+};
 pub use effects::{Effects, Holder, InHand};
 pub use ends::{End, EndedBy, Report};
+pub use exchange_report::Reason;
 pub use reason::{
-    Reason, open_reason, options_reason, origin_head_reason, record_reason, user_head_reason,
+    is_end_of_wire, lend_reason, open_reason, options_reason, origin_head_reason, record_reason,
+    request_reason, user_head_reason,
 };
 pub use tasks::{Step, Task};

@@ -1,51 +1,27 @@
-//! Why the proxy answers a request itself, and with which status (RFC 9110, section 15).
+//! The reason for which the proxy refuses a request, by the fault that it met.
 
-ghost use Rattle.std.specs.Prelude.{◌≡◌, IsTrue, IfSome, true};
-ghost use Rattle.http_side.specs.Refusals.{is_own_status};
+ghost use Rattle.std.specs.Prelude.{◌≡◌, IfSome, true};
 ghost use Rattle.exchange_core.specs.declared.event.RefusalCause.TheVariants.{Scarce};
 ghost use Rattle.exchange_core.specs.Dues.{lies_in_head};
-ghost use Rattle.shard_effects.specs.Reasons.{cause_of, lies_elsewhere, status_of, user_head_reason, origin_head_reason, options_reason, record_reason, open_reason};
+ghost use Rattle.exchange_report.specs.Reasons.{cause_of};
+ghost use Rattle.shard_effects.specs.Reasons.{lies_elsewhere, request_reason, user_head_reason, origin_head_reason, is_end_of_wire, lend_reason, options_reason, record_reason, open_reason};
 
-use crate::causes::refusal_cause_of;
 use adapt_sides::{ClientFault, RelayFault};
+use exchange_report::Reason;
 use http_side::HttpFault;
 use options_book::OptFault;
+use service_lines::LendFault;
 use span_bank::OpenFault;
 
-/// Why the proxy answers a request itself, where no transaction does.
-#[derive(Clone, Copy, Debug, PartialEq, Eq)]
-pub enum Reason {
-    /// The head of the user's request is refused.
-    Request(HttpFault),
-    /// The configuration has no host of the target's name.
-    UnknownHost,
-    /// No connection to the origin can be had.
-    NoOrigin,
-    /// The origin's response has no head that is forwarded.
-    OriginHead,
-    /// No connection to the service can be had, or it doesn't say what it offers.
-    Service,
-    /// All connections to the service are leased.
-    Busy,
-    /// The reservations would pass the buffer budget's capacity.
-    Full,
-    /// Each reservation slot is taken.
-    NoRow,
-    /// No memory was found.
-    NoMemory,
-    /// No byte moved for too long.
-    Deadline,
-    /// The proxy is stopping.
-    Stopping,
-}
-
-impl Reason {
-    /// The status of the proxy's own response, one of those that [`http_side::own_refusal`] has a text for: that of its cause.
-    pub fn status(self) -> u16
-        ensures status { result ≡ status_of self }
-        ensures own { IsTrue (is_own_status result) }
-    {
-        refusal_cause_of(self).status()
+/// Why a user is refused whose request's head is.
+pub fn request_reason(fault: HttpFault) -> Reason
+    ensures reason { result ≡ request_reason fault }
+    ensures suits { lies_in_head (cause_of result) ≡ true }
+{
+    match fault {
+        HttpFault::Coding | HttpFault::Connect => Reason::NotServed,
+        HttpFault::NoMemory => Reason::NoMemory,
+        _ => Reason::BadRequest,
     }
 }
 
@@ -55,7 +31,7 @@ pub fn user_head_reason(fault: RelayFault, head: Option<HttpFault>) -> Option<Re
     ensures suits { IfSome result (λ reason. lies_in_head (cause_of reason) ≡ true) }
 {
     match fault {
-        RelayFault::Head => Some(Reason::Request(head.unwrap_or(HttpFault::Bad))),
+        RelayFault::Head => Some(request_reason(head.unwrap_or(HttpFault::Bad))),
         RelayFault::NoMemory => Some(Reason::NoMemory),
         _ => None,
     }
@@ -70,7 +46,26 @@ pub fn origin_head_reason(fault: RelayFault, head: Option<HttpFault>) -> Reason
         (RelayFault::NoMemory, _) | (RelayFault::Head, Some(HttpFault::NoMemory)) => {
             Reason::NoMemory
         }
-        _ => Reason::OriginHead,
+        _ => Reason::OriginBroken,
+    }
+}
+
+/// Whether a wire ended, or failed, where it should have given a head: that turn read nothing.
+pub fn is_end_of_wire(fault: RelayFault) -> bool
+    ensures { result ≡ is_end_of_wire fault }
+{
+    matches!(fault, RelayFault::Closed | RelayFault::Device)
+}
+
+/// Why a user is refused for whose message no connection to its service can be lent.
+pub fn lend_reason(fault: LendFault) -> Reason
+    ensures reason { result ≡ lend_reason fault }
+    ensures suits { lies_elsewhere result ≡ true }
+{
+    match fault {
+        LendFault::Busy => Reason::Busy,
+        LendFault::Unreached => Reason::ServiceRefused,
+        LendFault::NoMemory => Reason::NoMemory,
     }
 }
 
@@ -81,7 +76,8 @@ pub fn options_reason(fault: ClientFault) -> Reason
 {
     match fault {
         ClientFault::NoMemory => Reason::NoMemory,
-        _ => Reason::Service,
+        ClientFault::Status => Reason::ServiceStatus,
+        _ => Reason::ServiceBroken,
     }
 }
 
@@ -92,7 +88,7 @@ pub fn record_reason(fault: OptFault) -> Reason
 {
     match fault {
         OptFault::NoMemory => Reason::NoMemory,
-        _ => Reason::Service,
+        _ => Reason::ServiceStatus,
     }
 }
 

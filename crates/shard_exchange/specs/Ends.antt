@@ -1,15 +1,15 @@
 -- How the course of an exchange leaves a message, and what its user is owed then.
-use Rattle.std.specs.Prelude.{◌≡◌, ℕ, Bool, true, false, not, ◌||◌, if◌then◌else◌, ⊤, Option, None, Some}
+use Rattle.std.specs.Prelude.{◌≡◌, ◌↔◌, ℕ, Bool, true, false, not, ◌&&◌, ◌||◌, if◌then◌else◌, ⊤, Option, None, Some}
 use Rattle.exchange_core.specs.declared.event.Event.{Event}
-use Rattle.exchange_core.specs.declared.event.Event.TheVariants.{Sent, Begun, Answered, UserLost, Stop, Failed}
+use Rattle.exchange_core.specs.declared.event.Event.TheVariants.{Sent, Begun, Withdrawn, Answered, UserLost, Stop, Failed}
 use Rattle.exchange_core.specs.declared.phase.Phase.{Phase}
 use Rattle.exchange_core.specs.declared.phase.Phase.TheVariants.{Idle, Head, Refusing, Closing, Gone}
 use Rattle.exchange_core.specs.declared.course.Course.{Course}
 use Rattle.exchange_core.specs.declared.connection.Connection.{Connection}
 use Rattle.exchange_core.specs.declared.connection.Connection.TheVariants.{Absent, Ready, InUse, Spent}
 use Rattle.exchange_core.specs.declared.event.RefusalCause.{RefusalCause}
-use Rattle.exchange_core.specs.Course.{is_leased, is_mid_text}
-use Rattle.exchange_core.specs.May.{may_come, is_at_gate, is_moving, is_refusing, is_gone, is_idle, is_answer}
+use Rattle.exchange_core.specs.Course.{is_in_use, is_leased, is_mid_text, point_of}
+use Rattle.exchange_core.specs.May.{may_come, is_at_gate, is_moving, is_refusing, is_gone, is_idle, is_answer, is_request, is_withdrawing}
 use Rattle.exchange_core.specs.Dues.{status_of}
 use Rattle.shard_effects.specs.declared.ends.End.{End}
 use Rattle.shard_effects.specs.declared.ends.End.TheVariants as ends
@@ -23,7 +23,8 @@ moves c = is_at_gate c.phase || is_moving c.phase
 -- with it a message is over
 abbrev pub ends_message : Event → Bool
 ends_message Sent = true
-ends_message (Answered keeps) = true
+ends_message Withdrawn = true
+ends_message (Answered keeps lasts) = true
 ends_message (Failed why) = true
 ends_message UserLost = true
 ends_message Stop = true
@@ -55,6 +56,11 @@ Stays old new = Holds old new × (new.phase ≡ old.phase) × (new.stopping ≡ 
 abbrev pub Leaves : Course → Course → Type 0
 Leaves old new = Holds old new × (moves new ≡ false)
 
+-- with that end the origin's connection lasts
+abbrev pub keeps_origin : End → Bool
+keeps_origin (ends.Answered keeps lasts) = lasts
+keeps_origin _ = false
+
 -- the status of the refusal that goes to the user, or 0
 abbrev pub refusal_at : Phase → ℕ
 refusal_at (Refusing why) = status_of why
@@ -70,18 +76,31 @@ IsOwedBy ended.Deadline old new = IsOwed old new 504
 IsOwedBy ended.Stop old new = IsOwed old new 503
 IsOwedBy _ old new = ⊤
 
--- A message is over, to whose user a byte of an answer went or not, with one of these ends. A user that got such a byte isn't refused;
+-- the response that moved ended so: its user got the answer, so the origin's connection lasts exactly where that end says so
+abbrev pub LastsAs : (answered : Bool) → (old new : Course) → End → Type 0
+LastsAs answered old new (ends.Answered keeps lasts) = answered ≡ true → (is_moving old.phase && not (is_request (point_of old.phase))) ≡ true
+    → is_in_use new.connection ≡ false → new.lasts ≡ lasts
+LastsAs answered old new _ = ⊤
+
+-- A message is over, to whose user a byte of an answer went or not, with one of these ends, and what is held follows from it. A user that
+-- got such a byte isn't refused;
 -- another one is, where the message failed, with the status of just that cause. A further request is read only after an answer that keeps
--- the connection, and a response is waited for only where its request was sent.
-pub record IsEnded (may : End → Type 0) (answered : Bool) (old new : Course) : Type 0 where
+-- the connection, and a response is waited for only where its request was sent. The origin's connection lasts exactly where that end says so.
+-- A request goes back to its plan exactly where it was withdrawn, and there was memory for it; without that it failed as its origin did.
+pub record IsEnded (may follows : End → Type 0) (answered : Bool) (old new : Course) : Type 0 where
   pub end : End
   pub is_so : may end
+  pub next : follows end
   pub over : moves new ≡ false
   pub alone : answered ≡ true → is_refusing new.phase ≡ false
   pub owed : (why : RefusalCause) → end ≡ ends.Failed why → answered ≡ false → IsOwed old new (status_of why)
   pub lost : end ≡ ends.Lost → is_gone new.phase ≡ true
-  pub keeps : is_idle new.phase ≡ true → end ≡ ends.Answered true
+  pub keeps : is_idle new.phase ≡ true → end ≡ ends.Answered true new.lasts
+  pub lasts : new.lasts ≡ true → (old.lasts || keeps_origin end) ≡ true
+  pub lasting : LastsAs answered old new end
   pub awaits : is_answer new.phase ≡ true → end ≡ ends.Sent true
+  pub withdrawn : is_withdrawing new.phase ≡ true ↔ end ≡ ends.Withdrawn true
+  pub wanting : end ≡ ends.Withdrawn false → answered ≡ false → IsOwed old new 502
 
 -- nothing is due for the user any more, but for a refusal
 abbrev pub is_stopped : Course → Bool

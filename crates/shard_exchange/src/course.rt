@@ -1,16 +1,17 @@
 //! What the course of an exchange is told: that a head begins, how a message ended, and that the proxy stops.
 
-ghost use Rattle.std.specs.Prelude.{◌≡◌, ◌⊎◌, true, false};
+ghost use Rattle.std.specs.Prelude.{◌≡◌, ◌⊎◌, ◌||◌, Bool as AnyBool, true, false};
 ghost use Rattle.exchange_core.specs.declared.event.RefusalCause.{RefusalCause as AnyCause};
 ghost use Rattle.exchange_core.specs.declared.connection.Connection.{Connection as AnyConnection};
-ghost use Rattle.exchange_core.specs.Course.{after, connection_after, is_mid_text};
+ghost use Rattle.exchange_core.specs.Course.{after, connection_after, lasts_after, is_mid_text};
 ghost use Rattle.exchange_core.specs.Dues.{due_of, status_of};
 ghost use Rattle.exchange_core.specs.declared.due.Due.TheVariants as dues;
-ghost use Rattle.exchange_core.specs.declared.event.Event.TheVariants.{Failed, Begun, Stop};
+ghost use Rattle.exchange_core.specs.declared.event.Event.TheVariants.{Failed, Begun, Answered, Withdrawn, Stop};
 ghost use Rattle.exchange_core.specs.declared.event.RefusalCause.TheVariants.{Elsewhere};
-ghost use Rattle.exchange_core.specs.May.{may_come, is_answer, is_gone, is_head, is_idle, is_refusing};
+ghost use Rattle.exchange_core.specs.May.{may_come, is_answer, is_gone, is_head, is_idle, is_refusing, is_withdrawing};
 ghost use Rattle.exchange_core.specs.Log.{Goes};
-ghost use Rattle.shard_exchange.specs.Ends.{moves, ends_message, Stays, Leaves, IsOwed, Halts, IsToldServed};
+ghost use Rattle.shard_exchange.specs.Ends.{moves, ends_message, keeps_origin, Stays, Leaves, LastsAs, IsOwed, Halts, IsToldServed};
+ghost use Rattle.shard_exchange.specs.Outcomes.{begun_of};
 
 use exchange_core::{Event, Exchange, Phase, RefusalCause};
 use shard_effects::{End, Report};
@@ -25,6 +26,7 @@ fn take_or_fail(course: &mut Exchange, event: Event)
     ensures goes { Goes course.old course.new }
     ensures leaves { Leaves course.old course.new }
     ensures line { course.new.connection ≡ course.old.connection }
+    ensures lasts { (course.new.lasts ≡ lasts_after course.old.lasts event) ⊎ (course.new.lasts ≡ course.old.lasts) }
     ensures taken { may_come course.old event ≡ true → course.new ≡ after course.old event }
     ensures owed { may_come course.old event ≡ false → course.new ≡ after course.old (Failed Elsewhere) }
 {
@@ -43,9 +45,10 @@ fn tell_begun(course: &mut Exchange, has_answered: bool) -> bool
     ensures line { course.new.connection ≡ course.old.connection }
     ensures stays { result ≡ true → Stays course.old course.new }
     ensures begun { result ≡ true → has_answered ≡ true → course.new.begun ≡ true }
+    ensures lasts { course.new.lasts ≡ course.old.lasts }
     ensures same { has_answered ≡ false → (result ≡ true) × (course.new ≡ course.old) }
     ensures lost { result ≡ false → Leaves course.old course.new × (is_gone course.new.phase ≡ true) }
-    ensures none { result ≡ false → may_come course.old Begun ≡ false }
+    ensures none { result ≡ false → (may_come course.old Begun ≡ false) × (course.old.begun ≡ false) }
 {
     if !has_answered || course.course().begun {
         return true;
@@ -66,8 +69,14 @@ fn tell_end(course: &mut Exchange, end: End)
     ensures stops { end ≡ End.Stopped → course.new ≡ after course.old Stop }
     ensures owed { (why : AnyCause) → end ≡ End.Failed why → IsOwed course.old course.new (status_of why) }
     ensures alone { course.old.begun ≡ true → is_refusing course.new.phase ≡ false }
-    ensures keeps { is_idle course.new.phase ≡ true → end ≡ End.Answered true }
+    ensures keeps { is_idle course.new.phase ≡ true → end ≡ End.Answered true course.new.lasts }
+    ensures lasts { course.new.lasts ≡ true → (course.old.lasts || keeps_origin end) ≡ true }
+    ensures lasting { (keeps : AnyBool) → (lasts : AnyBool) → end ≡ End.Answered keeps lasts → may_come course.old (Answered keeps lasts) ≡ true
+        → course.new.lasts ≡ lasts }
     ensures awaits { is_answer course.new.phase ≡ true → end ≡ End.Sent true }
+    ensures withdrawn { is_withdrawing course.new.phase ≡ true → end ≡ End.Withdrawn true }
+    ensures again { end ≡ End.Withdrawn true → may_come course.old Withdrawn ≡ true → is_withdrawing course.new.phase ≡ true }
+    ensures wanting { end ≡ End.Withdrawn false → IsOwed course.old course.new 502 }
 {
     match end {
         End::Sent { has_memory } => {
@@ -76,7 +85,11 @@ fn tell_end(course: &mut Exchange, end: End)
                 course.take(Event::Failed(RefusalCause::Scarce));
             }
         }
-        End::Answered { keeps } => take_or_fail(course, Event::Answered { keeps }),
+        End::Answered { keeps, lasts } => take_or_fail(course, Event::Answered { keeps, lasts }),
+        End::Withdrawn { has_memory: true } => take_or_fail(course, Event::Withdrawn),
+        End::Withdrawn { has_memory: false } => {
+            course.take(Event::Failed(RefusalCause::Elsewhere));
+        }
         End::Failed(why) => course.take(Event::Failed(why)),
         End::Stopped => course.take(Event::Stop),
         End::Lost => course.take(Event::UserLost),
@@ -90,6 +103,8 @@ fn tell_served(course: &mut Exchange, served: Option<bool>)
     ensures served { IsToldServed served course.old.connection course.new.connection }
     ensures stays { Stays course.old course.new }
     ensures begun { course.new.begun ≡ course.old.begun }
+    ensures lasts { course.new.lasts ≡ course.old.lasts }
+    ensures may { may_come course.new Withdrawn ≡ may_come course.old Withdrawn }
     ensures text { is_mid_text course.new ≡ is_mid_text course.old }
 {
     if let Some(usable) = served
@@ -108,6 +123,7 @@ fn tell_cut(course: &mut Exchange, cuts: bool)
     ensures gone { is_gone course.old.phase ≡ true → is_gone course.new.phase ≡ true }
     ensures stops { course.old.stopping ≡ true → course.new ≡ course.old }
     ensures same { cuts ≡ false → course.new ≡ course.old }
+    ensures lasts { course.new.lasts ≡ course.old.lasts }
     ensures phase { (course.new.phase ≡ course.old.phase) ⊎ (is_gone course.new.phase ≡ true) }
 {
     if cuts && course.may(Event::Dropped) {
@@ -118,7 +134,8 @@ fn tell_cut(course: &mut Exchange, cuts: bool)
 /// Tells the course of a transaction that is over. A user to whom a byte of an answer went gets no refusal after it. One to whom none
 /// went gets the refusal of the cause by which its message failed, or of the stop. A further request is read only after an answer that
 /// keeps its connection, and a response is waited for only where its request was sent. The service's connection serves again exactly
-/// where the report says so.
+/// where the report says so, and so does the origin's last. A request goes back to its plan exactly where it was withdrawn, and there was
+/// memory for it.
 pub(crate) fn tell(course: &mut Exchange, report: Report)
     requires moves { moves course.old ≡ true }
     requires runs { course.old.stopping ≡ false }
@@ -131,8 +148,14 @@ pub(crate) fn tell(course: &mut Exchange, report: Report)
     ensures owed { (why : AnyCause) → report.end ≡ End.Failed why → report.has_answered ≡ false → report.cuts ≡ false
         → IsOwed course.old course.new (status_of why) }
     ensures alone { report.has_answered ≡ true → is_refusing course.new.phase ≡ false }
-    ensures keeps { is_idle course.new.phase ≡ true → report.end ≡ End.Answered true }
+    ensures keeps { is_idle course.new.phase ≡ true → report.end ≡ End.Answered true course.new.lasts }
+    ensures lasts { course.new.lasts ≡ true → (course.old.lasts || keeps_origin report.end) ≡ true }
+    ensures lasting { LastsAs report.has_answered course.old course.new report.end }
     ensures awaits { is_answer course.new.phase ≡ true → report.end ≡ End.Sent true }
+    ensures withdrawn { is_withdrawing course.new.phase ≡ true → report.end ≡ End.Withdrawn true }
+    ensures again { report.end ≡ End.Withdrawn true → report.has_answered ≡ false → report.cuts ≡ false → may_come course.old Withdrawn ≡ true
+        → is_withdrawing course.new.phase ≡ true }
+    ensures wanting { report.end ≡ End.Withdrawn false → report.has_answered ≡ false → report.cuts ≡ false → IsOwed course.old course.new 502 }
 {
     if tell_begun(course, report.has_answered) {
         tell_served(course, report.served);
@@ -144,6 +167,7 @@ pub(crate) fn tell(course: &mut Exchange, report: Report)
 /// The first byte of a further request came, or of the first one.
 pub(crate) fn begin_head(course: &mut Exchange)
     requires { due_of course.old ≡ dues.ReadRequest }
+    ensures course { course.new ≡ begun_of course.old }
     ensures goes { Goes course.old course.new }
     ensures due { due_of course.new ≡ dues.ReadRequest }
     ensures head { is_head course.new.phase ≡ true }

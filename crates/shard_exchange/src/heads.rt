@@ -1,18 +1,26 @@
 //! Heads of messages: the user's requests, and the origins' responses.
 
-ghost use Rattle.std.specs.Prelude.{◌≡◌};
+ghost use Rattle.std.specs.Prelude.{◌≡◌, if◌then◌else◌, Option as AnyOption};
+ghost use Rattle.http_side.specs.declared.fault.HttpFault.{HttpFault as AnyHttpFault};
+ghost use Rattle.shard_effects.specs.Reasons as reasons;
 
 use crate::course::begin_head;
 use crate::exchange::Exchange;
+use adapt_sides::RelayFault;
 use exchange_core::Event;
 use shard_effects::{
-    Effects, HeadTurn, Holder, Reason, Step, origin_head_reason, user_head_reason,
+    Effects, HeadTurn, Holder, Reason, Step, Withdrawal, is_end_of_wire, origin_head_reason,
+    user_head_reason,
 };
 
 impl<H: Holder> Exchange<H> {
     ghost use Rattle.exchange_core.specs.Dues.{due_of};
     ghost use Rattle.exchange_core.specs.Log.{Goes};
+    ghost use Rattle.exchange_core.specs.Course.{after};
     ghost use Rattle.exchange_core.specs.declared.due.Due.TheVariants as dues;
+    ghost use Rattle.exchange_core.specs.declared.event.Event.TheVariants.{RequestRead, ResponseRead, Failed};
+    ghost use Rattle.exchange_core.specs.declared.event.RefusalCause.TheVariants.{Deadline};
+    ghost use Rattle.shard_exchange.specs.Outcomes.{begun_of, heard_of, FaultLeads, IsRead, IsRequested, NoHeadLeads, RequestLeads, SilenceLeads, TurnLeads};
     ghost use Rattle.shard_exchange.specs.Steps.{Heeds};
 
     /// Reads the head of the next request.
@@ -20,25 +28,31 @@ impl<H: Holder> Exchange<H> {
     where
         H: Effects<P>,
         requires due { due_of self.old.course ≡ dues.ReadRequest }
+        ensures read { IsRequested H.reads H.has_begun (H.is_late out.old at.now) self.old.holdings self.old.course self.new.course }
         ensures goes { Goes self.old.course self.new.course }
         ensures heeds { Heeds (H.is_late out.new at.now) self.new.course result }
     {
-        match self.holdings.read_request() {
+        let turn = self.holdings.read_request();
+        self.take_request_turn(at, out, turn)
+    }
+
+    /// Tells the course what a turn at the head of the next request brought.
+    fn take_request_turn<P>(&mut self, at: &P, out: &mut H::Outside, turn: Option<HeadTurn>) -> Step
+    where
+        H: Effects<P>,
+        requires due { due_of self.old.course ≡ dues.ReadRequest }
+        ensures leads { RequestLeads (H.has_begun self.old.holdings) (H.is_late out.old at.now) self.old.course self.new.course turn }
+        ensures goes { Goes self.old.course self.new.course }
+        ensures heeds { Heeds (H.is_late out.new at.now) self.new.course result }
+    {
+        match turn {
             Some(HeadTurn::Whole) => self.has_request(at, out),
             Some(HeadTurn::More | HeadTurn::Interim) => {
-                if self.holdings.has_begun() {
-                    begin_head(&mut self.course);
-                }
+                self.note_begun();
                 Step::On
             }
             Some(HeadTurn::Nothing) => self.wait_for_request(at, out),
-            Some(HeadTurn::Fault(fault)) => match user_head_reason(
-                fault,
-                self.holdings.head_fault(),
-            ) {
-                Some(reason) => self.refuse(at, out, reason),
-                None => self.lose_user(),
-            },
+            Some(HeadTurn::Fault(fault)) => self.request_failed(at, out, fault),
             None => self.lose_user(),
         }
     }
@@ -48,6 +62,7 @@ impl<H: Holder> Exchange<H> {
     where
         H: Effects<P>,
         requires due { due_of self.old.course ≡ dues.ReadRequest }
+        ensures course { self.new.course ≡ after (begun_of self.old.course) RequestRead }
         ensures goes { Goes self.old.course self.new.course }
         ensures on { result ≡ Step.On }
     {
@@ -57,23 +72,49 @@ impl<H: Holder> Exchange<H> {
         Step::On
     }
 
-    /// Waits for what is still to come of the next request. Its first bytes may have come with the request before. A user that says
-    /// nothing is let go once the proxy drains.
+    /// Takes note of the first byte of a request, where one came. It may have come with the request before.
+    fn note_begun(&mut self)
+        requires due { due_of self.old.course ≡ dues.ReadRequest }
+        ensures course { self.new.course ≡ (if H.has_begun self.old.holdings then begun_of self.old.course else self.old.course) }
+        ensures due { due_of self.new.course ≡ dues.ReadRequest }
+        ensures held { self.new.holdings ≡ self.old.holdings }
+        ensures goes { Goes self.old.course self.new.course }
+    {
+        if self.holdings.has_begun() {
+            begin_head(&mut self.course);
+        }
+    }
+
+    /// There is no head of a request.
+    fn request_failed<P>(&mut self, at: &P, out: &mut H::Outside, fault: RelayFault) -> Step
+    where
+        H: Effects<P>,
+        requires due { due_of self.old.course ≡ dues.ReadRequest }
+        ensures leads { (head : AnyOption AnyHttpFault) × NoHeadLeads (reasons.user_head_reason fault head) self.old.course self.new.course }
+        ensures goes { Goes self.old.course self.new.course }
+        ensures on { result ≡ Step.On }
+    {
+        match user_head_reason(fault, self.holdings.head_fault()) {
+            Some(reason) => self.refuse(at, out, reason),
+            None => self.lose_user(),
+        }
+    }
+
+    /// Waits for what is still to come of the next request. A user that says nothing is let go once the proxy drains.
     fn wait_for_request<P>(&mut self, at: &P, out: &mut H::Outside) -> Step
     where
         H: Effects<P>,
         requires due { due_of self.old.course ≡ dues.ReadRequest }
+        ensures leads { SilenceLeads (H.has_begun self.old.holdings) (H.is_late out.old at.now) self.old.course self.new.course }
         ensures goes { Goes self.old.course self.new.course }
         ensures heeds { Heeds (H.is_late out.new at.now) self.new.course result }
     {
-        if self.holdings.has_begun() {
-            begin_head(&mut self.course);
-            return self.wait(at, out);
-        }
-        if self.course.course().draining && H::has_rested(at, out) {
+        let is_silent = !self.holdings.has_begun();
+        if is_silent && self.course.course().draining && H::has_rested(at, out) {
             self.course.dropped();
             return Step::On;
         }
+        self.note_begun();
         self.wait(at, out)
     }
 
@@ -82,26 +123,98 @@ impl<H: Holder> Exchange<H> {
     where
         H: Effects<P>,
         requires due { due_of self.old.course ≡ dues.ReadResponse }
+        ensures read { IsRead H.hears H.repeats H.withdraws (H.is_late out.old at.now) self.old.holdings self.old.course self.new.course }
         ensures goes { Goes self.old.course self.new.course }
         ensures heeds { Heeds (H.is_late out.new at.now) self.new.course result }
     {
-        match self.holdings.read_response() {
-            Some(HeadTurn::Whole) => {
-                self.holdings.note_response(at, out);
-                self.course.done(Event::ResponseRead);
+        let turn = self.holdings.read_response();
+        self.take_turn(at, out, turn)
+    }
+
+    /// Tells the course what a turn at the head of the origin's response brought.
+    fn take_turn<P>(&mut self, at: &P, out: &mut H::Outside, turn: Option<HeadTurn>) -> Step
+    where
+        H: Effects<P>,
+        requires due { due_of self.old.course ≡ dues.ReadResponse }
+        ensures leads { TurnLeads (H.repeats self.old.holdings) (H.withdraws self.old.holdings) (H.is_late out.old at.now) self.old.course self.new.course turn }
+        ensures goes { Goes self.old.course self.new.course }
+        ensures heeds { Heeds (H.is_late out.new at.now) self.new.course result }
+    {
+        match turn {
+            Some(HeadTurn::Whole) => self.has_response(at, out),
+            Some(HeadTurn::More) => {
+                self.note_heard();
                 Step::On
             }
-            Some(HeadTurn::More) => Step::On,
-            Some(HeadTurn::Interim) if H::is_late(at, out) => {
-                self.refuse(at, out, Reason::Deadline)
-            }
-            Some(HeadTurn::Interim) => Step::Unmoved,
-            Some(HeadTurn::Nothing) => self.wait_or_refuse(at, out),
-            Some(HeadTurn::Fault(fault)) => {
-                let reason = origin_head_reason(fault, self.holdings.head_fault());
-                self.refuse(at, out, reason)
-            }
+            Some(HeadTurn::Interim) => self.has_dropped_interim(at, out),
+            Some(HeadTurn::Nothing) => self.wait_or_refuse(at, out, Reason::OriginDeadline),
+            Some(HeadTurn::Fault(fault)) => self.response_failed(at, out, fault),
             None => self.refuse(at, out, Reason::NoMemory),
         }
+    }
+
+    /// The head of the origin's response was read.
+    fn has_response<P>(&mut self, at: &P, out: &mut H::Outside) -> Step
+    where
+        H: Effects<P>,
+        requires due { due_of self.old.course ≡ dues.ReadResponse }
+        ensures course { self.new.course ≡ after self.old.course ResponseRead }
+        ensures goes { Goes self.old.course self.new.course }
+        ensures on { result ≡ Step.On }
+    {
+        self.holdings.note_response(at, out);
+        self.course.done(Event::ResponseRead);
+        Step::On
+    }
+
+    /// A byte of the origin's answer was read: from then on its request isn't sent again.
+    fn note_heard(&mut self)
+        requires due { due_of self.old.course ≡ dues.ReadResponse }
+        ensures course { self.new.course ≡ heard_of self.old.course }
+        ensures due { due_of self.new.course ≡ dues.ReadResponse }
+        ensures held { self.new.holdings ≡ self.old.holdings }
+        ensures goes { Goes self.old.course self.new.course }
+    {
+        if !self.course.course().heard {
+            self.course.done(Event::Heard);
+        }
+    }
+
+    /// An interim response was dropped.
+    fn has_dropped_interim<P>(&mut self, at: &P, out: &mut H::Outside) -> Step
+    where
+        H: Effects<P>,
+        requires due { due_of self.old.course ≡ dues.ReadResponse }
+        ensures course { self.new.course ≡ (if H.is_late out.old at.now then after (heard_of self.old.course) (Failed Deadline) else heard_of self.old.course) }
+        ensures goes { Goes self.old.course self.new.course }
+        ensures heeds { Heeds (H.is_late out.new at.now) self.new.course result }
+    {
+        self.note_heard();
+        if H::is_late(at, out) {
+            self.refuse(at, out, Reason::OriginDeadline)
+        } else {
+            Step::Unmoved
+        }
+    }
+
+    /// The origin's connection gives no head. One that was kept may be closed just now: then its request goes back to its plan, once, as
+    /// long as no byte of an answer came.
+    fn response_failed<P>(&mut self, at: &P, out: &mut H::Outside, fault: RelayFault) -> Step
+    where
+        H: Effects<P>,
+        requires due { due_of self.old.course ≡ dues.ReadResponse }
+        ensures leads { FaultLeads (H.repeats self.old.holdings) (H.withdraws self.old.holdings) fault self.old.course self.new.course }
+        ensures goes { Goes self.old.course self.new.course }
+        ensures on { result ≡ Step.On }
+    {
+        if is_end_of_wire(fault)
+            && self.course.may(Event::Withdrawn)
+            && self.holdings.withdraw(at, out, &self.course) == Withdrawal::Again
+        {
+            self.course.take(Event::Withdrawn);
+            return Step::On;
+        }
+        let reason = origin_head_reason(fault, self.holdings.head_fault());
+        self.refuse(at, out, reason)
     }
 }

@@ -9,14 +9,15 @@ use shard_effects::{Effects, Holder, Reason, Step, lend_reason};
 use trace_core::Point;
 
 impl<H: Holder> Exchange<H> {
-    ghost use Rattle.exchange_core.specs.Course.{is_leased, is_mid_text};
+    ghost use Rattle.exchange_core.specs.Course.{after, is_leased, is_mid_text};
+    ghost use Rattle.exchange_core.specs.declared.event.Event.TheVariants.{Failed};
     ghost use Rattle.exchange_core.specs.May.{is_refusing};
-    ghost use Rattle.shard_effects.specs.Reasons.{cause_of, status_of};
+    ghost use Rattle.exchange_report.specs.Reasons.{cause_of, status_of};
     ghost use Rattle.shard_exchange.specs.Ends.{IsOwed};
     ghost use Rattle.exchange_core.specs.Dues.{due_of, fails_of};
     ghost use Rattle.exchange_core.specs.Log.{Goes};
     ghost use Rattle.exchange_core.specs.declared.due.Due.TheVariants as dues;
-    ghost use Rattle.shard_exchange.specs.Outcomes.{IsLent};
+    ghost use Rattle.shard_exchange.specs.Outcomes.{IsAwaited, IsLent, IsQueued, WaitsOn};
     ghost use Rattle.shard_exchange.specs.Steps.{Heeds, GoesOn};
 
     /// Leases a connection of the service, or has the message wait for one where all are leased.
@@ -24,7 +25,7 @@ impl<H: Holder> Exchange<H> {
     where
         H: Effects<P>,
         requires due { due_of self.old.course ≡ dues.Lend }
-        ensures lent { IsLent (H.leases self.new.holdings) self.old.course self.new.course }
+        ensures lent { IsLent (H.leases self.new.holdings) (λ out. H.fails out at.now) (λ out. H.joins out at.now) self.old.course self.new.course }
         ensures goes { GoesOn self.old.course self.new.course }
         ensures on { result ≡ Step.On }
     {
@@ -44,7 +45,7 @@ impl<H: Holder> Exchange<H> {
     where
         H: Effects<P>,
         requires due { due_of self.old.course ≡ dues.Lend }
-        ensures unlent { self.new.course.connection ≡ self.old.course.connection }
+        ensures queued { IsQueued (λ joined. (later : H.Outside) × H.joins later at.now point joined) self.old.course self.new.course }
         ensures goes { GoesOn self.old.course self.new.course }
         ensures on { result ≡ Step.On }
     {
@@ -61,7 +62,7 @@ impl<H: Holder> Exchange<H> {
         H: Effects<P>,
         requires due { due_of self.old.course ≡ dues.Await }
         requires fits { fails_of dues.Await (cause_of reason) ≡ true }
-        ensures unlent { self.new.course.connection ≡ self.old.course.connection }
+        ensures course { self.new.course ≡ after self.old.course (Failed (cause_of reason)) }
         ensures goes { Goes self.old.course self.new.course }
         ensures owed { IsOwed self.old.course self.new.course (status_of reason) }
         ensures on { result ≡ Step.On }
@@ -75,7 +76,7 @@ impl<H: Holder> Exchange<H> {
     where
         H: Effects<P>,
         requires due { due_of self.old.course ≡ dues.Await }
-        ensures unlent { self.new.course.connection ≡ self.old.course.connection }
+        ensures waits { WaitsOn (H.has_waited out.old at.now) (H.is_late out.old at.now) self.old.course self.new.course }
         ensures goes { Goes self.old.course self.new.course }
         ensures late { H.is_late out.old at.now ≡ true → is_mid_text self.old.course ≡ false
             → is_refusing self.new.course.phase ≡ true }
@@ -84,7 +85,7 @@ impl<H: Holder> Exchange<H> {
         if H::has_waited(at, out) {
             self.refuse_queued(at, out, Reason::Busy)
         } else if H::is_late(at, out) {
-            self.refuse_queued(at, out, Reason::Deadline)
+            self.refuse_queued(at, out, Reason::ServiceDeadline)
         } else {
             Step::Waits
         }
@@ -96,7 +97,8 @@ impl<H: Holder> Exchange<H> {
         H: Effects<P>,
         requires due { due_of self.old.course ≡ dues.Await }
         requires free { is_leased self.old.course.connection ≡ false }
-        ensures lent { IsLent (H.leases self.new.holdings) self.old.course self.new.course }
+        ensures lent { IsAwaited (H.leases self.new.holdings) (λ out. H.fails out at.now) (λ out. H.has_waited out at.now) (λ out. H.is_late out at.now)
+            self.old.course self.new.course }
         ensures goes { Goes self.old.course self.new.course }
         ensures heeds { Heeds (H.is_late out.new at.now) self.new.course result }
     {

@@ -43,8 +43,10 @@ impl<H: Holder> Exchange<H> {
         }
     }
 
-    /// Closes the origin's connection.
-    fn free_origin(&mut self)
+    /// Keeps the origin's connection where it lasts, or closes it.
+    fn free_origin<P>(&mut self, at: &P, out: &mut H::Outside)
+    where
+        H: Effects<P>,
         requires gone { is_gone self.old.course.phase ≡ true }
         requires free { is_free self.old.course ≡ true }
         ensures goes { Goes self.old.course self.new.course }
@@ -52,7 +54,7 @@ impl<H: Holder> Exchange<H> {
         ensures over { is_over self.new.course ≡ true }
     {
         if self.course.due() == Due::HangUp {
-            self.hang_up();
+            self.hang_up(at, out);
         }
     }
 
@@ -67,7 +69,7 @@ impl<H: Holder> Exchange<H> {
     {
         self.free_connection(at, out);
         self.free_room(rt, at, out);
-        self.free_origin();
+        self.free_origin(at, out);
     }
 
     /// Ends the message of a user that is gone.
@@ -77,6 +79,7 @@ impl<H: Holder> Exchange<H> {
         ensures goes { Goes self.old.course self.new.course }
         ensures gone { is_gone self.new.course.phase ≡ true }
     {
+        // For the proof alone: this course is one that can be reached.
         let _ = self.course.course();
         if !self.course.may(Event::UserLost) {
             if self.course.may(Event::Tried) {

@@ -1,6 +1,6 @@
 //! Messages that move: their transactions start, turn and end.
 
-ghost use Rattle.std.specs.Prelude.{◌≡◌, ◌⊎◌, ◌&&◌, ◌||◌, if◌then◌else◌, true, false};
+ghost use Rattle.std.specs.Prelude.{◌≡◌, ◌⊎◌, ◌&&◌, ◌||◌, if◌then◌else◌, true, false, Option as AnyOption, Bool as AnyBool};
 
 use crate::course::tell;
 use crate::exchange::Exchange;
@@ -12,12 +12,12 @@ impl<H: Holder> Exchange<H> {
     ghost use Rattle.exchange_core.specs.Dues.{due_of};
     ghost use Rattle.exchange_core.specs.Log.{Goes};
     ghost use Rattle.exchange_core.specs.Course.{after};
-    ghost use Rattle.exchange_core.specs.May.{may_come, is_gone, is_moving, is_refusing};
+    ghost use Rattle.exchange_core.specs.May.{may_come, is_gone, is_moving, is_refusing, is_withdrawing};
     ghost use Rattle.exchange_core.specs.declared.due.Due.TheVariants as dues;
-    ghost use Rattle.exchange_core.specs.declared.event.Event.TheVariants.{Begun, Renewed};
+    ghost use Rattle.exchange_core.specs.declared.event.Event.TheVariants.{Begun, Renewed, Withdrawn};
     ghost use Rattle.shard_effects.specs.Ends.{IfItself};
     ghost use Rattle.shard_exchange.specs.Ends.{moves, Halts, IsEnded, IsOwedBy, IsServedBy};
-    ghost use Rattle.shard_exchange.specs.Outcomes.{has_answer, IsGated, IsTurned};
+    ghost use Rattle.shard_exchange.specs.Outcomes.{has_answer, IsGated, IsStarted, IsTurned};
     ghost use Rattle.shard_exchange.specs.Steps.{Heeds, GoesOn};
 
     /// Starts the transaction of a message that has all that it needs. Where it can't begin, the message fails.
@@ -26,6 +26,7 @@ impl<H: Holder> Exchange<H> {
         H: Effects<P>,
         requires due { due_of self.old.course ≡ dues.Start }
         requires held { (self.old.course.stake ≡ true) × (self.old.course.origin ≡ true) }
+        ensures started { IsStarted (H.starts self.old.holdings self.new.holdings out.old at.now self.old.course) self.new.course }
         ensures goes { GoesOn self.old.course self.new.course }
         ensures on { result ≡ Step.On }
     {
@@ -45,7 +46,8 @@ impl<H: Holder> Exchange<H> {
         H: Effects<P>,
         requires due { due_of self.old.course ≡ dues.AskGate }
         requires runs { self.old.course.stopping ≡ false }
-        ensures gated { IsGated (H.ends self.old.holdings) (H.answered self.old.holdings) self.old.course self.new.course }
+        ensures gated { IsGated (H.ends self.old.holdings (may_come self.old.course Withdrawn)) (λ end. H.follows self.old.holdings end self.new.holdings)
+            (H.answered self.old.holdings) self.old.course self.new.course }
         ensures goes { GoesOn self.old.course self.new.course }
         ensures on { result ≡ Step.On }
     {
@@ -63,7 +65,9 @@ impl<H: Holder> Exchange<H> {
         H: Effects<P>,
         requires due { due_of self.old.course ≡ dues.Turn }
         requires runs { self.old.course.stopping ≡ false }
-        ensures turned { IsTurned H.rounds H.answered H.reusable H.ends (λ out. H.is_late out at.now) self.old.holdings self.old.course self.new.course }
+        ensures turned { IsTurned (λ held turned later round. H.rounds held turned out.old later at.now round) (λ turned usable. H.frees turned self.new.holdings usable)
+            H.answered H.reusable H.ends (λ turned end. H.follows turned end self.new.holdings) H.repeats (λ out. H.is_late out at.now)
+            self.old.holdings self.old.course self.new.course }
         ensures goes { Goes self.old.course self.new.course }
         ensures heeds { Heeds (H.is_late out.new at.now) self.new.course result }
     {
@@ -89,7 +93,7 @@ impl<H: Holder> Exchange<H> {
         H: Effects<P>,
         requires { is_moving self.old.course.phase ≡ true }
         ensures goes { Goes self.old.course self.new.course }
-        ensures rounds { H.rounds self.old.holdings self.new.holdings }
+        ensures rounds { H.rounds self.old.holdings self.new.holdings out.old out.new at.now result }
         ensures still { (result ≡ Round.Broken → ⊥) → self.new.course ≡ self.old.course }
         ensures renewed { (self.new.course ≡ self.old.course) ⊎ (self.new.course ≡ after self.old.course Renewed) }
         ensures moves { is_moving self.new.course.phase ≡ true }
@@ -121,6 +125,7 @@ impl<H: Holder> Exchange<H> {
     fn note_service(&mut self) -> bool
         requires { is_moving self.old.course.phase ≡ true }
         ensures goes { Goes self.old.course self.new.course }
+        ensures freed { (usable : AnyOption AnyBool) × H.frees self.old.holdings self.new.holdings usable }
         ensures served { IsServedBy (H.reusable self.old.holdings) self.old.course.connection self.new.course.connection }
         ensures kept { (self.new.course.phase ≡ self.old.course.phase) × (self.new.course.begun ≡ self.old.course.begun) }
         ensures none { result ≡ false → self.new.course ≡ self.old.course }
@@ -141,6 +146,7 @@ impl<H: Holder> Exchange<H> {
         ensures goes { Goes self.old.course self.new.course }
         ensures phase { self.new.course.phase ≡ self.old.course.phase }
         ensures begun { self.new.course.begun ≡ (self.old.course.begun || (H.answered self.old.holdings && has_answer self.old.course.phase)) }
+        ensures freed { (usable : AnyOption AnyBool) × H.frees self.old.holdings self.new.holdings usable }
         ensures served { IsServedBy (H.reusable self.old.holdings) self.old.course.connection self.new.course.connection }
         ensures none { result ≡ false → self.new.course ≡ self.old.course }
     {
@@ -164,9 +170,12 @@ impl<H: Holder> Exchange<H> {
         ensures stops { by ≡ EndedBy.Stop → Halts self.old.course self.new.course false }
         ensures alone { H.answered self.old.holdings ≡ true → is_refusing self.new.course.phase ≡ false }
         ensures owed { H.answered self.old.holdings ≡ false → IsOwedBy by self.old.course self.new.course }
-        ensures told { IfItself by (IsEnded (H.ends self.old.holdings) (H.answered self.old.holdings) self.old.course self.new.course) }
+        ensures withdrawn { is_withdrawing self.new.course.phase ≡ true
+            → H.repeats self.old.holdings × (H.answered self.old.holdings ≡ false) × (may_come self.old.course Withdrawn ≡ true) }
+        ensures told { IfItself by (IsEnded (H.ends self.old.holdings (may_come self.old.course Withdrawn)) (λ end. H.follows self.old.holdings end self.new.holdings)
+            (H.answered self.old.holdings) self.old.course self.new.course) }
     {
-        let report = self.holdings.settle(rt, at, out, by);
+        let report = self.holdings.settle(rt, at, out, by, &self.course);
         tell(&mut self.course, report);
     }
 }

@@ -3,13 +3,14 @@
 ghost use Rattle.std.specs.Prelude.{◌≡◌};
 
 use crate::exchange::Exchange;
-use exchange_core::Event;
-use shard_effects::{Effects, Holder, Marks, Step, Unplanned};
+use exchange_core::{Dialing, Event};
+use shard_effects::{Effects, Holder, Step, Unplanned};
 use std::sync::Wait;
 use trace_core::Point;
 
 impl<H: Holder> Exchange<H> {
     ghost use Rattle.exchange_core.specs.Dues.{due_of};
+    ghost use Rattle.exchange_core.specs.May.{dialing_of};
     ghost use Rattle.exchange_core.specs.declared.due.Due.TheVariants as dues;
     ghost use Rattle.shard_exchange.specs.Outcomes.{IsDialed, IsPlanned, IsReserved};
     ghost use Rattle.shard_exchange.specs.Steps.{GoesOn};
@@ -25,9 +26,13 @@ impl<H: Holder> Exchange<H> {
     {
         let course = self.course.course();
         match self.holdings.plan(at, out, course.asked) {
-            Ok(Marks { offered, waits }) => {
-                let waits = waits && course.phase.point() == Point::Reqmod && !course.told;
-                self.course.done(Event::Planned { offered, waits });
+            Ok(marks) => {
+                let waits = marks.waits && course.phase.point() == Point::Reqmod && !course.told;
+                self.course.done(Event::Planned {
+                    offered: marks.offered,
+                    waits,
+                    repeatable: marks.repeatable,
+                });
                 Step::On
             }
             Err(Unplanned::Stale) if !course.asked => {
@@ -56,18 +61,26 @@ impl<H: Holder> Exchange<H> {
         }
     }
 
-    /// Opens the connection that a request goes to.
+    /// How the origin of the request is to be dialed.
+    fn dialing(&self) -> Dialing
+        ensures { result ≡ dialing_of self.now.course }
+    {
+        self.course.course().dialing()
+    }
+
+    /// Opens the connection that a request goes to, or takes one that was kept, where it may.
     pub(crate) fn dial<P>(&mut self, at: &P, out: &mut H::Outside) -> Step
     where
         H: Effects<P>,
         requires due { due_of self.old.course ≡ dues.Dial }
-        ensures dialed { IsDialed (H.dials self.old.holdings self.new.holdings) self.old.course self.new.course }
+        ensures dialed { IsDialed (H.dials self.old.holdings self.new.holdings out.old out.new at.now) self.old.course self.new.course }
         ensures goes { GoesOn self.old.course self.new.course }
         ensures on { result ≡ Step.On }
     {
-        match self.holdings.dial(at, out) {
-            Ok(()) => {
-                self.course.done(Event::Dialed);
+        let dialing = self.dialing();
+        match self.holdings.dial(at, out, dialing) {
+            Ok(kept) => {
+                self.course.done(Event::Dialed { kept });
                 Step::On
             }
             Err(reason) => self.refuse(at, out, reason),

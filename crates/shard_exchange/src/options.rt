@@ -14,7 +14,8 @@ impl<H: Holder> Exchange<H> {
     ghost use Rattle.exchange_core.specs.May.{may_come};
     ghost use Rattle.exchange_core.specs.declared.event.Event.TheVariants.{Renewed};
     ghost use Rattle.exchange_core.specs.declared.due.Due.TheVariants as dues;
-    ghost use Rattle.shard_exchange.specs.Outcomes.{IsAsked, IsHeard};
+    ghost use Rattle.shard_effects.specs.Leases.{Renews};
+    ghost use Rattle.shard_exchange.specs.Outcomes.{IsAsked, IsAskedAnew, IsHeard};
     ghost use Rattle.shard_exchange.specs.Steps.{Heeds, GoesOn};
 
     /// Begins to ask the service for its options.
@@ -42,15 +43,16 @@ impl<H: Holder> Exchange<H> {
         H: Effects<P>,
         requires due { due_of self.old.course ≡ dues.Hear }
         ensures heard { IsHeard (H.learns out.old out.new at.now) H.usable_after self.old.course self.new.course }
+        ensures anew { IsAskedAnew (H.asks self.new.holdings out.new) (λ held. Renews H.leases held self.new.holdings) self.old.course self.new.course }
         ensures goes { Goes self.old.course self.new.course }
         ensures heeds { Heeds (H.is_late out.new at.now) self.new.course result }
     {
         match self.holdings.hear() {
             Some(OptionsTurn::More) => Step::On,
-            Some(OptionsTurn::Nothing) => self.wait_or_refuse(at, out),
+            Some(OptionsTurn::Nothing) => self.wait_or_refuse(at, out, Reason::ServiceDeadline),
             Some(OptionsTurn::Answer(answer)) => self.has_heard(at, out, &answer),
             Some(OptionsTurn::Fault(fault)) => self.options_failed(at, out, fault),
-            None => self.refuse(at, out, Reason::Service),
+            None => self.refuse(at, out, Reason::ServiceRefused),
         }
     }
 
@@ -60,6 +62,7 @@ impl<H: Holder> Exchange<H> {
         H: Effects<P>,
         requires due { due_of self.old.course ≡ dues.Hear }
         ensures heard { IsHeard (H.learns out.old out.new at.now) H.usable_after self.old.course self.new.course }
+        ensures anew { IsAskedAnew (H.asks self.new.holdings out.new) (λ held. Renews H.leases held self.new.holdings) self.old.course self.new.course }
         ensures goes { Goes self.old.course self.new.course }
         ensures on { result ≡ Step.On }
     {
@@ -79,6 +82,7 @@ impl<H: Holder> Exchange<H> {
         H: Effects<P>,
         requires due { due_of self.old.course ≡ dues.Hear }
         ensures asked { self.new.course.asked ≡ self.old.course.asked }
+        ensures anew { IsAskedAnew (H.asks self.new.holdings out.new) (λ held. Renews H.leases held self.new.holdings) self.old.course self.new.course }
         ensures goes { Goes self.old.course self.new.course }
         ensures on { result ≡ Step.On }
     {
@@ -92,13 +96,14 @@ impl<H: Holder> Exchange<H> {
         self.refuse(at, out, options_reason(fault))
     }
 
-    /// Begins to ask anew, on a fresh connection.
+    /// Begins to ask the service of the message's point anew, on a fresh connection.
     fn ask_anew<P>(&mut self, at: &P, out: &mut H::Outside) -> Step
     where
         H: Effects<P>,
         requires due { due_of self.old.course ≡ dues.Hear }
         requires may { may_come self.old.course Renewed ≡ true }
         ensures asked { self.new.course.asked ≡ self.old.course.asked }
+        ensures anew { IsAskedAnew (H.asks self.new.holdings out.new) (λ held. Renews H.leases held self.new.holdings) self.old.course self.new.course }
         ensures goes { Goes self.old.course self.new.course }
         ensures on { result ≡ Step.On }
     {

@@ -1,23 +1,23 @@
 //! What the proxy itself says to a user: `100 Continue` (RFC 9110, section 10.1.1), and the refusal of a message that goes no further.
 
-ghost use Rattle.std.specs.Prelude.{◌≡◌, ◌⊎◌, true, false};
+ghost use Rattle.std.specs.Prelude.{◌≡◌, ◌⊎◌, if◌then◌else◌, true, false};
 ghost use Rattle.exchange_core.specs.declared.event.RefusalCause.TheVariants as causes;
-ghost use Rattle.shard_effects.specs.Reasons as reasons;
+ghost use Rattle.exchange_report.specs.Reasons as reasons;
 
 use crate::exchange::Exchange;
 use exchange_core::Event;
-use shard_effects::{Effects, Holder, Lingered, Reason, Said, Step, refusal_cause_of};
+use shard_effects::{Effects, Holder, Lingered, Reason, Said, Step};
 
 impl<H: Holder> Exchange<H> {
     ghost use Rattle.exchange_core.specs.Course.{after};
-    ghost use Rattle.exchange_core.specs.declared.event.Event.TheVariants.{Failed, HalfTold, Late, Told};
+    ghost use Rattle.exchange_core.specs.declared.event.Event.TheVariants.{Failed, HalfTold, Stuck, Late, Told, UserLost};
     ghost use Rattle.exchange_core.specs.Dues.{due_of, comes_of, fails_of, is_wait, is_for_message, is_for_user};
     ghost use Rattle.exchange_core.specs.Log.{Goes};
     ghost use Rattle.exchange_core.specs.May.{is_gone};
     ghost use Rattle.exchange_core.specs.declared.due.Due.TheVariants as dues;
     ghost use Rattle.shard_effects.specs.Hand.{Keeps};
     ghost use Rattle.shard_exchange.specs.Ends.{IsOwed};
-    ghost use Rattle.shard_exchange.specs.Outcomes.{SaysRefusal};
+    ghost use Rattle.shard_exchange.specs.Outcomes.{SaysInterim, SaysRefusal};
     ghost use Rattle.shard_exchange.specs.Steps.{Heeds, is_moved};
 
     /// Has a message that doesn't move go no further, for a reason of which what is due may fail: its user is refused, unless a part of
@@ -36,7 +36,7 @@ impl<H: Holder> Exchange<H> {
         ensures on { result ≡ Step.On }
     {
         self.holdings.note_refusal(at, out, &self.course, reason);
-        self.course.failed(refusal_cause_of(reason));
+        self.course.failed(reason.cause());
         Step::On
     }
 
@@ -44,6 +44,7 @@ impl<H: Holder> Exchange<H> {
     pub(crate) fn lose_user(&mut self) -> Step
         requires user { is_for_user (due_of self.old.course) ≡ true }
         requires still { is_moved (due_of self.old.course) ≡ false }
+        ensures course { self.new.course ≡ after self.old.course UserLost }
         ensures goes { Goes self.old.course self.new.course }
         ensures gone { is_gone self.new.course.phase ≡ true }
         ensures held { Keeps (H.hand self.old.holdings) (H.hand self.new.holdings) }
@@ -62,7 +63,7 @@ impl<H: Holder> Exchange<H> {
         requires waits { is_wait (due_of self.old.course) ≡ true }
         requires still { is_moved (due_of self.old.course) ≡ false }
         ensures goes { Goes self.old.course self.new.course }
-        ensures late { H.is_late out.now at.now ≡ true → self.new.course ≡ after self.old.course Late }
+        ensures course { self.new.course ≡ (if H.is_late out.now at.now then after self.old.course Late else self.old.course) }
         ensures leads { (self.new.course ≡ self.old.course) ⊎ (self.new.course ≡ after self.old.course Late) }
         ensures held { self.new.holdings ≡ self.old.holdings }
         ensures heeds { Heeds (H.is_late out.now at.now) self.new.course result }
@@ -75,21 +76,23 @@ impl<H: Holder> Exchange<H> {
         }
     }
 
-    /// Waits, unless the deadline has passed: then the user is refused.
-    pub(crate) fn wait_or_refuse<P>(&mut self, at: &P, out: &mut H::Outside) -> Step
+    /// Waits, unless the deadline has passed: then the user is refused, for this reason.
+    pub(crate) fn wait_or_refuse<P>(&mut self, at: &P, out: &mut H::Outside, reason: Reason) -> Step
     where
         H: Effects<P>,
         requires waits { is_wait (due_of self.old.course) ≡ true }
         requires message { is_for_message (due_of self.old.course) ≡ true }
-        requires fits { fails_of (due_of self.old.course) causes.Deadline ≡ true }
+        requires fits { fails_of (due_of self.old.course) (reasons.cause_of reason) ≡ true }
         requires still { is_moved (due_of self.old.course) ≡ false }
         ensures asked { self.new.course.asked ≡ self.old.course.asked }
+        ensures held { self.new.holdings ≡ self.old.holdings }
         ensures goes { Goes self.old.course self.new.course }
-        ensures late { H.is_late out.old at.now ≡ true → IsOwed self.old.course self.new.course 504 }
+        ensures course { self.new.course ≡ (if H.is_late out.old at.now then after self.old.course (Failed (reasons.cause_of reason)) else self.old.course) }
+        ensures late { H.is_late out.old at.now ≡ true → IsOwed self.old.course self.new.course (reasons.status_of reason) }
         ensures heeds { Heeds (H.is_late out.new at.now) self.new.course result }
     {
         if H::is_late(at, out) {
-            self.refuse(at, out, Reason::Deadline)
+            self.refuse(at, out, reason)
         } else {
             Step::Waits
         }
@@ -154,6 +157,8 @@ impl<H: Holder> Exchange<H> {
     /// The user has taken the whole text.
     fn has_told(&mut self) -> Step
         requires due { comes_of (due_of self.old.course) Told ≡ true }
+        ensures course { self.new.course ≡ after self.old.course Told }
+        ensures held { self.new.holdings ≡ self.old.holdings }
         ensures goes { Goes self.old.course self.new.course }
         ensures on { result ≡ Step.On }
     {
@@ -164,6 +169,8 @@ impl<H: Holder> Exchange<H> {
     /// The user has taken a part of the text, and not all.
     fn has_told_part(&mut self) -> Step
         requires due { comes_of (due_of self.old.course) HalfTold ≡ true }
+        ensures course { self.new.course ≡ (if self.old.course.half_told then self.old.course else after self.old.course HalfTold) }
+        ensures held { self.new.holdings ≡ self.old.holdings }
         ensures goes { Goes self.old.course self.new.course }
         ensures on { result ≡ Step.On }
     {
@@ -176,6 +183,8 @@ impl<H: Holder> Exchange<H> {
     /// Tells the user to send its body, where it takes the text at once.
     pub(crate) fn try_tell(&mut self) -> Step
         requires due { due_of self.old.course ≡ dues.TryTell }
+        ensures says { SaysInterim (H.user_past self.old.holdings) (H.user_past self.new.holdings) (H.hand self.old.holdings) (H.hand self.new.holdings)
+            (after self.old.course Stuck) self.old.course self.new.course }
         ensures goes { Goes self.old.course self.new.course }
         ensures on { result ≡ Step.On }
     {
@@ -195,13 +204,15 @@ impl<H: Holder> Exchange<H> {
     where
         H: Effects<P>,
         requires due { due_of self.old.course ≡ dues.Tell }
+        ensures says { SaysInterim (H.user_past self.old.holdings) (H.user_past self.new.holdings) (H.hand self.old.holdings) (H.hand self.new.holdings)
+            (if H.is_late out.old at.now then after self.old.course (Failed causes.Deadline) else self.old.course) self.old.course self.new.course }
         ensures goes { Goes self.old.course self.new.course }
         ensures heeds { Heeds (H.is_late out.new at.now) self.new.course result }
     {
         match self.holdings.tell(&self.course) {
             Said::Whole => self.has_told(),
             Said::Part(_) => self.has_told_part(),
-            Said::Nothing => self.wait_or_refuse(at, out),
+            Said::Nothing => self.wait_or_refuse(at, out, Reason::UserDeadline),
             Said::Broken => self.lose_user(),
         }
     }

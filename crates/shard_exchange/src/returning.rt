@@ -12,6 +12,7 @@ impl<H: Holder> Exchange<H> {
     ghost use Rattle.exchange_core.specs.Course.{after};
     ghost use Rattle.exchange_core.specs.Dues.{due_of};
     ghost use Rattle.exchange_core.specs.declared.due.Due.TheVariants as dues;
+    ghost use Rattle.shard_exchange.specs.Outcomes.{IsGivenBack, IsHungUp};
     ghost use Rattle.shard_exchange.specs.Steps.{GoesOn};
 
     /// Puts the service's connection back where it may serve again. Else it is closed, and its lease given up.
@@ -19,6 +20,8 @@ impl<H: Holder> Exchange<H> {
     where
         H: Effects<P>,
         requires due { due_of self.old.course ≡ dues.GiveBack }
+        ensures given { IsGivenBack (H.puts self.old.holdings out.old out.new at.now) (H.gives_up self.old.holdings out.old out.new at.now) (H.has_line self.old.holdings)
+            self.old.course }
         ensures course { self.new.course ≡ after self.old.course (Returned false) }
         ensures goes { GoesOn self.old.course self.new.course }
         ensures on { result ≡ Step.On }
@@ -42,15 +45,18 @@ impl<H: Holder> Exchange<H> {
         Step::On
     }
 
-    /// Closes the origin's connection.
-    pub(crate) fn hang_up(&mut self) -> Step
+    /// Keeps the origin's connection for later exchanges where it lasts. Else it is closed.
+    pub(crate) fn hang_up<P>(&mut self, at: &P, out: &mut H::Outside) -> Step
+    where
+        H: Effects<P>,
         requires due { due_of self.old.course ≡ dues.HangUp }
-        ensures course { self.new.course ≡ after self.old.course HungUp }
+        ensures hung { IsHungUp (H.lays self.old.holdings out.old out.new at.now) (H.closes self.old.holdings out.old out.new at.now) self.old.course }
+        ensures course { self.new.course ≡ after self.old.course (HungUp false) }
         ensures goes { GoesOn self.old.course self.new.course }
         ensures on { result ≡ Step.On }
     {
-        self.holdings.hang_up();
-        self.course.done(Event::HungUp);
+        let kept = self.holdings.keep_origin(at, out, &self.course);
+        self.course.done(Event::HungUp { kept });
         Step::On
     }
 }

@@ -11,8 +11,10 @@ use std::sync::Wait;
 impl<H: Holder> Exchange<H> {
     ghost use Rattle.exchange_core.specs.Dues.{due_of, is_over, is_wait};
     ghost use Rattle.exchange_core.specs.Log.{Goes};
-    ghost use Rattle.exchange_core.specs.May.{is_refusing};
-    ghost use Rattle.shard_exchange.specs.Outcomes.{Does, IsAsked, IsDialed, IsGated, IsHeard, IsLent, IsPlanned, IsTurned};
+    ghost use Rattle.exchange_core.specs.May.{may_come, is_refusing};
+    ghost use Rattle.exchange_core.specs.declared.event.Event.TheVariants.{Withdrawn};
+    ghost use Rattle.shard_effects.specs.Leases.{Renews};
+    ghost use Rattle.shard_exchange.specs.Outcomes.{Does, IsAsked, IsAskedAnew, IsAwaited, IsDialed, IsGated, IsGivenBack, IsHeard, IsHungUp, IsLent, IsPlanned, IsRead, IsRequested, IsStarted, IsTurned};
     ghost use Rattle.shard_exchange.specs.Steps.{Heeds, IsDone, GoesOn};
 
     /// Does a task, and says how far that came. An exchange that only closes isn't stopped: it goes on with that.
@@ -26,13 +28,27 @@ impl<H: Holder> Exchange<H> {
         ensures waits { task ≡ Task.Step → result ≡ Step.Waits → is_wait (due_of self.new.course) ≡ true }
         ensures over { result ≡ Step.Over → is_over self.new.course ≡ true }
         ensures lost { task ≡ Task.Lose → is_over self.new.course ≡ true }
-        ensures does { task ≡ Task.Step → Does (IsPlanned (H.plans self.old.holdings self.new.holdings out.old at.now) self.old.course self.new.course)
-            (IsLent (H.leases self.new.holdings) self.old.course self.new.course) (IsAsked (H.asks self.new.holdings out.new) self.old.course self.new.course)
-            (IsHeard (H.learns out.old out.new at.now) H.usable_after self.old.course self.new.course)
-            (IsDialed (H.dials self.old.holdings self.new.holdings) self.old.course self.new.course)
-            (IsGated (H.ends self.old.holdings) (H.answered self.old.holdings) self.old.course self.new.course)
-            (IsTurned H.rounds H.answered H.reusable H.ends (λ out. H.is_late out at.now) self.old.holdings self.old.course self.new.course)
-            (H.user_past self.old.holdings) (H.user_past self.new.holdings) (H.hand self.old.holdings) (H.hand self.new.holdings) self.old.course self.new.course (due_of self.old.course) }
+        ensures does { task ≡ Task.Step → Does (IsRequested H.reads H.has_begun (H.is_late out.old at.now) self.old.holdings self.old.course self.new.course)
+            (IsPlanned (H.plans self.old.holdings self.new.holdings out.old at.now) self.old.course self.new.course)
+            (IsLent (H.leases self.new.holdings) (λ out. H.fails out at.now) (λ out. H.joins out at.now) self.old.course self.new.course)
+            (IsAwaited (H.leases self.new.holdings) (λ out. H.fails out at.now) (λ out. H.has_waited out at.now) (λ out. H.is_late out at.now)
+            self.old.course self.new.course)
+            (IsAsked (H.asks self.new.holdings out.new) self.old.course self.new.course)
+            (IsHeard (H.learns out.old out.new at.now) H.usable_after self.old.course self.new.course
+            × IsAskedAnew (H.asks self.new.holdings out.new) (λ held. Renews H.leases held self.new.holdings) self.old.course self.new.course)
+            (IsDialed (H.dials self.old.holdings self.new.holdings out.old out.new at.now) self.old.course self.new.course)
+            (IsStarted (H.starts self.old.holdings self.new.holdings out.old at.now self.old.course) self.new.course)
+            (IsGated (H.ends self.old.holdings (may_come self.old.course Withdrawn)) (λ end. H.follows self.old.holdings end self.new.holdings)
+            (H.answered self.old.holdings) self.old.course self.new.course)
+            (IsTurned (λ held turned later round. H.rounds held turned out.old later at.now round) (λ turned usable. H.frees turned self.new.holdings usable)
+            H.answered H.reusable H.ends (λ turned end. H.follows turned end self.new.holdings) H.repeats (λ out. H.is_late out at.now)
+            self.old.holdings self.old.course self.new.course)
+            (IsRead H.hears H.repeats H.withdraws (H.is_late out.old at.now) self.old.holdings self.old.course self.new.course)
+            (IsGivenBack (H.puts self.old.holdings out.old out.new at.now) (H.gives_up self.old.holdings out.old out.new at.now) (H.has_line self.old.holdings)
+            self.old.course)
+            (IsHungUp (H.lays self.old.holdings out.old out.new at.now) (H.closes self.old.holdings out.old out.new at.now) self.old.course)
+            (H.user_past self.old.holdings) (H.user_past self.new.holdings) (H.hand self.old.holdings) (H.hand self.new.holdings) (H.is_late out.old at.now)
+            self.old.course self.new.course (due_of self.old.course) }
         ensures stops { task ≡ Task.Halt → is_closing self.old.course.phase ≡ false → Halts self.old.course self.new.course (H.has_begun self.old.holdings) }
         ensures alone { task ≡ Task.Halt → moves self.old.course ≡ true → H.answered self.old.holdings ≡ true → is_refusing self.new.course.phase ≡ false }
     {
@@ -58,13 +74,27 @@ impl<H: Holder> Exchange<H> {
         ensures late { result ≡ Step.Waits → H.is_late out.new at.now ≡ false }
         ensures waits { result ≡ Step.Waits → is_wait (due_of self.new.course) ≡ true }
         ensures over { result ≡ Step.Over ↔ is_over self.new.course ≡ true }
-        ensures does { Does (IsPlanned (H.plans self.old.holdings self.new.holdings out.old at.now) self.old.course self.new.course)
-            (IsLent (H.leases self.new.holdings) self.old.course self.new.course) (IsAsked (H.asks self.new.holdings out.new) self.old.course self.new.course)
-            (IsHeard (H.learns out.old out.new at.now) H.usable_after self.old.course self.new.course)
-            (IsDialed (H.dials self.old.holdings self.new.holdings) self.old.course self.new.course)
-            (IsGated (H.ends self.old.holdings) (H.answered self.old.holdings) self.old.course self.new.course)
-            (IsTurned H.rounds H.answered H.reusable H.ends (λ out. H.is_late out at.now) self.old.holdings self.old.course self.new.course)
-            (H.user_past self.old.holdings) (H.user_past self.new.holdings) (H.hand self.old.holdings) (H.hand self.new.holdings) self.old.course self.new.course (due_of self.old.course) }
+        ensures does { Does (IsRequested H.reads H.has_begun (H.is_late out.old at.now) self.old.holdings self.old.course self.new.course)
+            (IsPlanned (H.plans self.old.holdings self.new.holdings out.old at.now) self.old.course self.new.course)
+            (IsLent (H.leases self.new.holdings) (λ out. H.fails out at.now) (λ out. H.joins out at.now) self.old.course self.new.course)
+            (IsAwaited (H.leases self.new.holdings) (λ out. H.fails out at.now) (λ out. H.has_waited out at.now) (λ out. H.is_late out at.now)
+            self.old.course self.new.course)
+            (IsAsked (H.asks self.new.holdings out.new) self.old.course self.new.course)
+            (IsHeard (H.learns out.old out.new at.now) H.usable_after self.old.course self.new.course
+            × IsAskedAnew (H.asks self.new.holdings out.new) (λ held. Renews H.leases held self.new.holdings) self.old.course self.new.course)
+            (IsDialed (H.dials self.old.holdings self.new.holdings out.old out.new at.now) self.old.course self.new.course)
+            (IsStarted (H.starts self.old.holdings self.new.holdings out.old at.now self.old.course) self.new.course)
+            (IsGated (H.ends self.old.holdings (may_come self.old.course Withdrawn)) (λ end. H.follows self.old.holdings end self.new.holdings)
+            (H.answered self.old.holdings) self.old.course self.new.course)
+            (IsTurned (λ held turned later round. H.rounds held turned out.old later at.now round) (λ turned usable. H.frees turned self.new.holdings usable)
+            H.answered H.reusable H.ends (λ turned end. H.follows turned end self.new.holdings) H.repeats (λ out. H.is_late out at.now)
+            self.old.holdings self.old.course self.new.course)
+            (IsRead H.hears H.repeats H.withdraws (H.is_late out.old at.now) self.old.holdings self.old.course self.new.course)
+            (IsGivenBack (H.puts self.old.holdings out.old out.new at.now) (H.gives_up self.old.holdings out.old out.new at.now) (H.has_line self.old.holdings)
+            self.old.course)
+            (IsHungUp (H.lays self.old.holdings out.old out.new at.now) (H.closes self.old.holdings out.old out.new at.now) self.old.course)
+            (H.user_past self.old.holdings) (H.user_past self.new.holdings) (H.hand self.old.holdings) (H.hand self.new.holdings) (H.is_late out.old at.now)
+            self.old.course self.new.course (due_of self.old.course) }
     {
         let step = self.do_due(rt, at, out);
         if self.course.course().is_over() {
@@ -80,13 +110,27 @@ impl<H: Holder> Exchange<H> {
         H: Effects<P>,
         ensures goes { GoesOn self.old.course self.new.course }
         ensures heeds { Heeds (H.is_late out.new at.now) self.new.course result }
-        ensures does { Does (IsPlanned (H.plans self.old.holdings self.new.holdings out.old at.now) self.old.course self.new.course)
-            (IsLent (H.leases self.new.holdings) self.old.course self.new.course) (IsAsked (H.asks self.new.holdings out.new) self.old.course self.new.course)
-            (IsHeard (H.learns out.old out.new at.now) H.usable_after self.old.course self.new.course)
-            (IsDialed (H.dials self.old.holdings self.new.holdings) self.old.course self.new.course)
-            (IsGated (H.ends self.old.holdings) (H.answered self.old.holdings) self.old.course self.new.course)
-            (IsTurned H.rounds H.answered H.reusable H.ends (λ out. H.is_late out at.now) self.old.holdings self.old.course self.new.course)
-            (H.user_past self.old.holdings) (H.user_past self.new.holdings) (H.hand self.old.holdings) (H.hand self.new.holdings) self.old.course self.new.course (due_of self.old.course) }
+        ensures does { Does (IsRequested H.reads H.has_begun (H.is_late out.old at.now) self.old.holdings self.old.course self.new.course)
+            (IsPlanned (H.plans self.old.holdings self.new.holdings out.old at.now) self.old.course self.new.course)
+            (IsLent (H.leases self.new.holdings) (λ out. H.fails out at.now) (λ out. H.joins out at.now) self.old.course self.new.course)
+            (IsAwaited (H.leases self.new.holdings) (λ out. H.fails out at.now) (λ out. H.has_waited out at.now) (λ out. H.is_late out at.now)
+            self.old.course self.new.course)
+            (IsAsked (H.asks self.new.holdings out.new) self.old.course self.new.course)
+            (IsHeard (H.learns out.old out.new at.now) H.usable_after self.old.course self.new.course
+            × IsAskedAnew (H.asks self.new.holdings out.new) (λ held. Renews H.leases held self.new.holdings) self.old.course self.new.course)
+            (IsDialed (H.dials self.old.holdings self.new.holdings out.old out.new at.now) self.old.course self.new.course)
+            (IsStarted (H.starts self.old.holdings self.new.holdings out.old at.now self.old.course) self.new.course)
+            (IsGated (H.ends self.old.holdings (may_come self.old.course Withdrawn)) (λ end. H.follows self.old.holdings end self.new.holdings)
+            (H.answered self.old.holdings) self.old.course self.new.course)
+            (IsTurned (λ held turned later round. H.rounds held turned out.old later at.now round) (λ turned usable. H.frees turned self.new.holdings usable)
+            H.answered H.reusable H.ends (λ turned end. H.follows turned end self.new.holdings) H.repeats (λ out. H.is_late out at.now)
+            self.old.holdings self.old.course self.new.course)
+            (IsRead H.hears H.repeats H.withdraws (H.is_late out.old at.now) self.old.holdings self.old.course self.new.course)
+            (IsGivenBack (H.puts self.old.holdings out.old out.new at.now) (H.gives_up self.old.holdings out.old out.new at.now) (H.has_line self.old.holdings)
+            self.old.course)
+            (IsHungUp (H.lays self.old.holdings out.old out.new at.now) (H.closes self.old.holdings out.old out.new at.now) self.old.course)
+            (H.user_past self.old.holdings) (H.user_past self.new.holdings) (H.hand self.old.holdings) (H.hand self.new.holdings) (H.is_late out.old at.now)
+            self.old.course self.new.course (due_of self.old.course) }
     {
         match self.course.due() {
             Due::ReadRequest => self.read_request(at, out),
@@ -105,7 +149,7 @@ impl<H: Holder> Exchange<H> {
             Due::ReadResponse => self.read_response(at, out),
             Due::GiveBack => self.give_back(at, out),
             Due::Release => self.release(rt, at, out),
-            Due::HangUp => self.hang_up(),
+            Due::HangUp => self.hang_up(at, out),
             Due::Refuse(status) => self.write_refusal(at, out, status),
             Due::TryRefusal(status) => {
                 let _ = self.try_refusal(rt, at, out, status);

@@ -29,9 +29,9 @@ impl<H: Holder> Exchange<H> {
         ensures goes { Goes self.old.course self.new.course }
         ensures frees { Frees self.old.course self.new.course }
     {
-        if self.course.may(Event::HungUp) {
+        if self.course.may(Event::HungUp { kept: false }) {
             self.holdings.hang_up();
-            self.course.take(Event::HungUp);
+            self.course.take(Event::HungUp { kept: false });
         }
     }
 
@@ -93,6 +93,7 @@ impl<H: Holder> Exchange<H> {
         ensures stops { Halts self.old.course self.new.course (H.has_begun self.old.holdings) }
         ensures alone { moves self.old.course ≡ true → H.answered self.old.holdings ≡ true → is_refusing self.new.course.phase ≡ false }
     {
+        // For the proof alone: this course is one that can be reached.
         let _ = self.course.course();
         if !self.course.may(Event::Stop) {
             return;
@@ -169,6 +170,7 @@ impl<H: Holder> Exchange<H> {
         ensures on { result ≡ Some Step.Over → ⊥ }
         ensures gone { result ≡ None → is_gone self.new.course.phase ≡ true }
     {
+        // For the proof alone: this course is one that can be reached.
         let _ = self.course.course();
         let Due::TryRefusal(status) = self.course.due() else {
             return None;

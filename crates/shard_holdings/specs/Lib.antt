@@ -1,1 +1,4 @@
+pub mod Freed
 pub mod Message
+pub mod Settled
+pub mod Started

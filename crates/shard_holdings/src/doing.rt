@@ -1,27 +1,39 @@
 //! What is done with the surroundings.
 
-ghost use Rattle.std.specs.Prelude.{◌≡◌, is_some, true, false, IfSome};
+ghost use Rattle.std.specs.Prelude.{◌≡◌, ◌⊎◌, ℕ, Option, is_some, true, false, IfSome, IsSomeAnd};
+ghost use Rattle.exchange_core.specs.Course.{is_offered};
+ghost use Rattle.exchange_core.specs.declared.dialing.Dialing.TheVariants.{KeptFirst};
+ghost use Rattle.shard_message.specs.Begun.{IsMannerOf};
 ghost use Rattle.shard_message.specs.Dialed.{LeadsAsPlanned};
+ghost use Rattle.shard_message.specs.Ended.{HasGiven};
+ghost use Rattle.shard_message.specs.Lines.{line_in};
+ghost use Rattle.shard_message.specs.Outset.{IsLineAfter, Outset, SetsOut};
+ghost use Rattle.shard_holdings.specs.Settled.{LaysOrNot};
+ghost use Rattle.shard_holdings.specs.Started.{Starts};
 ghost use Rattle.shard_outside.specs.Learning.{IsAsking, IsLearned};
 ghost use Rattle.shard_outside.specs.Planning.{PlansBy};
+ghost use Rattle.shard_outside.specs.Taking.{taken_if};
 
 use crate::holdings::Holdings;
 use adapt_sides::ClientFault;
-use exchange_core::{Course, Exchange};
+use exchange_core::{Course, Dialing, Exchange};
 use icap_head::IcapResponse;
 use service_lines::LendFault;
-use shard_effects::{Effects, EndedBy, Lingered, Marks, Reason, Report, Round, Started, Unplanned};
+use shard_effects::{
+    Effects, End, EndedBy, Lingered, Marks, Reason, Report, Round, Started, Unplanned, Withdrawal,
+};
 use shard_message::{
-    Connection, Moving, Settled, begin_anew, dial_for, is_fresh, make_room, pace_of,
-    take_connections,
+    Accounted, Connection, Moves, Moving, Settled, begin_anew, dial_for, has_given_none, is_fresh,
+    make_room, manner_of, request_again, take_connections,
 };
 use shard_outside::{
-    Outside, Reusable, begin_asking, clear, finish_user, is_reusable, keep, keep_plan, lay,
-    leave_queue, linger_on, note_refused, note_stopped, put_in, take_out,
+    Dialed, LastingOrigin, Outside, Reusable, begin_asking, clear, finish_user, is_reusable, keep,
+    keep_plan, lay, leave_queue, linger_on, note_refused, note_stopped, put_in, take_out,
 };
 use span_bank::Pages;
 use std::sync::Wait;
 use trace_core::Point;
+use wire_kit::Wire;
 
 /// Keeps a leased connection beside its lease: whether it was idle before.
 fn take_in<P, O: Outside<P>>(
@@ -32,6 +44,7 @@ fn take_in<P, O: Outside<P>>(
     requires { is_some slot.old ≡ false }
     ensures kept { is_some slot.new ≡ true }
     ensures leased { IfSome slot.new (λ leased. leased.lease ≡ lease) }
+    ensures reused { result ≡ O.is_reused lease }
 {
     let reused = O::is_reused(&lease);
     let wire = Some(wire);
@@ -42,18 +55,45 @@ fn take_in<P, O: Outside<P>>(
 impl<P, O: Outside<P>> Effects<P> for Holdings<O> {
     ghost is_late = { λ out at. O.is_late out at };
 
+    ghost has_waited = { λ out at waited. O.has_waited out at waited };
+
+    ghost fails = { λ out at fault. O.fails out at fault };
+
+    ghost joins = { λ out at point joined. O.joins out at point joined };
+
     ghost plans = { λ old new out at asked result. IfSome old.message (λ message.
         PlansBy (O.config_is out) (O.limits_are out) (O.book_is out) (O.now_is out at) asked message.value old.planned new.planned result) };
 
     ghost learns = { λ old new at point answer. IsLearned (O.config_is old) (O.now_is old at) (O.keeps old new at point) point answer };
 
-    ghost leases = { λ held point. IfSome held.connection (λ leased. O.point_of leased.lease ≡ point) };
+    ghost leases = { λ held point reused. IfSome held.connection (λ leased. (O.point_of leased.lease ≡ point) × (O.is_reused leased.lease ≡ reused)) };
 
-    ghost asks = { λ held out point. IfSome held.asking (λ side. IsAsking (O.config_is out) point side.value.waiting) };
+    ghost asks = { λ held out point. IsSomeAnd held.asking (λ side. IsAsking (O.config_is out) point side.value.waiting) };
 
-    ghost dials = { λ old new. IfSome new.origin (λ origin. LeadsAsPlanned (λ room. room.planned) (O.leads origin) old.room) };
+    ghost dials = { λ old new out dialed at dialing kept. IfSome new.origin (λ origin. LeadsAsPlanned (λ room. room.planned) (O.leads origin) old.room
+        × (dialing ≡ KeptFirst → LeadsAsPlanned (λ room. room.planned) (λ address. (later : O) × O.takes out later at address (taken_if kept origin)) old.room)
+        × (kept ≡ true → O.has_kept out origin) × HasGiven O.Origin.past origin new.before.0) };
+
+    ghost starts = { λ old new out at course. Starts (λ room. room.planned) (λ leased. leased.wire) (IsMannerOf (O.now_is out at) (O.config_is out) course)
+        (λ b user service origin tx. ⟦<Moving<O> as Moves<O>>⟧.begins b user service origin tx × ((s : Outset O.User O.Service O.Origin)
+        → SetsOut O.User.Wire O.Origin.Wire b user service origin s → ⟦<Moving<O> as Accounted<O>>⟧.since s tx))
+        old.message old.room old.user old.connection old.origin (is_offered course.phase) new.tx };
+
+    ghost rounds = { λ old new out later at round. (new.user ≡ old.user) × (new.message ≡ old.message) × (new.planned ≡ old.planned) × (new.asking ≡ old.asking)
+        × (new.room ≡ old.room) × (new.origin ≡ old.origin) × (new.before ≡ old.before) × IfSome old.tx (λ tx. IfSome new.tx (λ next.
+        ((now : ℕ) × O.now_is out at now × ⟦<Moving<O> as Accounted<O>>⟧.rounds (O.is_opened later at) now tx next round)
+        × ((s : Outset O.User O.Service O.Origin) → ⟦<Moving<O> as Accounted<O>>⟧.since s tx
+        → (line : Option O.Service) × (given : Option O.Service) × IsLineAfter (O.is_opened later at) round s.line s.given line given
+        × ⟦<Moving<O> as Accounted<O>>⟧.since (record s { line = line; given = given }) next))) };
+
+    ghost lays = { λ held old new at kept. IfSome held.origin (λ origin. LaysOrNot (O.lays old new at origin) (O.turns_down old new at origin) kept) };
+
+    // the surroundings know nothing of it
+    ghost closes = { λ held old new at. new ≡ old };
 
     ghost puts = { λ held old new at. IfSome held.connection (λ leased. IfSome leased.wire (λ wire. O.puts old new at wire leased.lease)) };
+
+    ghost has_line = { λ held. is_some (line_in (λ leased. leased.wire) held.connection) };
 
     ghost gives_up = { λ held old new at. IfSome held.connection (λ leased. O.gives_up old new at leased.lease) };
 
@@ -146,11 +186,12 @@ impl<P, O: Outside<P>> Effects<P> for Holdings<O> {
         }
     }
 
-    fn dial(&mut self, at: &P, out: &mut O) -> Result<(), Reason> {
-        match dial_for(at, out, &self.room) {
-            Ok(origin) => {
-                lay(&mut self.origin, origin);
-                Ok(())
+    fn dial(&mut self, at: &P, out: &mut O, dialing: Dialing) -> Result<bool, Reason> {
+        match dial_for(at, out, &self.room, dialing) {
+            Ok(Dialed { wire, is_kept }) => {
+                self.before = wire.counts();
+                lay(&mut self.origin, wire);
+                Ok(is_kept)
             }
             Err(reason) => Err(reason),
         }
@@ -169,8 +210,8 @@ impl<P, O: Outside<P>> Effects<P> for Holdings<O> {
             return Started::NoUser;
         };
         let room = take_out(&mut self.room);
-        let pace = pace_of(at, out, course);
-        match Moving::begin(rt, out, message, room, connections, pace, course.draining) {
+        let manner = manner_of(at, out, course);
+        match Moving::begin(rt, out, message, room, connections, manner) {
             Ok(tx) => {
                 put_in(&mut self.tx, tx);
                 Started::Moves
@@ -189,16 +230,47 @@ impl<P, O: Outside<P>> Effects<P> for Holdings<O> {
         }
     }
 
-    fn settle<R: Wait>(&mut self, rt: &R, at: &P, out: &mut O, by: EndedBy) -> Report {
+    fn settle<R: Wait>(
+        &mut self,
+        rt: &R,
+        at: &P,
+        out: &mut O,
+        by: EndedBy,
+        course: &Exchange,
+    ) -> Report {
         let tx = take_out(&mut self.tx);
         let Settled {
             remains,
             message,
             report,
-        } = tx.settle(rt, at, out, by);
+        } = tx.settle(rt, at, out, by, self.before, course);
         self.take_back(remains);
         self.message = message;
+        if report.end == (End::Withdrawn { has_memory: true }) {
+            out.note_anew(at);
+        }
         report
+    }
+
+    fn withdraw(&mut self, at: &P, out: &mut O, _course: &Exchange) -> Withdrawal {
+        if self.tx.is_some() || !has_given_none(&self.origin, self.before.0) {
+            return Withdrawal::Heard;
+        }
+        if !request_again(out.alloc(), &mut self.message) {
+            return Withdrawal::NoMemory;
+        }
+        out.note_anew(at);
+        Withdrawal::Again
+    }
+
+    fn keep_origin(&mut self, at: &P, out: &mut O, course: &Exchange) -> bool {
+        let origin = take_out(&mut self.origin);
+        if course.course().may_keep_origin() {
+            out.keep_origin(at, LastingOrigin::new(origin, course))
+        } else {
+            drop(origin);
+            false
+        }
     }
 
     fn give_back(&mut self, at: &P, out: &mut O, course: &Exchange) -> bool {

@@ -1,10 +1,15 @@
 //! What is done over what is held alone.
 
-ghost use Rattle.std.specs.Prelude.{◌≡◌, is_some, false, None, Some, ⊤};
+ghost use Rattle.std.specs.Prelude.{◌≡◌, ◌++◌, ℕ, List, is_some, true, false, None, Some, IfSome, ⊤};
+ghost use Rattle.proxy_rules.specs.Arrivals.{Came};
+ghost use Rattle.shard_message.specs.Ended.{HasGiven, HasGivenSince, IsBarred};
+ghost use Rattle.shard_message.specs.Outset.{BeginsClean, Outset};
 ghost use Rattle.shard_effects.specs.Hand.{hand_of};
 ghost use Rattle.shard_effects.specs.Saying.{past_of};
 ghost use Rattle.shard_outside.specs.Usable.{usable_by};
+ghost use Rattle.shard_holdings.specs.Freed.{IsFreed};
 ghost use Rattle.shard_holdings.specs.Message.{has_come};
+ghost use Rattle.shard_holdings.specs.Settled.{WithdrawsAs};
 
 use crate::holdings::Holdings;
 use adapt_turn::FreedConnection;
@@ -12,7 +17,7 @@ use exchange_core::Exchange;
 use http_side::{HttpFault, own_refusal};
 use proxy_rules::interim_continue;
 use shard_effects::{HeadTurn, Holder, InHand, OptionsTurn, Said};
-use shard_message::{Moving, OnItsWay, hear_on, lay_wire};
+use shard_message::{Accounted, Moving, OnItsWay, hear_on, lay_wire};
 use shard_outside::{Kinds, clear, fault_of, say_to, turn_on};
 
 impl<O: Kinds> InHand for Holdings<O> {
@@ -36,12 +41,37 @@ impl<O: Kinds> Holder for Holdings<O> {
 
     ghost usable_after = { λ held answer. usable_by (λ side. side.value.raw) held.asking answer };
 
-    ghost rounds = { λ old new. (new.user ≡ old.user) × (new.message ≡ old.message) × (new.planned ≡ old.planned) × (new.asking ≡ old.asking) × (new.room ≡ old.room) × (new.origin ≡ old.origin) };
-
-    ghost ends = { λ held end. elim held.tx [
-      | None ↦ ⊤
-      | Some tx ↦ ⟦<Moving<O> as OnItsWay>⟧.ends tx end
+    ghost ends = { λ held may_withdraw end. elim held.tx [
+      | None ↦ ⊥
+      | Some tx ↦ ⟦<Moving<O> as OnItsWay>⟧.ends tx (IsBarred (⟦<Moving<O> as OnItsWay>⟧.answered tx)
+          (HasGivenSince O.Origin.past (⟦<Moving<O> as Accounted<O>>⟧.origin tx) held.before.0) may_withdraw) end
     ] };
+
+    ghost follows = { λ held end later. elim held.tx [
+      | None ↦ ⊥
+      | Some tx ↦ ⟦<Moving<O> as OnItsWay>⟧.followed_by tx end later.message
+          × ((s : Outset O.User O.Service O.Origin) → ⟦<Moving<O> as Accounted<O>>⟧.since s tx → BeginsClean O.Origin.Wire end s.origin later.origin later.message)
+    ] };
+
+    ghost frees = { λ held later usable. elim held.tx [
+      | None ↦ ⊥
+      | Some tx ↦ IsFreed (⟦<Moving<O> as Accounted<O>>⟧.service tx) (λ leased. leased.wire) later.connection usable
+    ] };
+
+    ghost repeats = { λ held. elim held.tx [
+      | None ↦ IfSome held.origin (λ origin. HasGiven O.Origin.past origin held.before.0)
+      | Some tx ↦ HasGiven O.Origin.past (⟦<Moving<O> as Accounted<O>>⟧.origin tx) held.before.0
+    ] };
+
+    ghost withdraws = { λ held came. WithdrawsAs (is_some held.message) (IfSome held.origin (λ origin. HasGivenSince O.Origin.past origin held.before.0)) came };
+
+    ghost reads = { λ old new turn. (new.origin ≡ old.origin) × (new.connection ≡ old.connection) × (new.before ≡ old.before) × IfSome old.message (λ m. IfSome old.user (λ w.
+        (first : O.User) (ahead since beside : List ℕ) → Came O.User.Wire first ahead since beside m.value.side w
+        → IfSome new.message (λ n. IfSome new.user (λ v. (more : List ℕ) × Came O.User.Wire first ahead (since ++ more) beside n.value.side v)))) };
+
+    ghost hears = { λ old new turn. (new.user ≡ old.user) × (new.connection ≡ old.connection) × (new.before ≡ old.before) × IfSome old.message (λ m. IfSome old.origin (λ w.
+        (first : O.Origin) (ahead since beside : List ℕ) → Came O.Origin.Wire first ahead since beside m.value.side w
+        → IfSome new.message (λ n. IfSome new.origin (λ v. (more : List ℕ) × Came O.Origin.Wire first ahead (since ++ more) beside n.value.side v)))) };
 
     ghost cut_is = { λ held answered cut. elim held.tx [
       | None ↦ ⊤

@@ -1,6 +1,6 @@
 //! What an exchange holds.
 
-ghost use Rattle.std.specs.Prelude.{◌≡◌, ◌&&◌, is_some, None, true, false};
+ghost use Rattle.std.specs.Prelude.{◌≡◌, ◌&&◌, ◌||◌, is_some, option_map, None, Some, true, false};
 ghost use Rattle.std.specs.Option.{ForSome};
 ghost use Rattle.shard_effects.specs.Hand.{IsEmpty};
 
@@ -36,6 +36,8 @@ pub struct Holdings<O: Kinds> {
     pub(crate) room: Option<Room<O::Ledgers>>,
     /// The connection to the origin, where no transaction has it.
     pub(crate) origin: Option<O::Origin>,
+    /// How many bytes it had given, and taken, when it was dialed.
+    pub(crate) before: (u64, u64),
     /// The transaction of the message.
     pub(crate) tx: Option<Moving<O>>,
     // a transaction has the reservation and the origin's connection
@@ -69,6 +71,7 @@ impl<O: Kinds> Holdings<O> {
             connection: None,
             room: None,
             origin: None,
+            before: (0, 0),
             tx: None,
         }
     }
@@ -97,6 +100,7 @@ impl<O: Kinds> Holdings<O> {
             connection,
             room,
             origin: _,
+            before: _,
             tx,
         } = self;
         match (connection, room, tx) {
@@ -109,8 +113,9 @@ impl<O: Kinds> Holdings<O> {
     pub(crate) fn take_back(&mut self, remains: Remains<O>)
         requires { (is_some self.old.room ≡ false) × (is_some self.old.tx ≡ false) }
         ensures leased { is_some self.new.connection ≡ is_some self.old.connection }
-        ensures back { (is_some self.new.room ≡ true) × (is_some self.new.origin ≡ true) × (self.new.tx ≡ None) }
+        ensures back { (is_some self.new.room ≡ true) × (self.new.origin ≡ Some remains.connections.origin) × (self.new.tx ≡ None) }
         ensures said { (self.new.told ≡ self.old.told) × (self.new.refused ≡ self.old.refused) }
+        ensures message { self.new.message ≡ self.old.message }
     {
         let Remains { room, connections } = remains;
         put_in(&mut self.room, room);
@@ -138,13 +143,17 @@ impl<O: Kinds> Holdings<O> {
             connection,
             room,
             origin: _,
+            before: _,
             tx,
         } = self;
         (connection, room, tx)
     }
 
     /// What is still out. All connections are closed, and a transaction ends.
-    pub fn into_held<R: Wait>(self, rt: &R, bank: &Bank<O::Ledgers>) -> Held<O> {
+    pub fn into_held<R: Wait>(self, rt: &R, bank: &Bank<O::Ledgers>) -> Held<O>
+        ensures lease { result.lease ≡ option_map (λ leased. leased.lease) self.connection }
+        ensures stake { is_some result.stake ≡ (is_some self.room || is_some self.tx) }
+    {
         let (connection, room, tx) = self.into_parts();
         let lease = match connection {
             Some(Connection { wire: _, lease }) => Some(lease),

@@ -5,7 +5,7 @@ use proxy_config::{Config, ServicePoint};
 use service_lines::Queues;
 use service_pool::Pool;
 use shard_desk::Spare;
-use shard_report::{Log, Tally};
+use shard_report::{Log, LoopTally};
 use std::alloc::{AllocError, Global};
 use std::fs::File;
 use std::sync::Arc;
@@ -61,7 +61,7 @@ pub trait Common {
     fn inboxes_mut(&mut self) -> &mut Vec<Inbox>;
 
     /// What each thread counts that takes users.
-    fn tallies(&self) -> &[Tally];
+    fn tallies(&self) -> &[LoopTally];
 
     /// The lines of the log that wait to be written, and their file.
     fn log(&self) -> &Log;
@@ -77,7 +77,7 @@ pub trait Common {
 #[derive(Drop)]
 pub struct Board {
     inboxes: Vec<Inbox>,
-    tallies: Vec<Tally>,
+    tallies: Vec<LoopTally>,
     log: Log,
     queues: Queues,
     room: Arc<Room>,
@@ -92,7 +92,7 @@ impl Common for Board {
         &mut self.inboxes
     }
 
-    fn tallies(&self) -> &[Tally] {
+    fn tallies(&self) -> &[LoopTally] {
         self.tallies.as_slice()
     }
 
@@ -114,7 +114,7 @@ pub fn board_of(alloc: Global, config: &Config, file: Option<File>) -> Result<Bo
     let count = config.shards;
     let mut tallies = Vec::new(alloc);
     for _ in 0..count {
-        let tally = Tally::new(alloc)?;
+        let tally = LoopTally::new(alloc)?;
         if tallies.push(tally).is_err() {
             return Err(AllocError);
         }

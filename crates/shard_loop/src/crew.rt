@@ -2,20 +2,21 @@
 
 ghost use Rattle.std.specs.Prelude.{◌≡◌};
 
+use crate::admission::admission_of;
 use crate::board::{BothPools, Common, PoolPair, board_of};
 use crate::exchanges::DeskExchanges;
 use crate::left::Left;
 use crate::office::Office;
 use event_loop::{
-    AdminPorts, Base, Ended, Entrance, Inbox, LoopFault, Work, add_loop, name_thread, run_loop,
-    stop_all,
+    AdminPorts, Admission, Base, Ended, Entrance, Inbox, LoopFault, Room, Work, add_loop,
+    name_thread, run_loop, stop_all,
 };
 use mio::net::TcpListener;
 use proxy_config::{Config, MAX_SHARDS};
 use service_lines::Waiting;
 use service_pool::Pool;
-use shard_desk::{Loops, Pools, Shared, Shares, Spare};
-use shard_report::{Append, ServeFault};
+use shard_desk::{Loops, Shared, SharedPools, Shares, Spare};
+use shard_report::{Append, ProxyFault};
 use shard_work::{Exchanges, Shard};
 use socket_wire::Dial;
 use span_bank::{Bank, Ledgers};
@@ -29,6 +30,24 @@ use std::thread::{self, Threads};
 use std::time::Clock;
 use wire_kit::Gate;
 
+/// Where users connect, for whom there is this room: as many loops take them as are configured.
+fn entrance_of(
+    config: &Config,
+    listener: TcpListener,
+    room: Arc<Room>,
+    admission: Admission,
+) -> Entrance
+    ensures loops { result.loops ≡ config.now.shards }
+    ensures given { (result.listener ≡ listener) × (result.room ≡ room) × (result.admission ≡ admission) }
+{
+    Entrance {
+        listener,
+        room,
+        loops: config.shards as usize,
+        admission,
+    }
+}
+
 /// Makes a base for one more loop, after the others.
 fn add_base<R: Net>(
     rt: &R,
@@ -37,13 +56,13 @@ fn add_base<R: Net>(
     admin: Option<AdminPorts>,
     inboxes: &mut Vec<Inbox>,
     bases: &mut Vec<Option<Base>>,
-) -> Result<(), ServeFault> {
+) -> Result<(), ProxyFault> {
     let base = match add_loop(rt, alloc, users, admin, inboxes) {
         Ok(base) => base,
         Err(error) => return Err(start_fault(LoopFault::of(error))),
     };
     if bases.push(Some(base)).is_err() {
-        return Err(ServeFault::NoMemory);
+        return Err(ProxyFault::NoMemory);
     }
     Ok(())
 }
@@ -57,7 +76,7 @@ fn make_bases<R: Net>(
     users: Entrance,
     admin: AdminPorts,
     inboxes: &mut Vec<Inbox>,
-) -> Result<Vec<Option<Base>>, ServeFault> {
+) -> Result<Vec<Option<Base>>, ProxyFault> {
     let mut bases = Vec::new(alloc);
     let mut users = Some(users);
     for _ in 0..count {
@@ -68,24 +87,24 @@ fn make_bases<R: Net>(
 }
 
 /// Why the proxy can't begin, where a loop can't be made.
-fn start_fault(fault: LoopFault) -> ServeFault
-    ensures system { fault ≡ LoopFault.System → result ≡ ServeFault.System }
-    ensures memory { fault ≡ LoopFault.NoMemory → result ≡ ServeFault.NoMemory }
+fn start_fault(fault: LoopFault) -> ProxyFault
+    ensures system { fault ≡ LoopFault.System → result ≡ ProxyFault.System }
+    ensures memory { fault ≡ LoopFault.NoMemory → result ≡ ProxyFault.NoMemory }
 {
     match fault {
-        LoopFault::System => ServeFault::System,
-        LoopFault::NoMemory => ServeFault::NoMemory,
+        LoopFault::System => ProxyFault::System,
+        LoopFault::NoMemory => ProxyFault::NoMemory,
     }
 }
 
 /// Why the proxy can't go on, where a loop failed.
-fn loop_fault(fault: LoopFault) -> ServeFault
-    ensures system { fault ≡ LoopFault.System → result ≡ ServeFault.Loop }
-    ensures memory { fault ≡ LoopFault.NoMemory → result ≡ ServeFault.NoMemory }
+fn loop_fault(fault: LoopFault) -> ProxyFault
+    ensures system { fault ≡ LoopFault.System → result ≡ ProxyFault.Loop }
+    ensures memory { fault ≡ LoopFault.NoMemory → result ≡ ProxyFault.NoMemory }
 {
     match fault {
-        LoopFault::System => ServeFault::Loop,
-        LoopFault::NoMemory => ServeFault::NoMemory,
+        LoopFault::System => ProxyFault::Loop,
+        LoopFault::NoMemory => ProxyFault::NoMemory,
     }
 }
 
@@ -173,7 +192,7 @@ pub fn run_crew<
     ports: (TcpListener, AdminPorts),
     file: Option<File>,
     left: &Mutex<Left<B, Q, A>>,
-) -> Result<(), ServeFault>
+) -> Result<(), ProxyFault>
 where
     B::Held: Send + Sync,
     B::Free: Send + Sync,
@@ -204,7 +223,7 @@ fn run_board<
     ports: (TcpListener, AdminPorts),
     board: Result<N, AllocError>,
     left: &Mutex<Left<B, Q, A>>,
-) -> Result<(), ServeFault>
+) -> Result<(), ProxyFault>
 where
     B::Held: Send + Sync,
     B::Free: Send + Sync,
@@ -212,18 +231,17 @@ where
     B::Pages: Send + Sync,
 {
     let Ok(board) = board else {
-        return Err(ServeFault::NoMemory);
+        return Err(ProxyFault::NoMemory);
     };
     let mut board = board;
     let Ok(room) = Arc::clone(board.room()) else {
-        return Err(ServeFault::NoMemory);
+        return Err(ProxyFault::NoMemory);
+    };
+    let Ok(admission) = admission_of(alloc, config) else {
+        return Err(ProxyFault::NoMemory);
     };
     let (users, admin) = ports;
-    let users = Entrance {
-        listener: users,
-        room,
-        loops: config.shards as usize,
-    };
+    let users = entrance_of(config, users, room, admission);
     let mut bases = make_bases(rt, alloc, config.shards, users, admin, board.inboxes_mut())?;
     run_on(
         rt,
@@ -248,15 +266,17 @@ fn pools_for<'a, Q: Ledger, A: Ledger, N: Common>(
     request: &'a Pool<Spare, Q>,
     response: &'a Pool<Spare, A>,
     common: &'a N,
-) -> Pools<'a, Q, A> {
+) -> SharedPools<'a, Q, A> {
     let edge = Loops {
         inboxes: common.inboxes(),
         room: common.room(),
     };
-    Pools {
+    SharedPools {
         request,
         response,
         idle_seconds: config.service_idle,
+        // No loop's number: none lies idle with whoever ends and closes them.
+        thread: common.inboxes().len(),
         waiting: Waiting {
             queues: common.queues(),
             edge,
@@ -344,14 +364,14 @@ fn run_exchanges<E: Exchanges + Drop, G: Gate, R: Wait + Dial + Clock>(
     number: usize,
     base: Base,
     inboxes: &[Inbox],
-) -> (Vec<Option<Box<E::Exchange>>>, Option<ServeFault>) {
+) -> (Vec<Option<Box<E::Exchange>>>, Option<ProxyFault>) {
     let Ok(exchanges) = exchanges else {
         stop_all(inboxes);
-        return (Vec::new(alloc), Some(ServeFault::NoMemory));
+        return (Vec::new(alloc), Some(ProxyFault::NoMemory));
     };
     let Ok(shard) = Shard::new(alloc, exchanges, gate) else {
         stop_all(inboxes);
-        return (Vec::new(alloc), Some(ServeFault::NoMemory));
+        return (Vec::new(alloc), Some(ProxyFault::NoMemory));
     };
     let Ended { work, fault } = run_loop(rt, alloc, number, base, shard, inboxes);
     let fault = match fault {
@@ -378,7 +398,7 @@ fn run_base<
     base: Base,
     inboxes: &[Inbox],
     bank: &Bank<B>,
-    pools: Pools<'_, Q, A>,
+    pools: SharedPools<'_, Q, A>,
     left: &Mutex<Left<B, Q, A>>,
 ) {
     name_thread(number);

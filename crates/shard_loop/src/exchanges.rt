@@ -1,6 +1,9 @@
 //! The exchanges of a thread, at its desk: what becomes of each is done with the desk as its surroundings.
 
-ghost use Rattle.std.specs.Prelude.{◌≡◌, true};
+ghost use Rattle.std.specs.Prelude.{◌≡◌, is_some, None, true};
+ghost use Rattle.exchange_core.specs.Course.{start, after};
+ghost use Rattle.exchange_core.specs.declared.event.Event.TheVariants.{Failed};
+ghost use Rattle.exchange_core.specs.declared.event.RefusalCause.TheVariants.{Scarce};
 ghost use Rattle.exchange_core.specs.Dues.{is_over};
 ghost use Rattle.shard_effects.specs.Hand.{IsEmpty};
 
@@ -17,16 +20,28 @@ use std::sync::Wait;
 use std::time::Clock;
 use wire_kit::Gate;
 
-/// What a user's connection begins with: its first request, or the refusal where there is no room for it, or no memory.
-fn first<O: Kinds>(alloc: Global, user: O::User, purpose: Purpose) -> Exchange<Holdings<O>>
-    ensures { IsEmpty (⟦<Holdings<O> as InHand>⟧.hand result.holdings) }
+/// The first request of a user for whom there is room. `None` if no memory was found for it.
+fn first_message(alloc: Global, purpose: Purpose) -> Option<Box<Incoming>>
+    ensures { purpose ≡ Purpose.Refusal → result ≡ None }
 {
     match purpose {
         Purpose::Requests => match Box::new(alloc, Incoming::request(alloc)) {
-            Ok(message) => Exchange::begin(Holdings::new(user, Some(message))),
-            Err(_) => Exchange::turn_away(Holdings::new(user, None)),
+            Ok(message) => Some(message),
+            Err(_) => None,
         },
-        Purpose::Refusal => Exchange::turn_away(Holdings::new(user, None)),
+        Purpose::Refusal => None,
+    }
+}
+
+/// What a user's connection begins with: its first request, or the refusal where there is none.
+fn begin_with<O: Kinds>(user: O::User, message: Option<Box<Incoming>>) -> Exchange<Holdings<O>>
+    ensures empty { IsEmpty (⟦<Holdings<O> as InHand>⟧.hand result.holdings) }
+    ensures served { is_some message ≡ true → result.course ≡ start }
+    ensures refused { message ≡ None → result.course ≡ after start (Failed Scarce) }
+{
+    match message {
+        Some(message) => Exchange::begin(Holdings::new(user, Some(message))),
+        None => Exchange::turn_away(Holdings::new(user, None)),
     }
 }
 
@@ -36,7 +51,7 @@ fn begin<O: Kinds>(
     user: O::User,
     purpose: Purpose,
 ) -> Result<Box<Exchange<Holdings<O>>>, Option<O::User>> {
-    match Box::new(alloc, first(alloc, user, purpose)) {
+    match Box::new(alloc, begin_with(user, first_message(alloc, purpose))) {
         Ok(exchange) => Ok(exchange),
         Err(AllocFailed { value }) => Err(value.into_holdings().into_user()),
     }
@@ -87,6 +102,8 @@ impl<S: Shares> Exchanges for DeskExchanges<S> {
     type Exchange = Exchange<Holdings<Desk<S>>>;
 
     type Seating = Desk<S>;
+
+    ghost users_of = { λ exchanges. exchanges.desk };
 
     fn users(&self) -> &Desk<S> {
         &self.desk

@@ -1,17 +1,18 @@
 //! What is still out when the loops have ended.
 
-ghost use Rattle.std.specs.Prelude.{◌≡◌, ◌+◌, ◌-◌, ◌^◌, All, IfOk, IfSome, IsSome, None, Some, min, vec_len};
+ghost use Rattle.std.specs.Prelude.{◌≡◌, ◌+◌, ◌-◌, ◌^◌, ◌≤◌, true, All, IfOk, IfSome, IsSome, None, Some, min, vec_capacity, vec_len};
+ghost use Rattle.adapt_bytes.specs.declared.limits.TheConstants.{MAX_CONNECTIONS};
 ghost use Rattle.span_bank.specs.Stakes.{held_sum};
-ghost use Rattle.shard_loop.specs.Left.{HoldsNothing};
+ghost use Rattle.shard_loop.specs.Left.{Counts, HoldsNothing, Keeps, counts, lease_of, out_of_slots, with_one_more};
 
 use adapt_bytes::MAX_CONNECTIONS;
 use service_lines::Leased;
 use service_pool::{Lease, Pool};
-use shard_desk::{Pools, Spare};
+use shard_desk::{SharedPools, Spare};
 use shard_exchange::Exchange;
 use shard_holdings::{Held, Holdings};
 use shard_outside::Kinds;
-use shard_report::{ServeFault, StopAudit, Stopped};
+use shard_report::{ProxyFault, StopAudit, Stopped};
 use span_bank::{Audit, Bank, Ledgers, Pages, Stake};
 use std::alloc::Global;
 use std::boxed::Box;
@@ -20,15 +21,48 @@ use std::sync::ledger::Ledger;
 
 /// The reservations and the leases that are still out, and why the first thread failed that did.
 pub struct Left<B: Ledgers, Q: Ledger, A: Ledger> {
-    fault: Option<ServeFault>,
+    fault: Option<ProxyFault>,
     stakes: Vec<Stake<B>>,
     requests: Vec<Lease<Q>>,
     responses: Vec<Lease<A>>,
     ghost idle: { All HoldsNothing stakes.items },
 }
 
+/// What is kept until it is audited.
+pub trait Unaudited {
+    // how many are kept
+    ghost kept: { Self → Counts };
+
+    // how many there is room for
+    ghost room: { Self → Counts };
+}
+
+impl<B: Ledgers, Q: Ledger, A: Ledger> Unaudited for Left<B, Q, A> {
+    ghost kept = { λ left. counts (vec_len left.stakes) (vec_len left.requests) (vec_len left.responses) };
+
+    ghost room = { λ left. counts (vec_capacity left.stakes) (vec_capacity left.requests) (vec_capacity left.responses) };
+}
+
+/// What may still be out of an exchange that ends.
+pub trait Outstanding {
+    // how much is
+    ghost out: { Self → Counts };
+}
+
+impl<B: Ledgers, Q: Ledger, A: Ledger, O: Kinds<Ledgers = B, Lease = Leased<Q, A>>> Outstanding
+    for Exchange<Holdings<O>> {
+    ghost use Rattle.std.specs.Prelude.{◌||◌, is_some, option_map};
+    ghost use Rattle.shard_loop.specs.Left.{out_of};
+
+    ghost out = { λ exchange. out_of (is_some exchange.holdings.room || is_some exchange.holdings.tx) (option_map (λ leased. leased.lease) exchange.holdings.connection) };
+}
+
 /// Keeps a lease where there is room for it. Else it comes back.
-fn keep<L: Ledger>(leases: &mut Vec<Lease<L>>, lease: Lease<L>) -> Option<Lease<L>> {
+fn keep<L: Ledger>(leases: &mut Vec<Lease<L>>, lease: Lease<L>) -> Option<Lease<L>>
+    ensures kept { leases.new.items ≡ with_one_more (vec_capacity leases.old) leases.old.items lease }
+    ensures count { vec_len leases.new ≡ min (vec_capacity leases.old) (vec_len leases.old + 1) }
+    ensures room { vec_capacity leases.new ≡ vec_capacity leases.old }
+{
     if leases.len() < leases.capacity() {
         leases.push_reserved(lease);
         None
@@ -90,7 +124,9 @@ fn audit_bank<B: Ledgers, R: Wait>(rt: &R, bank: Bank<B>, stakes: Vec<Stake<B>>)
 
 impl<B: Ledgers, Q: Ledger, A: Ledger> Left<B, Q, A> {
     /// Nothing yet.
-    pub fn new(alloc: Global) -> Left<B, Q, A> {
+    pub fn new(alloc: Global) -> Left<B, Q, A>
+        ensures { ⟦<Self as Unaudited>⟧.kept result ≡ counts 0 0 0 }
+    {
         Left {
             fault: None,
             stakes: Vec::new(alloc),
@@ -100,7 +136,11 @@ impl<B: Ledgers, Q: Ledger, A: Ledger> Left<B, Q, A> {
     }
 
     /// Makes room for all that can be out. False where no memory was found.
-    pub fn reserve(&mut self, rows: usize) -> bool {
+    pub fn reserve(&mut self, rows: usize) -> bool
+        ensures rows { result ≡ true → rows ≤ vec_capacity self.new.stakes }
+        ensures leases { result ≡ true → (MAX_CONNECTIONS ≤ vec_capacity self.new.requests) × (MAX_CONNECTIONS ≤ vec_capacity self.new.responses) }
+        ensures kept { ⟦<Self as Unaudited>⟧.kept self.new ≡ ⟦<Self as Unaudited>⟧.kept self.old }
+    {
         let leases = MAX_CONNECTIONS as usize;
         self.stakes.reserve(rows).is_ok()
             && self.requests.reserve(leases).is_ok()
@@ -108,7 +148,7 @@ impl<B: Ledgers, Q: Ledger, A: Ledger> Left<B, Q, A> {
     }
 
     /// Takes note of a thread that failed. The first one stands.
-    pub fn fail(&mut self, fault: ServeFault)
+    pub fn fail(&mut self, fault: ProxyFault)
         ensures first { self.old.fault ≡ None → self.new.fault ≡ Some fault }
         ensures stands { IsSome self.old.fault → self.new.fault ≡ self.old.fault }
     {
@@ -117,9 +157,12 @@ impl<B: Ledgers, Q: Ledger, A: Ledger> Left<B, Q, A> {
         }
     }
 
-    /// Keeps a reservation that is still open.
+    /// Keeps a reservation that is still open, where there is room for it. Else it is closed.
     pub fn keep_stake<R: Wait>(&mut self, rt: &R, bank: &Bank<B>, stake: Stake<B>)
         requires { HoldsNothing stake }
+        ensures stakes { self.new.stakes.items ≡ with_one_more (vec_capacity self.old.stakes) self.old.stakes.items stake }
+        ensures kept { Keeps (⟦<Self as Unaudited>⟧.room self.old) (⟦<Self as Unaudited>⟧.kept self.old) (counts 1 0 0) (⟦<Self as Unaudited>⟧.kept self.new) }
+        ensures room { ⟦<Self as Unaudited>⟧.room self.new ≡ ⟦<Self as Unaudited>⟧.room self.old }
     {
         if self.stakes.len() < self.stakes.capacity() {
             self.stakes.push_reserved(stake);
@@ -128,8 +171,16 @@ impl<B: Ledgers, Q: Ledger, A: Ledger> Left<B, Q, A> {
         }
     }
 
-    /// Keeps a lease that is still out.
-    pub fn keep_lease<R: Wait>(&mut self, rt: &R, pools: &Pools<'_, Q, A>, lease: Leased<Q, A>) {
+    /// Keeps a lease that is still out, where there is room for it. Else it is given up.
+    pub fn keep_lease<R: Wait>(
+        &mut self,
+        rt: &R,
+        pools: &SharedPools<'_, Q, A>,
+        lease: Leased<Q, A>,
+    )
+        ensures kept { Keeps (⟦<Self as Unaudited>⟧.room self.old) (⟦<Self as Unaudited>⟧.kept self.old) (lease_of lease) (⟦<Self as Unaudited>⟧.kept self.new) }
+        ensures room { ⟦<Self as Unaudited>⟧.room self.new ≡ ⟦<Self as Unaudited>⟧.room self.old }
+    {
         let beyond = match lease {
             Leased::Request(lease) => match keep(&mut self.requests, lease) {
                 Some(lease) => Leased::Request(lease),
@@ -148,9 +199,13 @@ impl<B: Ledgers, Q: Ledger, A: Ledger> Left<B, Q, A> {
         &mut self,
         rt: &R,
         bank: &Bank<B>,
-        pools: &Pools<'_, Q, A>,
+        pools: &SharedPools<'_, Q, A>,
         exchange: Exchange<Holdings<O>>,
-    ) {
+    )
+        ensures kept { Keeps (⟦<Self as Unaudited>⟧.room self.old) (⟦<Self as Unaudited>⟧.kept self.old)
+            (⟦<Exchange<Holdings<O>> as Outstanding>⟧.out exchange) (⟦<Self as Unaudited>⟧.kept self.new) }
+        ensures room { ⟦<Self as Unaudited>⟧.room self.new ≡ ⟦<Self as Unaudited>⟧.room self.old }
+    {
         let Held { lease, stake } = exchange.into_holdings().into_held(rt, bank);
         if let Some(lease) = lease {
             self.keep_lease(rt, pools, lease);
@@ -160,14 +215,17 @@ impl<B: Ledgers, Q: Ledger, A: Ledger> Left<B, Q, A> {
         }
     }
 
-    /// Takes what is held in a loop's slots.
+    /// Takes what is held in a loop's slots: each reservation and each lease, where there is room for it.
     pub fn take_slots<O: Kinds<Ledgers = B, Lease = Leased<Q, A>>, R: Wait>(
         &mut self,
         rt: &R,
         bank: &Bank<B>,
-        pools: Pools<'_, Q, A>,
+        pools: SharedPools<'_, Q, A>,
         slots: Vec<Option<Box<Exchange<Holdings<O>>>>>,
-    ) {
+    )
+        ensures kept { Keeps (⟦<Self as Unaudited>⟧.room self.old) (⟦<Self as Unaudited>⟧.kept self.old)
+            (out_of_slots (λ exchange. ⟦<Exchange<Holdings<O>> as Outstanding>⟧.out exchange.value) slots.items) (⟦<Self as Unaudited>⟧.kept self.new) }
+    {
         let mut slots = slots;
         while let Some(slot) = slots.pop() {
             if let Some(exchange) = slot {
@@ -184,7 +242,7 @@ impl<B: Ledgers, Q: Ledger, A: Ledger> Left<B, Q, A> {
         bank: Bank<B>,
         request: Pool<Spare, Q>,
         response: Pool<Spare, A>,
-    ) -> Result<Stopped, ServeFault>
+    ) -> Result<Stopped, ProxyFault>
         ensures fault { IfOk result (λ stopped. stopped.fault ≡ self.fault) }
         ensures stakes { IfOk result (λ stopped. (stopped.audit.rows ≡ vec_len self.stakes)
             × (stopped.audit.held ≡ held_sum self.stakes.items)) }
@@ -208,7 +266,7 @@ impl<B: Ledgers, Q: Ledger, A: Ledger> Left<B, Q, A> {
                 };
                 Ok(Stopped { audit, fault })
             }
-            _ => Err(ServeFault::Missing),
+            _ => Err(ProxyFault::Missing),
         }
     }
 }

@@ -6,6 +6,7 @@
 //! Here threads, exchanges and sockets meet. `serve` is all that it offers.
 #![tactic(auto)]
 
+mod admission;
 mod board;
 mod crew;
 mod exchanges;
@@ -15,4 +16,4 @@ mod running;
 
 pub use event_loop::{AdminPorts, listen_beside};
 pub use running::serve;
-pub use shard_report::{Append, ServeFault, StopAudit, Stopped};
+pub use shard_report::{Append, ProxyFault, StopAudit, Stopped};

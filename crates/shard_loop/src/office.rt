@@ -6,7 +6,7 @@ ghost use Rattle.std.specs.Prelude.{⊤};
 use event_loop::{Admitted, Driven, Handed, Request, Told, Work};
 use mio::Registry;
 use shard_desk::{Shares, pools_of};
-use shard_report::{Append, Figures, Tally, change_capacity, stats_text};
+use shard_report::{Append, Figures, LoopTally, change_capacity, stats_text};
 use socket_wire::{Dial, Peer};
 use span_bank::{CapacityFault, MAX_CAPACITY};
 use std::alloc::{AllocError, Global};
@@ -37,13 +37,18 @@ fn changed_text(alloc: Global, changed: Result<(), CapacityFault>) -> Result<Vec
 pub struct Office<'a, S, F: Append> {
     alloc: Global,
     shared: S,
-    tallies: &'a [Tally],
+    tallies: &'a [LoopTally],
     files: &'a F,
 }
 
 impl<'a, S: Shares, F: Append> Office<'a, S, F> {
     /// Answers from what its thread shares and what all loops counted; `files` opens the log's file anew.
-    pub fn new(alloc: Global, shared: S, tallies: &'a [Tally], files: &'a F) -> Office<'a, S, F> {
+    pub fn new(
+        alloc: Global,
+        shared: S,
+        tallies: &'a [LoopTally],
+        files: &'a F,
+    ) -> Office<'a, S, F> {
         Office {
             alloc,
             shared,
@@ -83,6 +88,8 @@ impl<'a, S: Shares, F: Append> Office<'a, S, F> {
             respmod: shared.responses().numbers(rt),
             respmod_waiting: waiting.len(rt, Point::Respmod),
             book: shared.bank().book(rt, None),
+            refused: shared.room().refused(),
+            over: shared.room().over(),
             lost: shared.log().lost(),
             uptime: now,
         }
@@ -150,8 +157,10 @@ impl<'a, S: Shares + Drop, F: Append> Work for Office<'a, S, F> {
         false
     }
 
-    fn note(&mut self, _key: usize, _peer: Peer, _told: Told) -> bool {
-        false
+    fn heard(&mut self, _is_whole: bool) {}
+
+    fn note(&mut self, _number: usize, _peer: Peer, _told: Told) -> Option<usize> {
+        None
     }
 
     /// Is called each second: idle connections to services that are of no use any more are closed.
@@ -215,7 +224,7 @@ impl<'a, S: Shares + Drop, F: Append> Work for Office<'a, S, F> {
         }
     }
 
-    fn turn_over<R: Wait>(&mut self, rt: &R) {
+    fn turn_over<R: Wait>(&mut self, rt: &R, _now: u64) {
         self.shared.log().write_out(rt);
     }
 

@@ -11,7 +11,7 @@ use mio::net::TcpListener;
 use proxy_config::{Config, ServicePoint};
 use service_pool::{LEDGER_PARTS, Pool};
 use shard_desk::Spare;
-use shard_report::{Append, ServeFault, Stopped};
+use shard_report::{Append, ProxyFault, Stopped};
 use socket_wire::Dial;
 use span_bank::{Bank, Blanks, Ledgers};
 use std::alloc::Global;
@@ -41,20 +41,20 @@ fn make_pool<L: Ledger>(
     blank: Blank,
     service: &Option<ServicePoint>,
     journal: usize,
-) -> Result<Pool<Spare, L>, ServeFault>
+) -> Result<Pool<Spare, L>, ProxyFault>
     requires blank { (blank.name ≡ L.name) × (blank.parts ≡ L.parts) × (blank.parts ≡ LEDGER_PARTS) }
     requires journal { 1 ≤ journal }
 {
     match Pool::new(alloc, blank, connections(service), journal) {
         Ok(pool) => Ok(pool),
-        Err(_) => Err(ServeFault::NoMemory),
+        Err(_) => Err(ProxyFault::NoMemory),
     }
 }
 
 /// Says that users are served from now on.
-fn say_listening<O: Write>(output: &mut O) -> Result<(), ServeFault> {
+fn say_listening<O: Write>(output: &mut O) -> Result<(), ProxyFault> {
     if output.write_all(b"listening\n").is_err() || output.flush().is_err() {
-        return Err(ServeFault::Unheard);
+        return Err(ProxyFault::Unheard);
     }
     Ok(())
 }
@@ -80,7 +80,7 @@ pub fn serve<G: Gate + Sync, O: Write, R: Threads + Wait + Net + Dial + Append +
     log: Option<File>,
     gate: &G,
     output: &mut O,
-) -> Result<Stopped, ServeFault> {
+) -> Result<Stopped, ProxyFault> {
     serve_with::<Brand, Brand, Brand, Brand, Brand, Brand, G, O, R>(
         rt,
         alloc,
@@ -121,7 +121,7 @@ fn serve_with<
     blanks: Blanks,
     reqmod: Blank,
     respmod: Blank,
-) -> Result<Stopped, ServeFault>
+) -> Result<Stopped, ProxyFault>
     requires held { (blanks.held.name ≡ H.name) × (blanks.held.parts ≡ H.parts) }
     requires free { (blanks.free.name ≡ F.name) × (blanks.free.parts ≡ F.parts) }
     requires slack { (blanks.slack.name ≡ S.name) × (blanks.slack.parts ≡ S.parts) }
@@ -140,7 +140,7 @@ fn serve_with<
         journal,
     ) {
         Ok(bank) => bank,
-        Err(_) => return Err(ServeFault::NoMemory),
+        Err(_) => return Err(ProxyFault::NoMemory),
     };
     let request: Pool<Spare, Q> = make_pool(alloc, reqmod, &config.reqmod, journal)?;
     let response: Pool<Spare, A> = make_pool(alloc, respmod, &config.respmod, journal)?;
@@ -175,7 +175,7 @@ fn serve_on<
     bank: Bank<B>,
     request: Pool<Spare, Q>,
     response: Pool<Spare, A>,
-) -> Result<Stopped, ServeFault>
+) -> Result<Stopped, ProxyFault>
 where
     B::Held: Send + Sync,
     B::Free: Send + Sync,
@@ -190,7 +190,7 @@ where
             rt, alloc, config, &bank, &request, &response, gate, ports, log, &left,
         )
     } else {
-        Err(ServeFault::NoMemory)
+        Err(ProxyFault::NoMemory)
     };
     let audit = left.into_inner().audit(rt, bank, request, response);
     made?;

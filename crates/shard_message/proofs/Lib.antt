@@ -1,3 +1,5 @@
+pub mod AgainLemmas
+pub mod CleanLemmas
 pub mod NextLemmas
 pub mod OutsetLemmas
 pub mod RoundLemmas

@@ -1,117 +1,201 @@
 -- The message that comes next, and the end that is told.
-use Rattle.std.proofs.Common.{◌≡◌, Bool, true, false, Option, Some, None, is_some, refl, sym, subst}
-use Rattle.std.specs.Prelude.{Box}
+use Rattle.std.proofs.Common.{◌≡◌, ◌↔◌, Bool, true, false, Option, Some, None, is_some, refl, sym, ap, subst, ◌∙◌}
+use Rattle.std.specs.Prelude.{Box, ⊤}
 use Rattle.std.specs.declared.alloc.Global.{Global}
 use Rattle.trace_core.specs.declared.history.Cause.{Cause}
-use Rattle.trace_core.specs.declared.history.Cause.TheVariants.{Stopping}
+use Rattle.trace_core.specs.declared.history.Cause.TheVariants.{Stopping, NextHop}
 use Rattle.trace_core.specs.declared.history.Point.{Point}
 use Rattle.adapt_turn.specs.declared.turn.Outcome.{Outcome}
 use Rattle.adapt_turn.specs.declared.turn.Outcome.TheVariants.{Done, Fail}
 use Rattle.adapt_turn.specs.Refusals.{refusal_status}
 use Rattle.exchange_core.specs.Dues.{status_of}
-use Rattle.shard_effects.specs.Ends.{IfItself}
+use Rattle.exchange_core.specs.declared.event.RefusalCause.TheVariants as causes
+use Rattle.shard_effects.specs.Ends.{EndsBy, IfItself}
 use Rattle.shard_effects.specs.declared.ends.End.{End}
 use Rattle.shard_effects.specs.declared.ends.End.TheVariants as ends
 use Rattle.shard_effects.specs.declared.ends.EndedBy.{EndedBy}
 use Rattle.shard_effects.specs.declared.ends.EndedBy.TheVariants as ended
-use Rattle.shard_message.specs.Ended.{Brings, EndsAs, IsEndOf, IsNextBy, IsSequel, ended_as, is_user_lost, message_in}
+use Rattle.shard_message.specs.Ended.{Brings, EndsAs, IfOther, IsEndOf, IsNextBy, IsSequel, ended_as, is_by_itself, is_user_lost, message_in}
 use Rattle.shard_message.specs.declared.ended.Sequel.{Sequel}
 use Rattle.shard_message.specs.declared.ended.Sequel.TheVariants as sequels
 
-pub brings_more : {M : Type 0} (response next further : M → Type 0) (sequel : Sequel M) → ((message : M) → next message → further message) → Brings (λ _. ⊥) next sequel → Brings response further sequel
-brings_more response next further (sequels.Sent None) more brings = tt
-brings_more response next further (sequels.Sent (Some message)) more brings = absurd brings
-brings_more response next further (sequels.Answered None) more brings = tt
-brings_more response next further (sequels.Answered (Some message)) more brings = more message.value brings
-brings_more response next further (sequels.Failed cause is_old) more brings = tt
+pub brings_more : {M : Type 0} (response next again further : M → Type 0) (sequel : Sequel M) → ((message : M) → next message → further message)
+    → Brings (λ _. ⊥) next (λ _. ⊥) sequel → Brings response further again sequel
+brings_more response next again further (sequels.Sent None) more brings = tt
+brings_more response next again further (sequels.Sent (Some message)) more brings = absurd brings
+brings_more response next again further (sequels.Answered None lasts) more brings = tt
+brings_more response next again further (sequels.Answered (Some message) lasts) more brings = more message.value brings
+brings_more response next again further (sequels.Withdrawn None) more brings = tt
+brings_more response next again further (sequels.Withdrawn (Some message)) more brings = absurd brings
+brings_more response next again further (sequels.Failed cause is_old) more brings = tt
 
-sent_by : {M : Type 0} (response next : M → Type 0) (message : Option (Box M Global)) (has_memory : Bool) → has_memory ≡ is_some message → Brings response next (sequels.Sent message) → IsNextBy response next (ends.Sent has_memory) message
-sent_by response next None false e brings = tt
-sent_by response next None true e brings = absurd cc
-sent_by response next (Some message) false e brings = absurd cc
-sent_by response next (Some message) true e brings = brings
+sent_by : {M : Type 0} (response next again : M → Type 0) (message : Option (Box M Global)) (has_memory : Bool) → has_memory ≡ is_some message
+    → Brings response next again (sequels.Sent message) → IsNextBy response next again (ends.Sent has_memory) message
+sent_by response next again None false e brings = tt
+sent_by response next again None true e brings = absurd cc
+sent_by response next again (Some message) false e brings = absurd cc
+sent_by response next again (Some message) true e brings = brings
 
-answered_by : {M : Type 0} (response next : M → Type 0) (message : Option (Box M Global)) (keeps : Bool) → keeps ≡ is_some message → Brings response next (sequels.Answered message) → IsNextBy response next (ends.Answered keeps) message
-answered_by response next None false e brings = tt
-answered_by response next None true e brings = absurd cc
-answered_by response next (Some message) false e brings = absurd cc
-answered_by response next (Some message) true e brings = brings
+answered_by : {M : Type 0} (response next again : M → Type 0) (message : Option (Box M Global)) (lasting keeps lasts : Bool) → keeps ≡ is_some message
+    → Brings response next again (sequels.Answered message lasting) → IsNextBy response next again (ends.Answered keeps lasts) message
+answered_by response next again None lasting false lasts e brings = tt
+answered_by response next again None lasting true lasts e brings = absurd cc
+answered_by response next again (Some message) lasting false lasts e brings = absurd cc
+answered_by response next again (Some message) lasting true lasts e brings = brings
 
-next_by : {M : Type 0} (response next : M → Type 0) (point : Point) (sequel : Sequel M) (end : End) → Brings response next sequel → IsEndOf point sequel end → IsNextBy response next end (message_in sequel)
-next_by response next point (sequels.Sent message) (ends.Sent has_memory) brings e = sent_by response next message has_memory e brings
-next_by response next point (sequels.Sent message) (ends.Answered keeps) brings e = absurd e
-next_by response next point (sequels.Sent message) (ends.Failed why) brings e = absurd e
-next_by response next point (sequels.Sent message) ends.Stopped brings e = absurd e
-next_by response next point (sequels.Sent message) ends.Lost brings e = absurd e
-next_by response next point (sequels.Answered message) (ends.Sent has_memory) brings e = absurd e
-next_by response next point (sequels.Answered message) (ends.Answered keeps) brings e = answered_by response next message keeps e brings
-next_by response next point (sequels.Answered message) (ends.Failed why) brings e = absurd e
-next_by response next point (sequels.Answered message) ends.Stopped brings e = absurd e
-next_by response next point (sequels.Answered message) ends.Lost brings e = absurd e
-next_by response next point (sequels.Failed cause is_old) (ends.Sent has_memory) brings e = absurd e
-next_by response next point (sequels.Failed cause is_old) (ends.Answered keeps) brings e = absurd e
-next_by response next point (sequels.Failed cause is_old) (ends.Failed why) brings e = tt
-next_by response next point (sequels.Failed cause is_old) ends.Stopped brings e = absurd e
-next_by response next point (sequels.Failed cause is_old) ends.Lost brings e = tt
+withdrawn_by : {M : Type 0} (response next again : M → Type 0) (message : Option (Box M Global)) (has_memory : Bool) → has_memory ≡ is_some message
+    → Brings response next again (sequels.Withdrawn message) → IsNextBy response next again (ends.Withdrawn has_memory) message
+withdrawn_by response next again None false e brings = tt
+withdrawn_by response next again None true e brings = absurd cc
+withdrawn_by response next again (Some message) false e brings = absurd cc
+withdrawn_by response next again (Some message) true e brings = brings
 
-itself_then : (by : EndedBy) {P Q : Type 0} → (P → Q) → IfItself by P → IfItself by Q
-itself_then ended.Itself f p = f p
-itself_then ended.Gate f p = f p
-itself_then ended.Deadline f p = tt
-itself_then ended.Stop f p = tt
-itself_then ended.User f p = tt
+next_by : {M : Type 0} (response next again : M → Type 0) (point : Point) (sequel : Sequel M) (end : End) → Brings response next again sequel → IsEndOf point sequel end
+    → IsNextBy response next again end (message_in sequel)
+next_by response next again point (sequels.Sent message) (ends.Sent has_memory) brings e = sent_by response next again message has_memory e brings
+next_by response next again point (sequels.Sent message) (ends.Answered keeps lasts) brings e = absurd e
+next_by response next again point (sequels.Sent message) (ends.Withdrawn has_memory) brings e = absurd e
+next_by response next again point (sequels.Sent message) (ends.Failed why) brings e = absurd e
+next_by response next again point (sequels.Sent message) ends.Stopped brings e = absurd e
+next_by response next again point (sequels.Sent message) ends.Lost brings e = absurd e
+next_by response next again point (sequels.Answered message lasting) (ends.Sent has_memory) brings e = absurd e
+next_by response next again point (sequels.Answered message lasting) (ends.Answered keeps lasts) brings e = answered_by response next again message lasting keeps lasts e.0 brings
+next_by response next again point (sequels.Answered message lasting) (ends.Withdrawn has_memory) brings e = absurd e
+next_by response next again point (sequels.Answered message lasting) (ends.Failed why) brings e = absurd e
+next_by response next again point (sequels.Answered message lasting) ends.Stopped brings e = absurd e
+next_by response next again point (sequels.Answered message lasting) ends.Lost brings e = absurd e
+next_by response next again point (sequels.Withdrawn message) (ends.Sent has_memory) brings e = absurd e
+next_by response next again point (sequels.Withdrawn message) (ends.Answered keeps lasts) brings e = absurd e
+next_by response next again point (sequels.Withdrawn message) (ends.Withdrawn has_memory) brings e = withdrawn_by response next again message has_memory e brings
+next_by response next again point (sequels.Withdrawn message) (ends.Failed why) brings e = absurd e
+next_by response next again point (sequels.Withdrawn message) ends.Stopped brings e = absurd e
+next_by response next again point (sequels.Withdrawn message) ends.Lost brings e = absurd e
+next_by response next again point (sequels.Failed cause is_old) (ends.Sent has_memory) brings e = absurd e
+next_by response next again point (sequels.Failed cause is_old) (ends.Answered keeps lasts) brings e = absurd e
+next_by response next again point (sequels.Failed cause is_old) (ends.Withdrawn has_memory) brings e = absurd e
+next_by response next again point (sequels.Failed cause is_old) (ends.Failed why) brings e = tt
+next_by response next again point (sequels.Failed cause is_old) ends.Stopped brings e = absurd e
+next_by response next again point (sequels.Failed cause is_old) ends.Lost brings e = tt
+
+-- where the message is that of the sequel
+next_itself : {M : Type 0} (response next again : M → Type 0) (point : Point) (sequel : Sequel M) (told end : End) (message : Option (Box M Global))
+    → Brings response next again sequel → IsEndOf point sequel told → end ≡ told → message ≡ message_in sequel → IsNextBy response next again end message
+next_itself {M} response next again point sequel told end message brings is e m =
+    subst (λ (z : Option (Box M Global)). IsNextBy response next again end z) (sym m)
+    (subst (λ (z : End). IsNextBy response next again z (message_in sequel)) (sym e) (next_by response next again point sequel told brings is))
+
+-- where something else ended it, no message comes
+next_other : {M : Type 0} (response next again : M → Type 0) (end told : End) (message : Option (Box M Global)) → IsNextBy response next again told None → end ≡ told → message ≡ None
+    → IsNextBy response next again end message
+next_other {M} response next again end told message by e m =
+    subst (λ (z : Option (Box M Global)). IsNextBy response next again end z) (sym m) (subst (λ (z : End). IsNextBy response next again z None) (sym e) by)
 
 -- the message that is left, by the end that is told
-pub next_told : {M : Type 0} (response next : M → Type 0) (point : Point) (sequel : Sequel M) (by : EndedBy) (told end : End) (message : Option (Box M Global))
-    → Brings response next sequel → IfItself by (IsEndOf point sequel told) → end ≡ told → message ≡ message_in sequel → IfItself by (IsNextBy response next end message)
-next_told {M} response next point sequel by told end message brings itself e m =
-    itself_then by (λ is.
-    subst (λ (z : Option (Box M Global)). IsNextBy response next end z) (sym m)
-    (subst (λ (z : End). IsNextBy response next z (message_in sequel)) (sym e) (next_by response next point sequel told brings is))) itself
+pub next_told : {M : Type 0} (response next again : M → Type 0) (point : Point) (sequel : Sequel M) (by : EndedBy) (told end : End) (message : Option (Box M Global))
+    → Brings response next again sequel → EndsBy by told → IfItself by (IsEndOf point sequel told) → end ≡ told → IfItself by (message ≡ message_in sequel) → IfOther by (message ≡ None)
+    → IsNextBy response next again end message
+next_told response next again point sequel ended.Itself told end message brings ends_by is e m o = next_itself response next again point sequel told end message brings is e m
+next_told response next again point sequel ended.Gate told end message brings ends_by is e m o = next_itself response next again point sequel told end message brings is e m
+next_told response next again point sequel ended.Deadline told end message brings ends_by is e m o = next_other response next again end (ends.Failed causes.Deadline) message tt (e ∙ ends_by) o
+next_told response next again point sequel ended.Stop told end message brings ends_by is e m o = next_other response next again end ends.Stopped message tt (e ∙ ends_by) o
+next_told response next again point sequel ended.User told end message brings ends_by is e m o = next_other response next again end ends.Lost message tt (e ∙ ends_by) o
 
 -- what comes after a transaction that was closed goes by what it was then; one that was open fails, and nothing comes of it
-pub brings_closed : {M T : Type 0} (response : M → Type 0) (next : T → M → Type 0) (x y : T) (closed : Bool) (outcome : Outcome) (onward carries : Type 0) (old : Bool) (sequel : Sequel M)
-    → (closed ≡ true → x ≡ y) → IsSequel (ended_as closed outcome) onward carries old sequel → Brings response (next x) sequel → Brings response (next y) sequel
-brings_closed {M} {T} response next x y true outcome onward carries old sequel same is brings = subst (λ (z : T). Brings response (next z) sequel) (same refl) brings
-brings_closed response next x y false outcome onward carries old (sequels.Sent message) same is brings = absurd is
-brings_closed response next x y false outcome onward carries old (sequels.Answered None) same is brings = absurd is
-brings_closed response next x y false outcome onward carries old (sequels.Answered (Some message)) same is brings = absurd is
-brings_closed response next x y false outcome onward carries old (sequels.Failed cause is_old) same is brings = tt
+pub brings_closed : {M T : Type 0} (response : M → Type 0) (next : T → M → Type 0) (x y : T) (closed : Bool) (outcome : Outcome) (onward carries : Type 0) (lasts old : Bool) (sequel : Sequel M)
+    → (closed ≡ true → x ≡ y) → IsSequel (ended_as closed outcome) onward carries lasts false old sequel → Brings response (next x) (λ _. ⊥) sequel → Brings response (next y) (λ _. ⊥) sequel
+brings_closed {M} {T} response next x y true outcome onward carries lasts old sequel same is brings = subst (λ (z : T). Brings response (next z) (λ _. ⊥) sequel) (same refl) brings
+brings_closed response next x y false outcome onward carries lasts old (sequels.Sent message) same is brings = absurd is
+brings_closed response next x y false outcome onward carries lasts old (sequels.Answered None lasting) same is brings = absurd is
+brings_closed response next x y false outcome onward carries lasts old (sequels.Answered (Some message) lasting) same is brings = absurd is
+brings_closed response next x y false outcome onward carries lasts old (sequels.Withdrawn None) same is brings = tt
+brings_closed response next x y false outcome onward carries lasts old (sequels.Withdrawn (Some message)) same is brings = absurd brings
+brings_closed response next x y false outcome onward carries lasts old (sequels.Failed cause is_old) same is brings = tt
 
-ends_done : {M : Type 0} (point : Point) (onward carries : Type 0) (old : Bool) (sequel : Sequel M) (end : End) → IsSequel Done onward carries old sequel → IsEndOf point sequel end → EndsAs point Done onward carries end
-ends_done point onward carries old (sequels.Sent message) (ends.Sent has_memory) is e = is
-ends_done point onward carries old (sequels.Sent message) (ends.Answered keeps) is e = absurd e
-ends_done point onward carries old (sequels.Sent message) (ends.Failed why) is e = absurd e
-ends_done point onward carries old (sequels.Sent message) ends.Stopped is e = absurd e
-ends_done point onward carries old (sequels.Sent message) ends.Lost is e = absurd e
-ends_done point onward carries old (sequels.Answered message) (ends.Sent has_memory) is e = absurd e
-ends_done point onward carries old (sequels.Answered None) (ends.Answered true) is e = absurd cc
-ends_done point onward carries old (sequels.Answered None) (ends.Answered false) is e = is
-ends_done point onward carries old (sequels.Answered (Some message)) (ends.Answered true) is e = is
-ends_done point onward carries old (sequels.Answered (Some message)) (ends.Answered false) is e = absurd cc
-ends_done point onward carries old (sequels.Answered message) (ends.Failed why) is e = absurd e
-ends_done point onward carries old (sequels.Answered message) ends.Stopped is e = absurd e
-ends_done point onward carries old (sequels.Answered message) ends.Lost is e = absurd e
-ends_done point onward carries old (sequels.Failed cause is_old) end is e = absurd is
+-- whether the origin's connection lasts is what was found
+lasts_as : (lasting : Type 0) (lasts told found : Bool) → (lasts ≡ true ↔ lasting) → found ≡ lasts → told ≡ found → told ≡ true ↔ lasting
+lasts_as lasting lasts told found is f t = subst (λ (z : Bool). z ≡ true ↔ lasting) (sym (t ∙ f)) is
 
-ends_failed : {M : Type 0} (point : Point) (cause : Cause) (onward carries : Type 0) (further carries_further : Type 0) (old : Bool) (sequel : Sequel M) (end : End)
-    → IsSequel (Fail cause) onward carries old sequel → IsEndOf point sequel end → EndsAs point (Fail cause) further carries_further end
-ends_failed point cause onward carries further carries_further old (sequels.Sent message) end is e = absurd is
-ends_failed point cause onward carries further carries_further old (sequels.Answered message) end is e = absurd is
-ends_failed point cause onward carries further carries_further old (sequels.Failed why is_old) (ends.Sent has_memory) is e = absurd e
-ends_failed point cause onward carries further carries_further old (sequels.Failed why is_old) (ends.Answered keeps) is e = absurd e
-ends_failed point cause onward carries further carries_further old (sequels.Failed why is_old) (ends.Failed status) is e =
-    subst (λ (z : Cause). (is_user_lost z point ≡ false) × (status_of status ≡ refusal_status z point)) is.0 e
-ends_failed point cause onward carries further carries_further old (sequels.Failed why is_old) ends.Stopped is e = absurd e
-ends_failed point cause onward carries further carries_further old (sequels.Failed why is_old) ends.Lost is e = subst (λ (z : Cause). is_user_lost z point ≡ true) is.0 e
+ends_done : {M : Type 0} (point : Point) (onward carries lasting bars : Type 0) (lasts may old : Bool) (sequel : Sequel M) (end : End) → (lasts ≡ true ↔ lasting)
+    → IsSequel Done onward carries lasts may old sequel → IsEndOf point sequel end → EndsAs point Done onward carries lasting bars end
+ends_done point onward carries lasting bars lasts may old (sequels.Sent message) (ends.Sent has_memory) found is e = is
+ends_done point onward carries lasting bars lasts may old (sequels.Sent message) (ends.Answered keeps told) found is e = absurd e
+ends_done point onward carries lasting bars lasts may old (sequels.Sent message) (ends.Withdrawn has_memory) found is e = absurd e
+ends_done point onward carries lasting bars lasts may old (sequels.Sent message) (ends.Failed why) found is e = absurd e
+ends_done point onward carries lasting bars lasts may old (sequels.Sent message) ends.Stopped found is e = absurd e
+ends_done point onward carries lasting bars lasts may old (sequels.Sent message) ends.Lost found is e = absurd e
+ends_done point onward carries lasting bars lasts may old (sequels.Answered message on) (ends.Sent has_memory) found is e = absurd e
+ends_done point onward carries lasting bars lasts may old (sequels.Answered None on) (ends.Answered true told) found is e = let k = e.0 in absurd cc
+ends_done point onward carries lasting bars lasts may old (sequels.Answered None on) (ends.Answered false told) found is e = (is.0, lasts_as lasting lasts told on found is.1 e.1)
+ends_done point onward carries lasting bars lasts may old (sequels.Answered (Some message) on) (ends.Answered true told) found is e = (is.0, is.1, lasts_as lasting lasts told on found is.2 e.1)
+ends_done point onward carries lasting bars lasts may old (sequels.Answered (Some message) on) (ends.Answered false told) found is e = let k = e.0 in absurd cc
+ends_done point onward carries lasting bars lasts may old (sequels.Answered message on) (ends.Withdrawn has_memory) found is e = absurd e
+ends_done point onward carries lasting bars lasts may old (sequels.Answered message on) (ends.Failed why) found is e = absurd e
+ends_done point onward carries lasting bars lasts may old (sequels.Answered message on) ends.Stopped found is e = absurd e
+ends_done point onward carries lasting bars lasts may old (sequels.Answered message on) ends.Lost found is e = absurd e
+ends_done point onward carries lasting bars lasts may old (sequels.Withdrawn message) end found is e = absurd is
+ends_done point onward carries lasting bars lasts may old (sequels.Failed cause is_old) end found is e = absurd is
 
-ends_closed : {M T : Type 0} (point : Point) (onward carries : T → Type 0) (x y : T) (outcome : Outcome) (old : Bool) (sequel : Sequel M) (end : End)
-    → x ≡ y → IsSequel outcome (onward x) (carries x) old sequel → IsEndOf point sequel end → EndsAs point outcome (onward y) (carries y) end
-ends_closed {M} {T} point onward carries x y Done old sequel end same is e = subst (λ (z : T). EndsAs point Done (onward z) (carries z) end) same (ends_done point (onward x) (carries x) old sequel end is e)
-ends_closed point onward carries x y (Fail cause) old sequel end same is e = ends_failed point cause (onward x) (carries x) (onward y) (carries y) old sequel end is e
+ends_failed : {M : Type 0} (point : Point) (cause : Cause) (onward carries : Type 0) (further carries_further lasting bars : Type 0) (lasts may old : Bool) (sequel : Sequel M) (end : End)
+    → (may ≡ false → bars) → IsSequel (Fail cause) onward carries lasts may old sequel → IsEndOf point sequel end → EndsAs point (Fail cause) further carries_further lasting bars end
+ends_failed point cause onward carries further carries_further lasting bars lasts may old (sequels.Sent message) end b is e = absurd is
+ends_failed point cause onward carries further carries_further lasting bars lasts may old (sequels.Answered None on) end b is e = absurd is
+ends_failed point cause onward carries further carries_further lasting bars lasts may old (sequels.Answered (Some message) on) end b is e = absurd is
+ends_failed point cause onward carries further carries_further lasting bars lasts may old (sequels.Withdrawn message) (ends.Sent has_memory) b is e = absurd e
+ends_failed point cause onward carries further carries_further lasting bars lasts may old (sequels.Withdrawn message) (ends.Answered keeps told) b is e = absurd e
+ends_failed point cause onward carries further carries_further lasting bars lasts may old (sequels.Withdrawn message) (ends.Withdrawn has_memory) b is e = is.0
+ends_failed point cause onward carries further carries_further lasting bars lasts may old (sequels.Withdrawn message) (ends.Failed status) b is e = absurd e
+ends_failed point cause onward carries further carries_further lasting bars lasts may old (sequels.Withdrawn message) ends.Stopped b is e = absurd e
+ends_failed point cause onward carries further carries_further lasting bars lasts may old (sequels.Withdrawn message) ends.Lost b is e = absurd e
+ends_failed point cause onward carries further carries_further lasting bars lasts may old (sequels.Failed why is_old) (ends.Sent has_memory) b is e = absurd e
+ends_failed point cause onward carries further carries_further lasting bars lasts may old (sequels.Failed why is_old) (ends.Answered keeps told) b is e = absurd e
+ends_failed point cause onward carries further carries_further lasting bars lasts may old (sequels.Failed why is_old) (ends.Withdrawn has_memory) b is e = absurd e
+ends_failed point cause onward carries further carries_further lasting bars lasts may old (sequels.Failed why is_old) (ends.Failed status) b is e =
+    let told = subst (λ (z : Cause). (is_user_lost z point ≡ false) × (status_of status ≡ refusal_status z point)) is.0 e in
+    (told.0, told.1, λ hop. b (is.2 hop))
+ends_failed point cause onward carries further carries_further lasting bars lasts may old (sequels.Failed why is_old) ends.Stopped b is e = absurd e
+ends_failed point cause onward carries further carries_further lasting bars lasts may old (sequels.Failed why is_old) ends.Lost b is e = subst (λ (z : Cause). is_user_lost z point ≡ true) is.0 e
+
+ends_closed : {M T : Type 0} (point : Point) (onward carries lasting : T → Type 0) (bars : Type 0) (x y : T) (outcome : Outcome) (lasts may old : Bool) (sequel : Sequel M) (end : End)
+    → x ≡ y → (lasts ≡ true ↔ lasting x) → (may ≡ false → bars) → IsSequel outcome (onward x) (carries x) lasts may old sequel → IsEndOf point sequel end
+    → EndsAs point outcome (onward y) (carries y) (lasting y) bars end
+ends_closed {M} {T} point onward carries lasting bars x y Done lasts may old sequel end same found b is e =
+    subst (λ (z : T). EndsAs point Done (onward z) (carries z) (lasting z) bars end) same (ends_done point (onward x) (carries x) (lasting x) bars lasts may old sequel end found is e)
+ends_closed point onward carries lasting bars x y (Fail cause) lasts may old sequel end same found b is e =
+    ends_failed point cause (onward x) (carries x) (onward y) (carries y) (lasting y) bars lasts may old sequel end b is e
+
+-- where nothing else ended it
+itself_with : (by : EndedBy) {P Q : Type 0} → (is_by_itself by ≡ true → P → Q) → IfItself by P → IfItself by Q
+itself_with ended.Itself f p = f refl p
+itself_with ended.Gate f p = f refl p
+itself_with ended.Deadline f p = tt
+itself_with ended.Stop f p = tt
+itself_with ended.User f p = tt
 
 -- the end that is told of a transaction goes by what it was, closed or open
-pub ends_told : {M T : Type 0} (point : Point) (onward carries : T → Type 0) (x y : T) (closed : Bool) (outcome : Outcome) (old : Bool) (sequel : Sequel M) (by : EndedBy) (end : End)
-    → (closed ≡ true → x ≡ y) → IsSequel (ended_as closed outcome) (onward x) (carries x) old sequel → IfItself by (IsEndOf point sequel end) → IfItself by (EndsAs point (ended_as closed outcome) (onward y) (carries y) end)
-ends_told point onward carries x y true outcome old sequel by end same is itself = itself_then by (λ e. ends_closed point onward carries x y outcome old sequel end (same refl) is e) itself
-ends_told point onward carries x y false outcome old sequel by end same is itself = itself_then by (λ e. ends_failed point Stopping (onward x) (carries x) (onward y) (carries y) old sequel end is e) itself
+pub ends_told : {M T : Type 0} (point : Point) (onward carries lasting : T → Type 0) (bars : Type 0) (x y : T) (closed : Bool) (outcome : Outcome) (lasts may old : Bool) (sequel : Sequel M)
+    (by : EndedBy) (end : End) → (closed ≡ true → x ≡ y) → (lasts ≡ true ↔ lasting x) → (is_by_itself by ≡ true → may ≡ false → bars)
+    → IsSequel (ended_as closed outcome) (onward x) (carries x) lasts may old sequel → IfItself by (IsEndOf point sequel end)
+    → IfItself by (EndsAs point (ended_as closed outcome) (onward y) (carries y) (lasting y) bars end)
+ends_told point onward carries lasting bars x y true outcome lasts may old sequel by end same found b is itself =
+    itself_with by (λ i e. ends_closed point onward carries lasting bars x y outcome lasts may old sequel end (same refl) found (b i) is e) itself
+ends_told point onward carries lasting bars x y false outcome lasts may old sequel by end same found b is itself =
+    itself_with by (λ i e. ends_failed point Stopping (onward x) (carries x) (onward y) (carries y) (lasting y) bars lasts may old sequel end (b i) is e) itself
+
+withdrawn_is : {M : Type 0} (point : Point) (outcome : Outcome) (onward carries : Type 0) (lasts may old has_memory : Bool) (sequel : Sequel M)
+    → IsSequel outcome onward carries lasts may old sequel → IsEndOf point sequel (ends.Withdrawn has_memory) → may ≡ true
+withdrawn_is point outcome onward carries lasts may old has_memory (sequels.Sent message) is e = absurd e
+withdrawn_is point outcome onward carries lasts may old has_memory (sequels.Answered message on) is e = absurd e
+withdrawn_is point Done onward carries lasts may old has_memory (sequels.Withdrawn message) is e = absurd is
+withdrawn_is point (Fail cause) onward carries lasts may old has_memory (sequels.Withdrawn message) is e = is.1
+withdrawn_is point outcome onward carries lasts may old has_memory (sequels.Failed why is_old) is e = absurd e
+
+-- only what was withdrawn is told so
+pub withdrawn_told : {M : Type 0} (point : Point) (outcome : Outcome) (onward carries : Type 0) (lasts may old has_memory : Bool) (sequel : Sequel M) (by : EndedBy) (end : End)
+    → IsSequel outcome onward carries lasts may old sequel → EndsBy by end → IfItself by (IsEndOf point sequel end) → end ≡ ends.Withdrawn has_memory → may ≡ true
+withdrawn_told point outcome onward carries lasts may old has_memory sequel ended.Deadline end is by itself e = absurd cc
+withdrawn_told point outcome onward carries lasts may old has_memory sequel ended.Stop end is by itself e = absurd cc
+withdrawn_told point outcome onward carries lasts may old has_memory sequel ended.User end is by itself e = absurd cc
+withdrawn_told point outcome onward carries lasts may old has_memory sequel ended.Itself end is by itself e =
+    withdrawn_is point outcome onward carries lasts may old has_memory sequel is (subst (λ (z : End). IsEndOf point sequel z) e itself)
+withdrawn_told point outcome onward carries lasts may old has_memory sequel ended.Gate end is by itself e =
+    withdrawn_is point outcome onward carries lasts may old has_memory sequel is (subst (λ (z : End). IsEndOf point sequel z) e itself)

@@ -1,14 +1,18 @@
 -- How a message set out, and what becomes of that.
-use Rattle.std.specs.Prelude.{◌≡◌, ℕ, List, Option, None, IfSome}
+use Rattle.std.specs.Prelude.{◌≡◌, ⊤, ℕ, Bool, true, List, [], Option, None, Some, Box, IfSome}
+use Rattle.std.specs.declared.alloc.Global.{Global}
 use Rattle.trace_core.specs.declared.history.Point.{Point}
 use Rattle.trace_core.specs.declared.history.Point.TheVariants.{Reqmod, Respmod}
 use Rattle.wire_kit.specs.declared.wire.Wire.{Ghosts as Wire}
 use Rattle.http_relay.specs.declared.side.SourceSide.{SourceSide}
-use Rattle.proxy_rules.specs.Arrivals.{Came, point_of}
+use Rattle.proxy_rules.specs.Arrivals.{Arrival, Came, HasCome, point_of}
+use Rattle.proxy_rules.specs.Grown.{Grown}
 use Rattle.proxy_rules.specs.Offers.{text_of}
 use Rattle.proxy_rules.specs.Since.{Snapshot, held_or}
 use Rattle.shard_effects.specs.declared.answers.Round.{Round}
 use Rattle.shard_effects.specs.declared.answers.Round.TheVariants as rounds
+use Rattle.shard_effects.specs.declared.ends.End.{End}
+use Rattle.shard_effects.specs.declared.ends.End.TheVariants as ends
 use Rattle.shard_message.specs.Begun.{Beginning}
 
 -- How a message set out. Its connections are as they were then, and its source's as it was before the first byte of the message was read
@@ -45,6 +49,13 @@ pub record SetsOut {U S O : Type 0} (u : Wire U) (o : Wire O) (b : Beginning) (u
   pub came : HasComeOver u o (point_of b.message.user) b.message.side s since user origin
   pub request : IfSome b.planned (λ planned. s.request ≡ text_of planned.value.offer.side)
   pub line : (s.line ≡ service) × (s.given ≡ None)
+
+-- Where an answer of the origin begins, no byte of it was read yet; and since its request set out over this connection, which is as it was
+-- dialed, and so as an earlier exchange left it, where one did, the connection has given nothing.
+abbrev pub BeginsClean : {O : Type 0} → Wire O → End → (dialed : O) → (origin : Option O) → Option (Box Arrival Global) → Type 0
+BeginsClean o (ends.Sent true) dialed (Some origin) (Some message) = HasCome [] message.value.side × ((taken : List ℕ) × Grown (o.past dialed) (o.past origin) [] taken)
+BeginsClean o (ends.Sent true) dialed origin message = ⊥
+BeginsClean o end dialed origin message = ⊤
 
 -- What a round makes of the service's connection as the request began on it, and as it was given up: the request began anew on one that
 -- was opened for that; or the message is over, and a broken one may have been closed; or nothing changed.

@@ -1,11 +1,12 @@
 -- What a transaction of the proxy's own sides says to the exchange that it belongs to.
-use Rattle.std.specs.Prelude.{◌≡◌, Bool, true, false, not, ◌==◌, [], Option, None, Some}
+use Rattle.std.specs.Prelude.{◌≡◌, ℕ, Bool, true, false, not, ◌==◌, List, [], Option, None, Some}
 use Rattle.trace_core.specs.declared.history.Point.{Point}
 use Rattle.adapt_turn.specs.declared.ends.ServiceEnd.{ServiceEnd}
 use Rattle.adapt_turn.specs.Refusals.{user_untouched}
 use Rattle.http_side.specs.Heads.{RequestParts}
 use Rattle.icap_client.specs.Turns.{is_reusable}
 use Rattle.http_relay.specs.declared.side.SourceSide.{SourceSide}
+use Rattle.http_relay.specs.Reading.{ComesAgain}
 use Rattle.proxy_rules.specs.Arrivals.{Arrival, HasCome}
 use Rattle.proxy_rules.specs.Running.{OwnEnds}
 
@@ -29,6 +30,11 @@ is_old_in (Some head) = head.minor == 0
 -- this message is the response to this request, before its first byte
 abbrev pub IsResponseTo : SourceSide → Arrival → Type 0
 IsResponseTo request message = (message.user ≡ Some request) × HasCome [] message.side
+
+-- this message is this request again, whose head was read once more: its bytes are a text that is just that head, and then those that were
+-- left over
+abbrev pub IsRequestAgain : SourceSide → Arrival → Type 0
+IsRequestAgain request message = (message.user ≡ None) × ((bytes : List ℕ) × ComesAgain request.head request.raw.items bytes × HasCome bytes message.side)
 
 -- this message is the next request on the connection of this one: it begins with the bytes that were left over
 abbrev pub IsRequestAfter : SourceSide → Arrival → Type 0

@@ -1,7 +1,8 @@
 //! A leased connection on which a service is asked for its options.
 
-ghost use Rattle.std.specs.Prelude.{◌≡◌, is_some, IfErr, true};
+ghost use Rattle.std.specs.Prelude.{◌≡◌, is_some, IfOk, IfErr, IfSome, IsSomeAnd, false, true};
 ghost use Rattle.shard_effects.specs.Reasons.{lies_elsewhere};
+ghost use Rattle.shard_outside.specs.Learning.{IsAsking};
 
 use crate::connection::{Connection, lay_wire};
 use icap_client::OptionsSide;
@@ -44,7 +45,9 @@ fn reopen<P, O: Outside<P>>(
     out: &mut O,
     connection: &mut Connection<O>,
 ) -> Result<O::Service, Reason>
-    ensures { IfErr result (λ reason. lies_elsewhere reason ≡ true) }
+    ensures point { O.point_of connection.new.lease ≡ O.point_of connection.old.lease }
+    ensures fresh { IfOk result (λ _. O.is_reused connection.new.lease ≡ false) }
+    ensures suits { IfErr result (λ reason. lies_elsewhere reason ≡ true) }
 {
     connection.wire = None;
     match out.reopen(at, &mut connection.lease) {
@@ -60,11 +63,13 @@ fn renew<P, O: Outside<P>>(
     connection: &mut Option<Connection<O>>,
 ) -> Result<(), Reason>
     ensures leased { is_some connection.new ≡ is_some connection.old }
+    ensures fresh { IfOk result (λ _. IfSome connection.old (λ old. IfSome connection.new (λ new.
+        (O.point_of new.lease ≡ O.point_of old.lease) × (O.is_reused new.lease ≡ false)))) }
     ensures suits { IfErr result (λ reason. lies_elsewhere reason ≡ true) }
 {
     let opened = match connection {
         Some(connection) => reopen(at, out, connection),
-        None => Err(Reason::Service),
+        None => Err(Reason::ServiceRefused),
     };
     match opened {
         Ok(wire) => {
@@ -75,7 +80,7 @@ fn renew<P, O: Outside<P>>(
     }
 }
 
-/// Begins to ask anew, on a fresh connection.
+/// Begins to ask the service of a point anew, on a fresh connection.
 pub fn begin_anew<P, O: Outside<P>>(
     at: &P,
     out: &mut O,
@@ -84,6 +89,9 @@ pub fn begin_anew<P, O: Outside<P>>(
     leased: &mut Option<Connection<O>>,
 ) -> Result<(), Reason>
     ensures leased { is_some leased.new ≡ is_some leased.old }
+    ensures fresh { IfOk result (λ _. IfSome leased.old (λ old. IfSome leased.new (λ new.
+        (O.point_of new.lease ≡ O.point_of old.lease) × (O.is_reused new.lease ≡ false)))) }
+    ensures asks { IfOk result (λ _. IsSomeAnd asking.new (λ side. IsAsking (O.config_is out.new) point side.value.waiting)) }
     ensures suits { IfErr result (λ reason. lies_elsewhere reason ≡ true) }
 {
     match renew(at, out, leased) {

@@ -1,6 +1,6 @@
 //! A leased connection to a service.
 
-ghost use Rattle.std.specs.Prelude.{◌≡◌, is_some};
+ghost use Rattle.std.specs.Prelude.{◌≡◌, is_some, IfSome};
 ghost use Rattle.shard_message.specs.Lines.{line_in, HasLine};
 
 use shard_outside::Kinds;
@@ -27,6 +27,7 @@ pub(crate) fn take_wire<O: Kinds>(connection: &mut Option<Connection<O>>) -> Opt
 /// Puts a connection beside its lease. Without one it is closed.
 pub fn lay_wire<O: Kinds>(connection: &mut Option<Connection<O>>, wire: O::Service)
     ensures leased { is_some connection.new ≡ is_some connection.old }
+    ensures lease { IfSome connection.old (λ old. IfSome connection.new (λ new. new.lease ≡ old.lease)) }
     ensures laid { HasLine (λ leased. leased.wire) connection.new wire }
 {
     if let Some(connection) = connection {

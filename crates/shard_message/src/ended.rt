@@ -1,8 +1,8 @@
 //! How messages end.
 
-ghost use Rattle.std.specs.Prelude.{◌≡◌, ◌&&◌, IfSome};
+ghost use Rattle.std.specs.Prelude.{◌≡◌, ◌&&◌, IfSome, None};
 ghost use Rattle.shard_effects.specs.Ends.{EndsBy, IfItself};
-ghost use Rattle.shard_message.specs.Ended.{IsEndOf, is_cut, message_in};
+ghost use Rattle.shard_message.specs.Ended.{IfOther, IsEndOf, is_cut, message_in};
 
 use adapt_turn::Outcome;
 use exchange_core::RefusalCause;
@@ -26,14 +26,28 @@ pub(crate) fn outcome_by(by: EndedBy, own: Outcome) -> Option<Outcome> {
 pub(crate) enum Sequel<M> {
     /// The origin has the whole request. This is its response, where memory was found for it.
     Sent(Option<Box<M>>),
-    /// The user has the whole answer. This is its next request, where its connection serves further.
-    Answered(Option<Box<M>>),
+    /// The user has the whole answer.
+    Answered {
+        /// Its next request, where its connection serves further.
+        next: Option<Box<M>>,
+        /// Whether another request may go out on the origin's connection.
+        lasts: bool,
+    },
+    /// The origin's kept connection has ended with no byte of an answer. This is the request again, where memory was found for it.
+    Withdrawn(Option<Box<M>>),
     /// It failed.
     Failed {
         cause: Cause,
         /// Whether the user's request is of HTTP/1.0.
         is_old: bool,
     },
+}
+
+impl<M> Sequel<M> {
+    /// Whether it is the request again.
+    pub(crate) fn is_again(&self) -> bool {
+        matches!(self, Sequel::Withdrawn(Some(_)))
+    }
 }
 
 /// How a message ended.
@@ -49,8 +63,12 @@ fn end_of<M>(by: EndedBy, point: Point, sequel: &Sequel<M>) -> End
             Sequel::Sent(response) => End::Sent {
                 has_memory: response.is_some(),
             },
-            Sequel::Answered(next) => End::Answered {
+            Sequel::Answered { next, lasts } => End::Answered {
                 keeps: next.is_some(),
+                lasts: *lasts,
+            },
+            Sequel::Withdrawn(again) => End::Withdrawn {
+                has_memory: again.is_some(),
             },
             Sequel::Failed { cause, .. } => {
                 if *cause == Cause::NextHop && point == Point::Respmod {
@@ -79,7 +97,8 @@ pub(crate) fn report_of<M>(
     ensures served { IfSome result.served (λ usable. usable ≡ is_reusable) }
 {
     let (is_whole, is_old) = match sequel {
-        Sequel::Sent(_) | Sequel::Answered(_) => (true, false),
+        Sequel::Sent(_) | Sequel::Answered { .. } => (true, false),
+        Sequel::Withdrawn(_) => (false, false),
         Sequel::Failed { is_old, .. } => (false, *is_old),
     };
     Report {
@@ -94,12 +113,21 @@ pub(crate) fn report_of<M>(
     }
 }
 
-/// The message that comes next.
-pub(crate) fn message_of<M: Drop>(sequel: Sequel<M>) -> Option<Box<M>>
-    ensures { result ≡ message_in sequel }
+/// The message that comes next: none where the transaction didn't end by itself.
+pub(crate) fn message_of<M: Drop>(by: EndedBy, sequel: Sequel<M>) -> Option<Box<M>>
+    ensures itself { IfItself by (result ≡ message_in sequel) }
+    ensures other { IfOther by (result ≡ None) }
 {
-    match sequel {
-        Sequel::Sent(message) | Sequel::Answered(message) => message,
-        Sequel::Failed { .. } => None,
+    match (by, sequel) {
+        (
+            EndedBy::Itself | EndedBy::Gate,
+            Sequel::Sent(message)
+            | Sequel::Withdrawn(message)
+            | Sequel::Answered {
+                next: message,
+                lasts: _,
+            },
+        ) => message,
+        _ => None,
     }
 }

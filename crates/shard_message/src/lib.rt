@@ -16,6 +16,7 @@ mod sides;
 mod start;
 mod taken;
 mod turns;
+mod withdrawal;
 
 pub use accounts::Accounted;
 pub use asking::{begin_anew, hear_on, is_fresh};
@@ -23,5 +24,6 @@ pub use connection::{Connection, lay_wire};
 pub use moving::{Connections, Moves, Moving, OnItsWay, Remains, take_connections};
 pub use room::{Room, dial_for, make_room};
 pub use settled::Settled;
-pub use start::pace_of;
+pub use start::{Manner, manner_of};
 pub use turns::{Rounding, Turning};
+pub use withdrawal::{has_given_none, request_again};

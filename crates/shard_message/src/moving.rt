@@ -2,26 +2,29 @@
 
 ghost use Rattle.std.specs.Prelude.{◌≡◌, ◌&&◌, ℕ, is_some, None, Some, true, false, Bool, Option, Box as AnyBox, IfSome, IfOk, IfErr};
 ghost use Rattle.std.specs.declared.alloc.Global.{Global as Heap};
+ghost use Rattle.exchange_core.specs.declared.event.Event.TheVariants.{Withdrawn};
+ghost use Rattle.exchange_core.specs.May.{may_come};
 ghost use Rattle.proxy_rules.specs.Arrivals.{Arrival};
 ghost use Rattle.shard_message.specs.Told.{has_answered, may_serve_again};
 ghost use Rattle.shard_effects.specs.Ends.{EndsBy, IfItself};
 ghost use Rattle.shard_effects.specs.declared.ends.End.{End as AnyEnd};
 ghost use Rattle.shard_message.specs.Begun.{Beginning, beginning};
+ghost use Rattle.shard_message.specs.Ended.{HasGiven, HasGivenSince, IsBarred, IsWithdrawable};
 ghost use Rattle.shard_message.specs.Lines.{HasLine, line_for};
-ghost use Rattle.shard_message.specs.Outset.{IsLineAfter, Outset, SetsOut};
+ghost use Rattle.shard_message.specs.Outset.{BeginsClean, IsLineAfter, Outset, SetsOut};
 ghost use Rattle.proxy_rules.specs.Since.{freed_wire, held_or};
 
 use crate::accounts::Accounted;
 use crate::connection::{Connection, lay_wire, take_wire};
 use crate::room::Room;
 use crate::settled::{Settled, settle_request, settle_response};
-use crate::start::set_out;
+use crate::start::{Manner, set_out};
 use crate::taken::stake_of;
 use crate::turns::round_of;
 use adapt_turn::FreedConnection;
-use plan_rules::Pace;
+use exchange_core::Exchange;
 use proxy_rules::{Incoming, Running, Way};
-use shard_effects::{EndedBy, Round};
+use shard_effects::{End, EndedBy, Round};
 use shard_outside::{Kinds, Outside, take_out};
 use span_bank::{Bank, Stake};
 use std::boxed::Box;
@@ -59,11 +62,12 @@ pub trait OnItsWay {
     // the connection to its service may carry another request
     ghost reusable: { Self → Bool };
 
-    // what its course is told where nothing else ends it: by how its transaction ended, or by the stop where that is open
-    ghost ends: { Self → AnyEnd → Type 0 };
+    // what its course is told where nothing else ends it: by how its transaction ended, or by the stop where that is open; and by whether
+    // something bars a request from being withdrawn
+    ghost ends: { Self → (bars : Type 0) → AnyEnd → Type 0 };
 
-    // the message that comes after it, where nothing else ends it, by what its course is told: the response to a request, or the next
-    // request of its user, which begins with the bytes that were left over of this one
+    // the message that comes after it by what its course is told: the response to a request; the next request of its user, which begins
+    // with the bytes that were left over of this one; or the request again that was withdrawn
     ghost followed_by: { Self → AnyEnd → Option (AnyBox Arrival Heap) → Type 0 };
 
     // by whether a byte of an answer went to the user: its connection is cut, where the message failed and the user, of HTTP/1.0, may
@@ -78,9 +82,9 @@ impl<O: Kinds> OnItsWay for Moving<O> {
     ghost use Rattle.adapt_turn.specs.declared.turn.Outcome.TheVariants.{Done};
     ghost use Rattle.http_relay.specs.Giving.{gift_of};
     ghost use Rattle.http_relay.specs.Reading.{request_of};
-    ghost use Rattle.proxy_rules.specs.Connections.{CarriesOn};
+    ghost use Rattle.proxy_rules.specs.Connections.{CarriesOn, Lasts};
     ghost use Rattle.shard_message.specs.Ended.{EndsAs, IfAsked, IsNextBy, ended_as, fails};
-    ghost use Rattle.shard_message.specs.Told.{IsRequestAfter, IsResponseTo, is_old_in};
+    ghost use Rattle.shard_message.specs.Told.{IsRequestAfter, IsRequestAgain, IsResponseTo, is_old_in};
     ghost use Rattle.shard_message.specs.declared.moving.Moving.TheVariants.{Request, Response};
 
     ghost answered = { λ moving. elim moving [
@@ -93,16 +97,17 @@ impl<O: Kinds> OnItsWay for Moving<O> {
       | Response tx ↦ may_serve_again tx.value.tx.ends
     ] };
 
-    ghost ends = { λ moving end. elim moving [
+    ghost ends = { λ moving bars end. elim moving [
       | Request tx ↦ EndsAs tx.value.tx.hold.history.plan.point (ended_as (shows tx.value.tx.hold.history).closed tx.value.tx.outcome)
-          (gift_of tx.value.tx.ends.back.stage ≡ nothing) (CarriesOn Done tx.value.tx.ends.maker.closes tx.value.tx.ends.source) end
+          (gift_of tx.value.tx.ends.back.stage ≡ nothing) (CarriesOn Done tx.value.tx.ends.maker.closes tx.value.tx.ends.source) ⊥ bars end
       | Response tx ↦ EndsAs tx.value.tx.hold.history.plan.point (ended_as (shows tx.value.tx.hold.history).closed tx.value.tx.outcome)
-          ⊥ (IfAsked (CarriesOn Done tx.value.tx.ends.maker.closes) tx.value.tx.ends.maker.user) end
+          ⊥ (IfAsked (CarriesOn Done tx.value.tx.ends.maker.closes) tx.value.tx.ends.maker.user)
+          (Lasts (ended_as (shows tx.value.tx.hold.history).closed tx.value.tx.outcome) tx.value.tx.ends.source) ⊤ end
     ] };
 
     ghost followed_by = { λ moving end next. elim moving [
-      | Request tx ↦ IsNextBy (IsResponseTo tx.value.tx.ends.source) (IsRequestAfter tx.value.tx.ends.source) end next
-      | Response tx ↦ IsNextBy (λ _. ⊥) (λ next. IfAsked (λ user. IsRequestAfter user next) tx.value.tx.ends.maker.user) end next
+      | Request tx ↦ IsNextBy (IsResponseTo tx.value.tx.ends.source) (IsRequestAfter tx.value.tx.ends.source) (IsRequestAgain tx.value.tx.ends.source) end next
+      | Response tx ↦ IsNextBy (λ _. ⊥) (λ next. IfAsked (λ user. IsRequestAfter user next) tx.value.tx.ends.maker.user) (λ _. ⊥) end next
     ] };
 
     ghost cut_is = { λ moving answered cut. elim moving [
@@ -205,13 +210,12 @@ impl<O: Kinds> Moving<O> {
         message: Box<Incoming>,
         room: Room<O::Ledgers>,
         connections: Connections<O>,
-        pace: Pace,
-        last: bool,
+        manner: Manner,
     ) -> Result<Moving<O>, Remains<O>>
     where
         O: Outside<P>,
-        ensures begins { IfOk result (λ moving. ⟦<Self as Moves<O>>⟧.begins (beginning room.planned message.value pace last) connections.user connections.service connections.origin moving) }
-        ensures since { IfOk result (λ moving. (s : Outset O.User O.Service O.Origin) → SetsOut O.User.Wire O.Origin.Wire (beginning room.planned message.value pace last) connections.user connections.service connections.origin s
+        ensures begins { IfOk result (λ moving. ⟦<Self as Moves<O>>⟧.begins (beginning room.planned message.value manner) connections.user connections.service connections.origin moving) }
+        ensures since { IfOk result (λ moving. (s : Outset O.User O.Service O.Origin) → SetsOut O.User.Wire O.Origin.Wire (beginning room.planned message.value manner) connections.user connections.service connections.origin s
             → ⟦<Self as Accounted<O>>⟧.since s moving) }
         ensures back { IfErr result (λ remains. (remains.room.planned ≡ None) × (remains.room.limits ≡ room.limits) × (remains.connections ≡ connections)) }
     {
@@ -228,7 +232,7 @@ impl<O: Kinds> Moving<O> {
                     service,
                     next: origin,
                 };
-                match set_out(rt, bank, alloc, message, room, way, pace, last) {
+                match set_out(rt, bank, alloc, message, room, way, manner) {
                     Ok(tx) => Ok(Moving::Request(tx)),
                     Err((room, way)) => Err(request_remains(room, way)),
                 }
@@ -239,7 +243,7 @@ impl<O: Kinds> Moving<O> {
                     service,
                     next: user,
                 };
-                match set_out(rt, bank, alloc, message, room, way, pace, last) {
+                match set_out(rt, bank, alloc, message, room, way, manner) {
                     Ok(tx) => Ok(Moving::Response(tx)),
                     Err((room, way)) => Err(response_remains(room, way)),
                 }
@@ -294,28 +298,44 @@ impl<O: Kinds> Moving<O> {
         }
     }
 
-    /// Takes the transaction apart of a message that is over, or ends by this. What became of the message is noted.
+    /// Takes the transaction apart of a message that is over, or ends by this. What became of the message is noted. The origin's connection
+    /// had given and taken so many bytes before, when it was dialed; by this course its request may be withdrawn or not.
     pub fn settle<P, R: Wait>(
         self,
         rt: &R,
         at: &P,
         out: &mut O,
         by: EndedBy,
+        before: (u64, u64),
+        course: &Exchange,
     ) -> Settled<O, Incoming>
     where
         O: Outside<P>,
         ensures ends { EndsBy by result.report.end }
         ensures answered { result.report.has_answered ≡ ⟦<Self as OnItsWay>⟧.answered self }
-        ensures told { IfItself by (⟦<Self as OnItsWay>⟧.ends self result.report.end) }
+        ensures told { IfItself by (⟦<Self as OnItsWay>⟧.ends self (IsBarred (⟦<Self as OnItsWay>⟧.answered self)
+            (HasGivenSince O.Origin.past (⟦<Self as Accounted<O>>⟧.origin self) before.0) (may_come course.now Withdrawn)) result.report.end) }
         ensures cuts { result.report.has_answered ≡ false → result.report.cuts ≡ false }
         ensures cut { ⟦<Self as OnItsWay>⟧.cut_is self result.report.has_answered result.report.cuts }
         ensures served { IfSome result.report.served (λ usable. usable ≡ ⟦<Self as OnItsWay>⟧.reusable self) }
-        ensures followed { IfItself by (⟦<Self as OnItsWay>⟧.followed_by self result.report.end result.message) }
+        ensures followed { ⟦<Self as OnItsWay>⟧.followed_by self result.report.end result.message }
+        ensures withdrawn { (has_memory : Bool) → result.report.end ≡ End.Withdrawn has_memory
+            → IsWithdrawable by result.report.has_answered (HasGiven O.Origin.past (⟦<Self as Accounted<O>>⟧.origin self) before.0) (may_come course.now Withdrawn) }
+        ensures clean { (s : Outset O.User O.Service O.Origin) → ⟦<Self as Accounted<O>>⟧.since s self
+            → BeginsClean O.Origin.Wire result.report.end s.origin (Some result.remains.connections.origin) result.message }
         ensures wires { (result.remains.connections.user ≡ ⟦<Self as Accounted<O>>⟧.user self) × (result.remains.connections.service ≡ ⟦<Self as Accounted<O>>⟧.service self) × (result.remains.connections.origin ≡ ⟦<Self as Accounted<O>>⟧.origin self) }
     {
         match self {
             Moving::Request(tx) => {
-                settle_request(rt, at, out, Box::into_inner(tx).into_tx(), by)
+                settle_request(
+                    rt,
+                    at,
+                    out,
+                    Box::into_inner(tx).into_tx(),
+                    by,
+                    before,
+                    course,
+                )
             }
             Moving::Response(tx) => {
                 settle_response(rt, at, out, Box::into_inner(tx).into_tx(), by)

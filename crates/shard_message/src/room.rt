@@ -1,16 +1,20 @@
 //! A reservation for a message.
 
 ghost use Rattle.std.specs.Prelude.{◌≡◌, ◌≤◌, IfErr, IfOk, None, true};
+ghost use Rattle.shard_outside.specs.Taking.{taken_if};
 ghost use Rattle.std.specs.Option.{ForSome};
 ghost use Rattle.span_bank.specs.declared.limits.TheConstants.{MAX_CAPACITY};
+ghost use Rattle.exchange_core.specs.declared.dialing.Dialing.TheVariants.{KeptFirst};
 ghost use Rattle.exchange_core.specs.declared.event.RefusalCause.TheVariants.{Scarce};
 ghost use Rattle.plan_rules.specs.Claims.{claim_of};
-ghost use Rattle.shard_effects.specs.Reasons.{cause_of, lies_elsewhere};
+ghost use Rattle.exchange_report.specs.Reasons.{cause_of};
+ghost use Rattle.shard_effects.specs.Reasons.{lies_elsewhere};
 ghost use Rattle.shard_message.specs.Dialed.{LeadsAsPlanned};
 
+use exchange_core::Dialing;
 use plan_rules::{Limits, claim};
 use shard_effects::{Reason, open_reason};
-use shard_outside::{Outside, Planned};
+use shard_outside::{Dialed, Outside, Planned};
 use span_bank::{Bank, Ledgers, Stake};
 use std::boxed::Box;
 use std::sync::Wait;
@@ -78,31 +82,36 @@ pub fn make_room<B: Ledgers, R: Wait>(
     }
 }
 
-/// Opens the connection that a message goes to for which this was reserved.
+/// Opens the connection that a message goes to for which this was reserved, or takes one that an earlier exchange left, where it may.
 pub fn dial_for<P, O: Outside<P>>(
     at: &P,
     out: &mut O,
     room: &Option<Room<O::Ledgers>>,
-) -> Result<O::Origin, Reason>
-    ensures leads { IfOk result (λ origin. LeadsAsPlanned (λ room. room.planned) (O.leads origin) room.now) }
+    dialing: Dialing,
+) -> Result<Dialed<O::Origin>, Reason>
+    ensures leads { IfOk result (λ dialed. LeadsAsPlanned (λ room. room.planned) (O.leads dialed.wire) room.now) }
+    ensures takes { IfOk result (λ dialed. dialing ≡ KeptFirst → LeadsAsPlanned (λ room. room.planned)
+        (λ address. (later : O) × O.takes out.old later at.now address (taken_if dialed.is_kept dialed.wire)) room.now) }
+    ensures allowed { IfOk result (λ dialed. dialed.is_kept ≡ true → dialing ≡ KeptFirst) }
+    ensures kept { IfOk result (λ dialed. dialed.is_kept ≡ true → O.has_kept out.old dialed.wire) }
     ensures suits { IfErr result (λ reason. lies_elsewhere reason ≡ true) }
 {
-    let address = match room {
+    let route = match room {
         Some(
             Room {
                 planned: Some(planned),
                 ..
             },
-        ) => planned.address,
+        ) => planned.route,
         _ => None,
     };
-    let Some(address) = address else {
+    let Some(route) = route else {
         return Err(Reason::UnknownHost);
     };
-    match out.dial(at, address) {
-        Ok(origin) => {
-            out.note_origin(at, address);
-            Ok(origin)
+    match out.dial(at, route.address, dialing) {
+        Ok(dialed) => {
+            out.note_route(at, route);
+            Ok(dialed)
         }
         Err(reason) => Err(reason),
     }

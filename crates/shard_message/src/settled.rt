@@ -1,21 +1,25 @@
 //! Transactions taken apart: what they stood over, and what comes of their messages.
 
-ghost use Rattle.std.specs.Prelude.{◌≡◌, ◌&&◌, false, true, IfSome, not};
+ghost use Rattle.std.specs.Prelude.{◌≡◌, ◌&&◌, ⊤, Bool as AnyBool, None, false, true, IfSome, not};
+ghost use Rattle.trace_core.specs.declared.history.Cause.TheVariants.{NextHop};
+ghost use Rattle.exchange_core.specs.declared.event.Event.TheVariants.{Withdrawn};
+ghost use Rattle.exchange_core.specs.May.{may_come};
 ghost use Rattle.shard_effects.specs.Ends.{EndsBy, IfItself};
 ghost use Rattle.adapt_hold.specs.Holding.{shows};
 ghost use Rattle.adapt_sides.specs.Turns.Gift.{nothing};
 ghost use Rattle.adapt_turn.specs.ChosenHead.{wire_of};
 ghost use Rattle.adapt_turn.specs.Refusals.{user_untouched};
-ghost use Rattle.shard_message.specs.Ended.{Brings, EndsAs, IfAsked, IsEndOf, IsNextBy, IsSequel, ended_as, fails, is_cut, message_in, old_where_asked};
+ghost use Rattle.shard_message.specs.Ended.{Brings, EndsAs, HasGiven, HasGivenSince, IfAsked, IfOther, IsBarred, IsEndOf, IsNextBy, IsSequel, IsWithdrawable, ended_as, fails, is_by_itself, is_cut, message_in, old_where_asked};
 ghost use Rattle.shard_message.specs.Told.{reusable_by};
 
 use crate::ended::{Sequel, message_of, outcome_by, report_of};
 use crate::moving::{Connections, Remains};
 use crate::room::room_of;
-use crate::sides::{Asked, MadeHead, Served};
+use crate::sides::{Answers, Asked, MadeHead, Served};
 use crate::taken::{parts_of, wire_of};
 use adapt_sides::{ClientFault, Hop};
 use adapt_turn::{EndTypes, Ends, Outcome, ServiceEnd, Tx, TxParts};
+use exchange_core::{Event, Exchange};
 use icap_client::Found;
 use plan_rules::Limits;
 use shard_effects::{End, EndedBy, Reason, Report};
@@ -24,7 +28,7 @@ use span_bank::Stake;
 use std::alloc::Global;
 use std::boxed::Box;
 use std::sync::Wait;
-use trace_core::Seen;
+use trace_core::{Cause, Seen};
 use wire_kit::Wire;
 
 /// What is left of a message whose transaction is over.
@@ -39,6 +43,24 @@ pub struct Settled<O: Kinds, M> {
 /// Whether nothing went over a connection.
 fn is_fresh<W: Wire>(wire: &W) -> bool {
     wire.counts() == (0, 0)
+}
+
+/// Whether a request may be withdrawn from its origin's connection: nothing else ended its transaction, no byte of an answer went to the
+/// user, the course lets it, and the connection has given no more than it had given before.
+fn may_withdraw<W: Wire>(
+    by: EndedBy,
+    has_answered: bool,
+    origin: &W,
+    before: u64,
+    course: &Exchange,
+) -> bool
+    ensures may { result ≡ true → IsWithdrawable by has_answered (HasGiven W.past origin.now before) (may_come course.now Withdrawn) }
+    ensures bars { result ≡ false → is_by_itself by ≡ true → IsBarred has_answered (HasGivenSince W.past origin.now before) (may_come course.now Withdrawn) }
+{
+    matches!(by, EndedBy::Itself | EndedBy::Gate)
+        && !has_answered
+        && course.may(Event::Withdrawn)
+        && origin.counts().0 == before
 }
 
 /// A message on the heap, where memory is found for it.
@@ -57,52 +79,69 @@ fn answered<S: Asked>(
     request: S,
     outcome: Outcome,
     closes: bool,
+    lasts: bool,
 ) -> Sequel<S::Message>
-    ensures sequel { IsSequel outcome ⊥ (S.carries_on Outcome.Done closes request) (S.is_old request) result }
-    ensures brings { Brings (λ _. ⊥) (S.is_next request) result }
+    ensures sequel { IsSequel outcome ⊥ (S.carries_on Outcome.Done closes request) lasts false (S.is_old request) result }
+    ensures brings { Brings (λ _. ⊥) (S.is_next request) (λ _. ⊥) result }
 {
     match outcome {
         Outcome::Fail(cause) => Sequel::Failed {
             cause,
             is_old: request.is_old(),
         },
-        Outcome::Done if request.keeps(outcome, closes) => match request.next_request() {
-            Some(next) => Sequel::Answered(boxed(alloc, next)),
-            None => Sequel::Answered(None),
-        },
-        Outcome::Done => Sequel::Answered(None),
+        Outcome::Done if request.keeps(outcome, closes) => {
+            let next = match request.next_request() {
+                Some(next) => boxed(alloc, next),
+                None => None,
+            };
+            Sequel::Answered { next, lasts }
+        }
+        Outcome::Done => Sequel::Answered { next: None, lasts },
     }
 }
 
+/// What comes of a request whose origin's kept connection has ended: it is there again, where memory is found for it.
+fn withdrawn<S: Asked>(alloc: Global, request: S) -> Sequel<S::Message>
+    ensures sequel { IsSequel (Outcome.Fail NextHop) ⊥ ⊥ false true (S.is_old request) result }
+    ensures brings { Brings (λ _. ⊥) (λ _. ⊥) (S.is_again request) result }
+{
+    Sequel::Withdrawn(match request.again() {
+        Some(again) => boxed(alloc, again),
+        None => None,
+    })
+}
+
 /// What comes of a message whose request is lost: no further one of its user's connection.
-fn unasked<M>(outcome: Outcome) -> Sequel<M>
-    ensures sequel { IsSequel outcome ⊥ ⊥ true result }
-    ensures brings { Brings (λ _. ⊥) (λ _. ⊥) result }
+fn unasked<M>(outcome: Outcome, lasts: bool) -> Sequel<M>
+    ensures sequel { IsSequel outcome ⊥ ⊥ lasts false true result }
+    ensures brings { Brings (λ _. ⊥) (λ _. ⊥) (λ _. ⊥) result }
 {
     match outcome {
         Outcome::Fail(cause) => Sequel::Failed {
             cause,
             is_old: true,
         },
-        Outcome::Done => Sequel::Answered(None),
+        Outcome::Done => Sequel::Answered { next: None, lasts },
     }
 }
 
-/// What comes of a request: the origin has it, unless an answer went back.
+/// What comes of a request: the origin has it, unless an answer went back. One that may be withdrawn is there again where its connection to
+/// the origin failed.
 fn after_request<S: Asked, K: Hop>(
     alloc: Global,
     request: S,
     back: &K,
     outcome: Outcome,
     closes: bool,
+    may_withdraw: bool,
 ) -> Sequel<S::Message>
-    ensures sequel { IsSequel outcome (K.gift back.now ≡ nothing) (S.carries_on Outcome.Done closes request) (S.is_old request) result }
-    ensures brings { Brings (S.is_response request) (S.is_next request) result }
+    ensures sequel { IsSequel outcome (K.gift back.now ≡ nothing) (S.carries_on Outcome.Done closes request) false may_withdraw (S.is_old request) result }
+    ensures brings { Brings (S.is_response request) (S.is_next request) (S.is_again request) result }
 {
-    if outcome == Outcome::Done && back.is_idle() {
-        Sequel::Sent(boxed(alloc, request.response(alloc)))
-    } else {
-        answered(alloc, request, outcome, closes)
+    match outcome {
+        Outcome::Done if back.is_idle() => Sequel::Sent(boxed(alloc, request.response(alloc))),
+        Outcome::Fail(Cause::NextHop) if may_withdraw => withdrawn(alloc, request),
+        _ => answered(alloc, request, outcome, closes, false),
     }
 }
 
@@ -112,13 +151,14 @@ fn after_response<S: Asked>(
     request: Option<S>,
     outcome: Outcome,
     closes: bool,
+    lasts: bool,
 ) -> Sequel<S::Message>
-    ensures sequel { IsSequel outcome ⊥ (IfAsked (S.carries_on Outcome.Done closes) request) (old_where_asked S.is_old request) result }
-    ensures brings { Brings (λ _. ⊥) (λ next. IfAsked (λ user. S.is_next user next) request) result }
+    ensures sequel { IsSequel outcome ⊥ (IfAsked (S.carries_on Outcome.Done closes) request) lasts false (old_where_asked S.is_old request) result }
+    ensures brings { Brings (λ _. ⊥) (λ next. IfAsked (λ user. S.is_next user next) request) (λ _. ⊥) result }
 {
     match request {
-        Some(request) => answered(alloc, request, outcome, closes),
-        None => unasked(outcome),
+        Some(request) => answered(alloc, request, outcome, closes, lasts),
+        None => unasked(outcome, lasts),
     }
 }
 
@@ -211,11 +251,11 @@ fn warn<P, O: Outside<P>>(at: &P, out: &mut O, user: &O::User, report: Report) {
         O::cut(user);
     }
     if report.end == (End::Sent { has_memory: false }) {
-        out.note_refusal(at, user, None, Reason::NoMemory, false);
+        out.note_refusal(at, user, None, Reason::NoMemory);
     }
 }
 
-/// Gives account of a message, and says what its course is told.
+/// Gives account of a message, and says what its course is told. Of one that is begun anew account is given at its end.
 fn report_on<P, O: Outside<P>, V: Served, M>(
     at: &P,
     out: &mut O,
@@ -231,7 +271,9 @@ fn report_on<P, O: Outside<P>, V: Served, M>(
     ensures cuts { result.cuts ≡ account.has_answered && is_cut sequel.now }
     ensures served { IfSome result.served (λ usable. usable ≡ reusable_by V.reusable service.now) }
 {
-    give_account(at, out, user, service, account);
+    if !sequel.is_again() {
+        give_account(at, out, user, service, account);
+    }
     let point = account.seen.plan.point;
     let report = report_of(
         by,
@@ -250,22 +292,25 @@ fn settled_of<O: Kinds, M: Drop>(
     limits: Limits,
     connections: Connections<O>,
     sequel: Sequel<M>,
+    by: EndedBy,
     report: Report,
 ) -> Settled<O, M>
     requires { (stake.held ≡ 0) × (stake.pages ≡ 0) }
     ensures report { result.report ≡ report }
-    ensures message { result.message ≡ message_in sequel }
+    ensures message { IfItself by (result.message ≡ message_in sequel) }
+    ensures none { IfOther by (result.message ≡ None) }
     ensures connections { result.remains.connections ≡ connections }
 {
     let room = room_of(stake, limits);
     Settled {
         remains: Remains { room, connections },
-        message: message_of(sequel),
+        message: message_of(by, sequel),
         report,
     }
 }
 
-/// Takes a request's transaction apart: the origin's response comes next, unless the user has got an answer.
+/// Takes a request's transaction apart: the origin's response comes next, unless the user has got an answer. The origin's connection had given
+/// and taken so many bytes before, when it was dialed.
 pub(crate) fn settle_request<
     P,
     O: Outside<P>,
@@ -277,6 +322,8 @@ pub(crate) fn settle_request<
     out: &mut O,
     tx: Tx<O::Ledgers, E>,
     by: EndedBy,
+    before: (u64, u64),
+    course: &Exchange,
 ) -> Settled<O, <E::Reader as Asked>::Message>
 where
     E::Reader: Asked,
@@ -286,11 +333,13 @@ where
     ensures ends { EndsBy by result.report.end }
     ensures answered { result.report.has_answered ≡ not (user_untouched tx.hold.history.plan.point (E.Writer.untouched tx.ends.next) (E.Writer.untouched tx.ends.back)) }
     ensures told { IfItself by (EndsAs tx.hold.history.plan.point (ended_as (shows tx.hold.history).closed tx.outcome) (E.Writer.gift tx.ends.back ≡ nothing)
-        (E.Reader.carries_on Outcome.Done (E.Maker.closes tx.ends.maker) tx.ends.source) result.report.end) }
+        (E.Reader.carries_on Outcome.Done (E.Maker.closes tx.ends.maker) tx.ends.source) ⊥
+        (IsBarred result.report.has_answered (HasGivenSince O.Origin.past tx.ends.next_wire before.0) (may_come course.now Withdrawn)) result.report.end) }
+    ensures withdrawn { (has_memory : AnyBool) → result.report.end ≡ End.Withdrawn has_memory → IsWithdrawable by result.report.has_answered (HasGiven O.Origin.past tx.ends.next_wire before.0) (may_come course.now Withdrawn) }
     ensures cuts { result.report.has_answered ≡ false → result.report.cuts ≡ false }
     ensures cut { result.report.cuts ≡ result.report.has_answered && (fails (ended_as (shows tx.hold.history).closed tx.outcome) && E.Reader.is_old tx.ends.source) }
     ensures served { IfSome result.report.served (λ usable. usable ≡ reusable_by E.Client.reusable tx.ends.service) }
-    ensures next { IfItself by (IsNextBy (E.Reader.is_response tx.ends.source) (E.Reader.is_next tx.ends.source) result.report.end result.message) }
+    ensures next { IsNextBy (E.Reader.is_response tx.ends.source) (E.Reader.is_next tx.ends.source) (E.Reader.is_again tx.ends.source) result.report.end result.message }
     ensures wires { result.remains.connections ≡ record { user = tx.ends.source_wire; service = wire_of tx.ends.service; origin = tx.ends.next_wire } }
 {
     let has_answered = tx.has_answered();
@@ -313,16 +362,18 @@ where
         seen,
         outcome: outcome_by(by, outcome),
         has_answered,
-        next_is_fresh: is_fresh(&origin),
+        next_is_fresh: origin.counts() == before,
     };
-    let sequel = after_request(out.alloc(), source, &back, outcome, maker.closes());
+    let may_withdraw = may_withdraw(by, has_answered, &origin, before.0, course);
+    let closes = maker.closes();
+    let sequel = after_request(out.alloc(), source, &back, outcome, closes, may_withdraw);
     let report = report_on(at, out, &user, &service, account, &sequel, by);
     let connections = Connections {
         user,
         service: wire_of(service),
         origin,
     };
-    settled_of(stake, out.limits(), connections, sequel, report)
+    settled_of(stake, out.limits(), connections, sequel, by, report)
 }
 
 /// Takes a response's transaction apart: the user has got an answer.
@@ -339,18 +390,20 @@ pub(crate) fn settle_response<
     by: EndedBy,
 ) -> Settled<O, <E::Reader as Asked>::Message>
 where
-    E::Reader: Asked,
+    E::Reader: Asked + Answers,
     E::Client: Served,
     E::Writer: Drop,
     E::Maker: MadeHead<E::Reader>,
     ensures ends { EndsBy by result.report.end }
     ensures answered { result.report.has_answered ≡ not (user_untouched tx.hold.history.plan.point (E.Writer.untouched tx.ends.next) (E.Writer.untouched tx.ends.back)) }
     ensures told { IfItself by (EndsAs tx.hold.history.plan.point (ended_as (shows tx.hold.history).closed tx.outcome) ⊥
-        (IfAsked (E.Reader.carries_on Outcome.Done (E.Maker.closes tx.ends.maker)) (E.Maker.asked tx.ends.maker)) result.report.end) }
+        (IfAsked (E.Reader.carries_on Outcome.Done (E.Maker.closes tx.ends.maker)) (E.Maker.asked tx.ends.maker))
+        (E.Reader.lasts (ended_as (shows tx.hold.history).closed tx.outcome) tx.ends.source) ⊤ result.report.end) }
+    ensures stands { (has_memory : AnyBool) → result.report.end ≡ End.Withdrawn has_memory → ⊥ }
     ensures cuts { result.report.has_answered ≡ false → result.report.cuts ≡ false }
     ensures cut { (shows tx.hold.history).closed ≡ true → result.report.cuts ≡ result.report.has_answered && (fails tx.outcome && old_where_asked E.Reader.is_old (E.Maker.asked tx.ends.maker)) }
     ensures served { IfSome result.report.served (λ usable. usable ≡ reusable_by E.Client.reusable tx.ends.service) }
-    ensures next { IfItself by (IsNextBy (λ _. ⊥) (λ next. IfAsked (λ user. E.Reader.is_next user next) (E.Maker.asked tx.ends.maker)) result.report.end result.message) }
+    ensures next { IsNextBy (λ _. ⊥) (λ next. IfAsked (λ user. E.Reader.is_next user next) (E.Maker.asked tx.ends.maker)) (λ _. ⊥) result.report.end result.message }
     ensures wires { result.remains.connections ≡ record { user = tx.ends.next_wire; service = wire_of tx.ends.service; origin = tx.ends.source_wire } }
 {
     let has_answered = tx.has_answered();
@@ -361,7 +414,7 @@ where
         seen,
     } = parts_of(rt, out.bank(), tx);
     let Ends {
-        source: _,
+        source,
         source_wire: origin,
         service,
         next: _,
@@ -376,12 +429,13 @@ where
         next_is_fresh: is_fresh(&user),
     };
     let closes = maker.closes();
-    let sequel = after_response(out.alloc(), maker.into_asked(), outcome, closes);
+    let lasts = source.lasts(outcome);
+    let sequel = after_response(out.alloc(), maker.into_asked(), outcome, closes, lasts);
     let report = report_on(at, out, &user, &service, account, &sequel, by);
     let connections = Connections {
         user,
         service: wire_of(service),
         origin,
     };
-    settled_of(stake, out.limits(), connections, sequel, report)
+    settled_of(stake, out.limits(), connections, sequel, by, report)
 }

@@ -5,11 +5,12 @@
 ghost use Rattle.std.specs.Prelude.{◌≡◌, ◌↔◌, Bool, Option, IfSome, IsTrue};
 ghost use Rattle.adapt_turn.specs.declared.turn.Outcome.{Outcome as AnyOutcome};
 
+use crate::withdrawal::request_of;
 use adapt_sides::{ClientFault, Service, Source};
 use adapt_turn::Outcome;
 use http_relay::SourceSide;
 use icap_client::{Found, ServiceSide};
-use proxy_rules::{HeadMaker, Incoming, keeps_user};
+use proxy_rules::{HeadMaker, Incoming, keeps_origin, keeps_user};
 use std::alloc::Global;
 
 /// A service's side whose exchange is over.
@@ -67,15 +68,22 @@ pub(crate) trait Asked: Source + Drop {
     fn next_request(self) -> Option<Self::Message>
         ensures { IfSome result (λ next. is_next self next) };
 
+    // this message is the request again, whose head was read once more: its bytes are those of the head, and those that were left over
+    ghost is_again: { Self → Self.Message → Type 0 };
+
     /// The response to the request, before its first byte.
     fn response(self, alloc: Global) -> Self::Message
         ensures { is_response self result };
+
+    /// The request again, whose head was read. `None` where it has a body, or no memory was found.
+    fn again(self) -> Option<Self::Message>
+        ensures { IfSome result (λ same. is_again self same) };
 }
 
 impl Asked for SourceSide {
     ghost use Rattle.http_relay.specs.Reading.{request_of};
     ghost use Rattle.proxy_rules.specs.Connections.{CarriesOn};
-    ghost use Rattle.shard_message.specs.Told.{IsRequestAfter, IsResponseTo, is_old_in};
+    ghost use Rattle.shard_message.specs.Told.{IsRequestAfter, IsRequestAgain, IsResponseTo, is_old_in};
 
     type Message = Incoming;
 
@@ -86,6 +94,8 @@ impl Asked for SourceSide {
     ghost is_response = { IsResponseTo };
 
     ghost is_next = { IsRequestAfter };
+
+    ghost is_again = { IsRequestAgain };
 
     fn is_old(&self) -> bool {
         match self.request_head() {
@@ -104,6 +114,30 @@ impl Asked for SourceSide {
 
     fn response(self, alloc: Global) -> Incoming {
         Incoming::response(alloc, self)
+    }
+
+    fn again(self) -> Option<Incoming> {
+        request_of(self)
+    }
+}
+
+/// An origin's side, whose answer was read.
+pub(crate) trait Answers: Source + Drop {
+    // after an answer that ended so, another request may go out on the origin's connection
+    ghost lasts: { AnyOutcome → Self → Type 0 };
+
+    /// Whether another request may go out on the origin's connection after an answer that ended so.
+    fn lasts(&self, outcome: Outcome) -> bool
+        ensures { IsTrue result ↔ lasts outcome self.now };
+}
+
+impl Answers for SourceSide {
+    ghost use Rattle.proxy_rules.specs.Connections.{Lasts};
+
+    ghost lasts = { Lasts };
+
+    fn lasts(&self, outcome: Outcome) -> bool {
+        keeps_origin(outcome, self)
     }
 }
 

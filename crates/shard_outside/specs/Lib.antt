@@ -1,3 +1,4 @@
 pub mod Learning
 pub mod Planning
+pub mod Taking
 pub mod Usable

@@ -1,7 +1,6 @@
 -- How a message is planned, by what its point's service said of its options (RFC 3507, sections 4.5, 4.6 and 4.10).
 use Rattle.std.specs.Prelude.{◌≡◌, ℕ, Bool, true, false, List, [], ⊤, Option, Some, None, Result, Ok, Err, Box, is_some}
 use Rattle.std.specs.declared.alloc.Global.{Global}
-use Rattle.std.specs.declared.net.socket_addr.SocketAddrV4.{SocketAddrV4}
 use Rattle.trace_core.specs.declared.history.Point.{Point}
 use Rattle.trace_core.specs.declared.history.Point.TheVariants.{Reqmod, Respmod}
 use Rattle.http_side.specs.Framings.{request_framing, response_framing}
@@ -16,12 +15,15 @@ use Rattle.proxy_rules.specs.Heads.{user_head}
 use Rattle.proxy_rules.specs.Offers.{Offered, AsksFor, options_for, offered_request, offered_response}
 use Rattle.proxy_rules.specs.Origins.{bare_path}
 use Rattle.proxy_rules.specs.Plans.{IsPlanned, known_length}
-use Rattle.proxy_rules.specs.Routes.{IsOriginAt, IsOwn}
+use Rattle.proxy_rules.specs.Routes.{IsRoute, IsUnrouted}
+use Rattle.proxy_rules.specs.declared.route.Route.{Route}
+use Rattle.proxy_rules.specs.declared.route.Unrouted.TheVariants as unrouted
+use Rattle.proxy_rules.specs.Connections.{may_repeat}
 use Rattle.proxy_rules.specs.Users.{awaits_continue}
-use Rattle.shard_effects.specs.declared.reason.Reason.{Reason}
-use Rattle.shard_effects.specs.declared.reason.Reason.TheVariants.{UnknownHost, NoOrigin, NoMemory}
 use Rattle.service_lines.specs.declared.book.PointBook.{PointBook}
 use Rattle.service_lines.specs.Books.{Serves}
+use Rattle.exchange_report.specs.declared.reason.Reason.{Reason}
+use Rattle.exchange_report.specs.declared.reason.Reason.TheVariants.{UnknownHost, Denied, OriginRefused, NoMemory}
 use Rattle.shard_effects.specs.declared.answers.Marks.{Marks}
 use Rattle.shard_effects.specs.declared.answers.Unplanned.{Unplanned}
 use Rattle.shard_effects.specs.declared.answers.Unplanned.TheVariants.{Stale, Refused}
@@ -76,19 +78,25 @@ IsOffer service said limits (request user) offer = IsRequestOffer service said l
 IsOffer service said limits (response user answer) offer = IsResponseOffer service said limits user answer offer
 IsOffer service said limits missing offer = ⊥
 
--- where a message goes: a request to its origin, which isn't the proxy itself; a response goes to its user
-abbrev pub GoesTo : Config → Heads → Option SocketAddrV4 → Type 0
-GoesTo config (request user) (Some address) = IsOriginAt config user address × (IsOwn config address → ⊥)
+-- where a message goes: a request straight to its origin, or to the parent; a response to its user
+abbrev pub GoesTo : Config → Heads → Option Route → Type 0
+GoesTo config (request user) (Some route) = IsRoute config user route
 GoesTo config (response user answer) None = ⊤
 GoesTo config _ _ = ⊥
 
 abbrev pub Goes : Config → Heads → Type 0
-Goes config heads = (address : Option SocketAddrV4) × GoesTo config heads address
+Goes config heads = (route : Option Route) × GoesTo config heads route
 
--- why it goes nowhere: its host is unknown, or is the proxy itself; or a head is missing
+-- why a request goes nowhere: its host is unknown, or is the proxy itself; or its origin is in a network that is denied
+abbrev pub IsWithoutRoute : Config → RequestParts → Reason → Type 0
+IsWithoutRoute config user UnknownHost = IsUnrouted config user unrouted.Unknown
+IsWithoutRoute config user Denied = IsUnrouted config user unrouted.Denied
+IsWithoutRoute config user _ = ⊥
+
+-- why a message does; a head may be missing
 abbrev pub GoesNowhere : Config → Heads → Reason → Type 0
-GoesNowhere config (request user) UnknownHost = (address : SocketAddrV4) → IsOriginAt config user address → IsOwn config address
-GoesNowhere config missing NoOrigin = ⊤
+GoesNowhere config (request user) reason = IsWithoutRoute config user reason
+GoesNowhere config missing OriginRefused = ⊤
 GoesNowhere config _ _ = ⊥
 
 -- the service's record serves no more, and the service wasn't asked for this very message
@@ -109,7 +117,7 @@ pub record IsOfferBy (service : Option ServicePoint) (said : Option Options) (li
 -- the plan of a message
 pub record IsPlan (by : Grounds) (m : Arrival) (planned : Planned) : Type 0 where
   pub offer : IsOfferBy (service_of by.config (point_of m.user)) by.book.said by.limits (heads_of m) planned.offer
-  pub goes : GoesTo by.config (heads_of m) planned.address
+  pub goes : GoesTo by.config (heads_of m) planned.route
   pub current : IsAskedFirst by m → ⊥
 
 -- why a message has no plan: its service is to be asked first; it goes nowhere; or no memory was found where neither holds
@@ -123,6 +131,11 @@ abbrev pub waits : Heads → Bool
 waits (request user) = awaits_continue user
 waits _ = false
 
+-- whether a message may be sent again: a response isn't
+abbrev pub repeats : Heads → Bool
+repeats (request user) = may_repeat user
+repeats _ = false
+
 -- what is kept of a message's plan, and what is said of it
 pub record IsKept (by : Grounds) (m : Arrival) (kept : Option (Box Planned Global)) (marks : Marks) : Type 0 where
   pub planned : Box Planned Global
@@ -130,6 +143,7 @@ pub record IsKept (by : Grounds) (m : Arrival) (kept : Option (Box Planned Globa
   pub plan : IsPlan by m planned.value
   pub offered : marks.offered ≡ is_some planned.value.offer.side
   pub waits_is : marks.waits ≡ waits (heads_of m)
+  pub repeats_is : marks.repeatable ≡ repeats (heads_of m)
 
 -- a message is planned: its plan is kept; or it has none, and what was kept before stays
 abbrev pub Plans : Grounds → Arrival → (old new : Option (Box Planned Global)) → Result Marks Unplanned → Type 0

@@ -1,6 +1,7 @@
 //! Heads of messages: the user's requests, and the origins' responses.
 
-ghost use Rattle.std.specs.Prelude.{◌≡◌, is_some};
+ghost use Rattle.std.specs.Prelude.{◌≡◌, ◌++◌, ℕ, List, IfSome, is_some};
+ghost use Rattle.proxy_rules.specs.Arrivals.{Came};
 
 use http_relay::HeadProgress;
 use http_side::HttpFault;
@@ -20,7 +21,10 @@ fn part_of(message: &Incoming) -> HeadTurn {
 }
 
 /// A turn at a message's head over this wire.
-fn head_turn<W: Wire>(message: &mut Incoming, wire: &mut W) -> HeadTurn {
+fn head_turn<W: Wire>(message: &mut Incoming, wire: &mut W) -> HeadTurn
+    ensures { (first : W) (ahead since beside : List ℕ) → Came W.Wire first ahead since beside message.old.side wire.old
+        → (more : List ℕ) × Came W.Wire first ahead (since ++ more) beside message.new.side wire.new }
+{
     let (before, _) = wire.counts();
     match message.head_turn(wire) {
         Ok(HeadProgress::Taken) => HeadTurn::Whole,
@@ -36,7 +40,11 @@ pub fn turn_on<W: Wire>(
     message: &mut Option<Box<Incoming>>,
     wire: &mut Option<W>,
 ) -> Option<HeadTurn>
-    ensures { is_some wire.new ≡ is_some wire.old }
+    ensures there { is_some wire.new ≡ is_some wire.old }
+
+    // What the message has is what came over the connection since its first read.
+    ensures came { IfSome message.old (λ m. IfSome wire.old (λ w. (first : W) (ahead since beside : List ℕ) → Came W.Wire first ahead since beside m.value.side w
+        → IfSome message.new (λ n. IfSome wire.new (λ v. (more : List ℕ) × Came W.Wire first ahead (since ++ more) beside n.value.side v)))) }
 {
     match (message, wire) {
         (Some(message), Some(wire)) => Some(head_turn(message, wire)),

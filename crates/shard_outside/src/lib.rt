@@ -5,6 +5,7 @@
 #![tactic(auto)]
 
 mod heads;
+mod lasting;
 mod options;
 mod outside;
 mod planning;
@@ -15,8 +16,11 @@ mod slots;
 mod users;
 
 pub use heads::{fault_of, turn_on};
+pub use lasting::LastingOrigin;
 pub use options::{begin_asking, hear_turn, is_reusable, keep};
-pub use outside::{Kinds, MessageEnd, Outside};
+pub use outside::{
+    Clocked, Dialed, Kinds, MessageEnd, Noting, Origins, Outside, Services, Settings, UserEnd,
+};
 pub use planning::{Planned, keep_plan, service_of};
 pub use refusal_causes::refusal_cause_after;
 pub use reusable::Reusable;

@@ -1,6 +1,6 @@
 //! Asking a service for its options.
 
-ghost use Rattle.std.specs.Prelude.{◌≡◌, IfOk, IfErr, IfSome, string_bytes, true};
+ghost use Rattle.std.specs.Prelude.{◌≡◌, IfOk, IfErr, IsSomeAnd, string_bytes, true};
 ghost use Rattle.std.specs.Net.Socket.{v4_port};
 ghost use Rattle.icap_client.specs.Asking.{options_request};
 ghost use Rattle.icap_head.specs.Heads.{response_parts};
@@ -43,7 +43,7 @@ fn asker<P, O: Outside<P>>(out: &O, point: Point) -> Result<Box<OptionsSide>, Re
 {
     match service_of(out.config(), point) {
         Some(service) => asker_of(out.alloc(), service),
-        None => Err(Reason::Service),
+        None => Err(Reason::ServiceRefused),
     }
 }
 
@@ -53,7 +53,7 @@ pub fn begin_asking<P, O: Outside<P>>(
     point: Point,
     asking: &mut Option<Box<OptionsSide>>,
 ) -> Result<(), Reason>
-    ensures asks { IfOk result (λ _. IfSome asking.new (λ side. IsAsking (O.config_is out.now) point side.value.waiting)) }
+    ensures asks { IfOk result (λ _. IsSomeAnd asking.new (λ side. IsAsking (O.config_is out.now) point side.value.waiting)) }
     ensures suits { IfErr result (λ reason. lies_elsewhere reason ≡ true) }
 {
     match asker(out, point) {

@@ -1,22 +1,23 @@
-//! What a message is offered to, by what its service said of its options.
+//! Where a message goes, and what it is offered to, by what its service said of its options.
 
 ghost use Rattle.std.specs.Prelude.{◌≡◌, ◌⊎◌, ◌↔◌, None, Some, Err, is_some, IsTrue, IfSome, IfOk, IfErr, option_copied, true};
-ghost use Rattle.shard_effects.specs.declared.reason.Reason.TheVariants.{NoMemory};
+ghost use Rattle.exchange_report.specs.declared.reason.Reason.TheVariants.{NoMemory};
 ghost use Rattle.shard_effects.specs.declared.answers.Unplanned.TheVariants.{Refused};
 ghost use Rattle.shard_effects.specs.Reasons.{lies_elsewhere, unplanned_reason};
-ghost use Rattle.shard_outside.specs.Planning.{missing, grounds, heads_of, service_of, waits, GoesTo, GoesNowhere, IsOfferBy, IsStale, IsPlan, HasNoPlan, PlansBy};
+ghost use Rattle.proxy_rules.specs.Routes.{IsRoute};
+ghost use Rattle.shard_outside.specs.Planning.{missing, grounds, heads_of, service_of, waits, repeats, GoesTo, GoesNowhere, IsWithoutRoute, IsOfferBy, IsStale, IsPlan, HasNoPlan, PlansBy};
 
 use crate::outside::Outside;
 use crate::slots::lay;
+use http_side::HttpRequest;
 use options_book::Record;
 use plan_rules::Limits;
 use proxy_config::{Config, ServicePoint};
-use proxy_rules::{Incoming, Offer, awaits_continue, origin_address};
+use proxy_rules::{Incoming, Offer, Route, Unrouted, awaits_continue, may_repeat, route_of};
 use service_lines::PointBook;
 use shard_effects::{Marks, Reason, Unplanned};
 use std::alloc::{AllocError, Global};
 use std::boxed::Box;
-use std::net::SocketAddrV4;
 use trace_core::Point;
 
 /// What a message was planned to be.
@@ -24,7 +25,7 @@ use trace_core::Point;
 pub struct Planned {
     pub offer: Offer,
     /// Where a request goes.
-    pub address: Option<SocketAddrV4>,
+    pub route: Option<Route>,
 }
 
 /// The service of a point.
@@ -41,22 +42,35 @@ pub fn service_of(config: &Config, point: Point) -> Option<&ServicePoint>
     }
 }
 
-/// Where a message goes: a request to its origin. A response goes to its user.
-fn address_of(config: &Config, message: &Incoming) -> Result<Option<SocketAddrV4>, Reason>
+/// Where a request goes, or why it goes nowhere.
+fn request_route(config: &Config, user: &HttpRequest) -> Result<Route, Reason>
+    ensures goes { IfOk result (IsRoute config.now user.now) }
+    ensures nowhere { IfErr result (IsWithoutRoute config.now user.now) }
+    ensures suits { IfErr result (λ reason. lies_elsewhere reason ≡ true) }
+{
+    match route_of(config, user) {
+        Ok(route) => Ok(route),
+        Err(Unrouted::Unknown) => Err(Reason::UnknownHost),
+        Err(Unrouted::Denied) => Err(Reason::Denied),
+    }
+}
+
+/// Where a message goes: a request to its origin, or to the parent. A response goes to its user.
+fn route_for(config: &Config, message: &Incoming) -> Result<Option<Route>, Reason>
     ensures goes { IfOk result (GoesTo config.now (heads_of message.now)) }
     ensures nowhere { IfErr result (GoesNowhere config.now (heads_of message.now)) }
     ensures suits { IfErr result (λ reason. lies_elsewhere reason ≡ true) }
 {
     let Some(user) = message.user_head() else {
-        return Err(Reason::NoOrigin);
+        return Err(Reason::OriginRefused);
     };
     match (message.point(), message.response_head()) {
-        (Point::Reqmod, _) => match origin_address(config, user) {
-            Some(address) => Ok(Some(address)),
-            None => Err(Reason::UnknownHost),
+        (Point::Reqmod, _) => match request_route(config, user) {
+            Ok(route) => Ok(Some(route)),
+            Err(reason) => Err(reason),
         },
         (Point::Respmod, Some(_)) => Ok(None),
-        (Point::Respmod, None) => Err(Reason::NoOrigin),
+        (Point::Respmod, None) => Err(Reason::OriginRefused),
     }
 }
 
@@ -73,7 +87,7 @@ fn offer_of(
     ensures suits { IfErr result (λ reason. lies_elsewhere reason ≡ true) }
 {
     let Some(user) = message.user_head() else {
-        return Err(Reason::NoOrigin);
+        return Err(Reason::OriginRefused);
     };
     if service.is_some() && said.is_none() {
         return Err(Reason::NoMemory);
@@ -83,7 +97,7 @@ fn offer_of(
         (Point::Respmod, Some(response)) => {
             Offer::of_response(alloc, service, said, limits, user, response)
         }
-        (Point::Respmod, None) => return Err(Reason::NoOrigin),
+        (Point::Respmod, None) => return Err(Reason::OriginRefused),
     };
     match offer {
         Ok(offer) => Ok(offer),
@@ -92,14 +106,10 @@ fn offer_of(
 }
 
 /// A plan, on the heap.
-fn placed(
-    alloc: Global,
-    offer: Offer,
-    address: Option<SocketAddrV4>,
-) -> Result<Box<Planned>, AllocError>
-    ensures { IfOk result (λ planned. (planned.value.offer ≡ offer) × (planned.value.address ≡ address)) }
+fn placed(alloc: Global, offer: Offer, route: Option<Route>) -> Result<Box<Planned>, AllocError>
+    ensures { IfOk result (λ planned. (planned.value.offer ≡ offer) × (planned.value.route ≡ route)) }
 {
-    match Box::new(alloc, Planned { offer, address }) {
+    match Box::new(alloc, Planned { offer, route }) {
         Ok(planned) => Ok(planned),
         Err(_) => Err(AllocError),
     }
@@ -127,8 +137,8 @@ fn make_plan(
     ensures unplanned { IfErr result (HasNoPlan (grounds config.now limits.now book.now now asked) message.now) }
     ensures suits { IfErr result (λ unplanned. lies_elsewhere (unplanned_reason unplanned) ≡ true) }
 {
-    let address = match address_of(config, message) {
-        Ok(address) => address,
+    let route = match route_for(config, message) {
+        Ok(route) => route,
         Err(reason) => return Err(Unplanned::Refused(reason)),
     };
     let service = service_of(config, message.point());
@@ -136,7 +146,7 @@ fn make_plan(
         return Err(Unplanned::Stale);
     }
     match offer_of(alloc, service, book.record(), limits, message) {
-        Ok(offer) => match placed(alloc, offer, address) {
+        Ok(offer) => match placed(alloc, offer, route) {
             Ok(planned) => Ok(planned),
             Err(AllocError) => Err(Unplanned::Refused(Reason::NoMemory)),
         },
@@ -154,16 +164,32 @@ fn waits(message: &Incoming) -> bool
     }
 }
 
+/// Whether a message may be sent again where nothing of an answer to it came.
+fn repeats(message: &Incoming) -> bool
+    ensures { result ≡ repeats (heads_of message.now) }
+{
+    match message.user_head() {
+        Some(head) => message.point() == Point::Reqmod && may_repeat(head),
+        None => false,
+    }
+}
+
 /// Keeps the plan of a message, and says what it is.
 fn keep_planned(message: &Incoming, planned: Box<Planned>, plan: &mut Option<Box<Planned>>) -> Marks
     ensures kept { plan.new ≡ Some planned }
     ensures offered { result.offered ≡ is_some planned.value.offer.side }
     ensures waits { result.waits ≡ waits (heads_of message.now) }
+    ensures repeats { result.repeatable ≡ repeats (heads_of message.now) }
 {
     let offered = planned.offer.is_offered();
     let waits = waits(message);
+    let repeatable = repeats(message);
     lay(plan, planned);
-    Marks { offered, waits }
+    Marks {
+        offered,
+        waits,
+        repeatable,
+    }
 }
 
 /// Plans a message by what its surroundings say, and keeps its plan.

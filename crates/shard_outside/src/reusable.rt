@@ -18,6 +18,7 @@ impl<W> Reusable<W> {
         requires { is_ready course.now.connection ≡ true }
         ensures { result.wire ≡ wire }
     {
+        // For the proof alone: what is required is said of the course.
         let _ = course;
         Reusable { wire }
     }

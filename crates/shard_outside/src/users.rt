@@ -15,17 +15,15 @@ pub fn note_refused<P, O: Outside<P>>(
     message: &Option<Box<Incoming>>,
     reason: Reason,
 ) {
-    let course = course.course();
-    if course.is_mid_text() {
+    if course.course().is_mid_text() {
         return;
     }
-    let is_asking = matches!(course.phase, Phase::Asking { .. } | Phase::InQueue { .. });
     let message: Option<&Incoming> = match message {
         Some(message) => Some(message),
         None => None,
     };
     if let Some(user) = user {
-        out.note_refusal(at, user, message, reason, is_asking);
+        out.note_refusal(at, user, message, reason);
     }
 }
 

@@ -1,15 +1,19 @@
 -- The index of each number that a loop counts.
 use Rattle.std.specs.Prelude.{ℕ, ◌+◌, ◌*◌, ◌/◌, ◌==◌, nat_le, if◌then◌else◌}
+use Rattle.exchange_report.specs.Reasons.{number_of}
 use Rattle.exchange_report.specs.declared.verdict.Reply.{Reply}
 use Rattle.exchange_report.specs.declared.verdict.Reply.TheVariants.{Plain, Unchanged, Changed, Missing}
 use Rattle.exchange_report.specs.declared.why.Why.{Why}
-use Rattle.exchange_report.specs.declared.why.Why.TheVariants.{Served, BadRequest, NotServed, RequestBroken, UnknownHost, OriginRefused, OriginBroken, OriginDeadline, ServiceRefused, ServiceStatus, ServiceBroken, ServiceDeadline, Busy, Full, NoRow, NoSeat, NoMemory, UserDeadline, UserGone, Stopping}
+use Rattle.exchange_report.specs.declared.why.Why.TheVariants.{Served, UserGone, Failed}
 use Rattle.shard_report.specs.declared.tally.Bound.{Bound}
 use Rattle.shard_report.specs.declared.tally.Bound.TheVariants.{Milliseconds5, Milliseconds10, Milliseconds25, Milliseconds50, Milliseconds100, Milliseconds250, Milliseconds500, Seconds1, Milliseconds2500, Seconds5, Seconds10, None}
 use Rattle.shard_report.specs.declared.tally.Class.{Class}
 use Rattle.shard_report.specs.declared.tally.Class.TheVariants.{Informational, Successful, Redirection, ClientError, ServerError, Other}
 use Rattle.shard_report.specs.declared.tally.Count.{Count}
-use Rattle.shard_report.specs.declared.tally.Count.TheVariants.{Requests, Retries, Read, Sent, Users, Milliseconds, Answers, Messages, Refusals, Failures, Times}
+use Rattle.shard_report.specs.declared.tally.Count.TheVariants.{Requests, Retries, Read, Sent, Users, Milliseconds, Answers, Messages, Refusals, Failures, Times, Origins}
+use Rattle.shard_report.specs.declared.tally.Dealing.{Dealing}
+use Rattle.shard_report.specs.declared.tally.Dealing.TheVariants.{Opened, Reused, BegunAnew, Idle}
+use Rattle.shard_report.specs.declared.tally.TheConstants.{REASON_COUNT, END_COUNT}
 use Rattle.trace_core.specs.declared.history.Point.{Point}
 use Rattle.trace_core.specs.declared.history.Point.TheVariants.{Reqmod, Respmod}
 
@@ -69,29 +73,20 @@ reply_number Unchanged = 1
 reply_number Changed = 2
 reply_number Missing = 3
 
+-- two ends without a reason, and then the reasons
 abbrev pub why_number : Why → ℕ
 why_number Served = 0
-why_number BadRequest = 1
-why_number NotServed = 2
-why_number RequestBroken = 3
-why_number UnknownHost = 4
-why_number OriginRefused = 5
-why_number OriginBroken = 6
-why_number OriginDeadline = 7
-why_number ServiceRefused = 8
-why_number ServiceStatus = 9
-why_number ServiceBroken = 10
-why_number ServiceDeadline = 11
-why_number Busy = 12
-why_number Full = 13
-why_number NoRow = 14
-why_number NoSeat = 15
-why_number NoMemory = 16
-why_number UserDeadline = 17
-why_number UserGone = 18
-why_number Stopping = 19
+why_number UserGone = 1
+why_number (Failed reason) = 2 + number_of reason
 
--- six numbers, then those of the classes, of the points with four replies each and twice with the reasons, and of the bounds
+abbrev pub dealing_number : Dealing → ℕ
+dealing_number Opened = 0
+dealing_number Reused = 1
+dealing_number BegunAnew = 2
+dealing_number Idle = 3
+
+-- six numbers, then those of the classes, of the points with four replies each, of the bounds, of the connections to origins, and of the
+-- points with the reasons and with the ends
 abbrev pub index_of : Count → ℕ
 index_of Requests = 0
 index_of Retries = 1
@@ -101,6 +96,7 @@ index_of Users = 4
 index_of Milliseconds = 5
 index_of (Answers class) = 6 + class_number class
 index_of (Messages point reply) = 12 + 4 * point_number point + reply_number reply
-index_of (Refusals point why) = 20 + 20 * point_number point + why_number why
-index_of (Failures point why) = 60 + 20 * point_number point + why_number why
-index_of (Times bound) = 100 + bound_number bound
+index_of (Times bound) = 20 + bound_number bound
+index_of (Origins dealing) = 32 + dealing_number dealing
+index_of (Refusals point reason) = 36 + REASON_COUNT * point_number point + number_of reason
+index_of (Failures point why) = 36 + 2 * REASON_COUNT + END_COUNT * point_number point + why_number why

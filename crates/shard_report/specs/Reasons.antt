@@ -1,10 +1,12 @@
 -- What became of a message, and why it failed, as its history shows.
-use Rattle.std.specs.Prelude.{ℕ, Bool, true, false, not, ◌&&◌, ◌||◌, ◌==◌, nat_lt, if◌then◌else◌}
+use Rattle.std.specs.Prelude.{Bool, true, false, not, ◌&&◌, ◌||◌, ◌==◌, nat_lt, if◌then◌else◌}
+use Rattle.exchange_report.specs.declared.reason.Reason.{Reason}
+use Rattle.exchange_report.specs.declared.reason.Reason.TheVariants as reasons
 use Rattle.exchange_report.specs.declared.verdict.Reply.{Reply}
 use Rattle.exchange_report.specs.declared.verdict.Reply.TheVariants as reply
 use Rattle.exchange_report.specs.declared.verdict.Verdict.{Verdict}
 use Rattle.exchange_report.specs.declared.why.Why.{Why}
-use Rattle.exchange_report.specs.declared.why.Why.TheVariants as why
+use Rattle.exchange_report.specs.declared.why.Why.TheVariants.{UserGone, Failed}
 use Rattle.shard_report.specs.declared.reasons.Evidence.{Evidence}
 use Rattle.trace_core.specs.History.{is_plain}
 use Rattle.trace_core.specs.declared.history.Seen.{Seen}
@@ -36,45 +38,35 @@ abbrev pub source_owes : Seen → Bool
 source_owes s = not s.ended && (service_is_done s || (not s.last_stop && s.sent == s.received))
 
 -- who takes the message
-abbrev pub taker : (to_user : Bool) → Why
-taker true = why.UserDeadline
-taker false = why.OriginDeadline
+abbrev pub taker : (to_user : Bool) → Reason
+taker true = reasons.UserDeadline
+taker false = reasons.OriginDeadline
 
 -- who sends the original
-abbrev pub sender : Point → Why
-sender Reqmod = why.UserDeadline
-sender Respmod = why.OriginDeadline
+abbrev pub sender : Point → Reason
+sender Reqmod = reasons.UserDeadline
+sender Respmod = reasons.OriginDeadline
 
 -- who let a deadline pass
-abbrev pub late_of : Seen → (to_user : Bool) → Why
+abbrev pub late_of : Seen → (to_user : Bool) → Reason
 late_of s to_user = if next_hop_owes s then taker to_user
     else if source_owes s then sender s.plan.point
     else if service_is_done s then taker to_user
-    else why.ServiceDeadline
+    else reasons.ServiceDeadline
 
 -- the source broke: at REQMOD it is the user
-abbrev pub broken_source : Point → Why
-broken_source Reqmod = why.RequestBroken
-broken_source Respmod = why.OriginBroken
+abbrev pub broken_source : Point → Reason
+broken_source Reqmod = reasons.RequestBroken
+broken_source Respmod = reasons.OriginBroken
 
 -- the next hop broke: an origin over whose connection nothing went refused it
 abbrev pub broken_next_hop : Evidence → Why
-broken_next_hop e = if e.to_user then why.UserGone else if e.next_is_fresh then why.OriginRefused else why.OriginBroken
+broken_next_hop e = if e.to_user then UserGone else if e.next_is_fresh then Failed reasons.OriginRefused else Failed reasons.OriginBroken
 
 abbrev pub failed_word : Cause → Seen → Evidence → Why
-failed_word Source s e = broken_source s.plan.point
-failed_word Service s e = e.service
+failed_word Source s e = Failed (broken_source s.plan.point)
+failed_word Service s e = Failed e.service
 failed_word NextHop s e = broken_next_hop e
-failed_word Memory s e = why.NoMemory
-failed_word Deadline s e = late_of s e.to_user
-failed_word Stopping s e = why.Stopping
-
--- the status of the refusal; at REQMOD the source is the user
-abbrev pub failed_status : Cause → Point → ℕ
-failed_status Source Reqmod = 400
-failed_status Source Respmod = 502
-failed_status Service point = 502
-failed_status NextHop point = 502
-failed_status Memory point = 503
-failed_status Stopping point = 503
-failed_status Deadline point = 504
+failed_word Memory s e = Failed reasons.NoMemory
+failed_word Deadline s e = Failed (late_of s e.to_user)
+failed_word Stopping s e = Failed reasons.Stopping

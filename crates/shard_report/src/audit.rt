@@ -20,12 +20,12 @@ pub struct Stopped {
     /// What was still out.
     pub audit: StopAudit,
     /// What stopped it, if that wasn't the administrator: a loop failed, and all others had to stop.
-    pub fault: Option<ServeFault>,
+    pub fault: Option<ProxyFault>,
 }
 
 /// Why the proxy can't serve, or not go on.
 #[derive(Clone, Copy, Debug, PartialEq, Eq)]
-pub enum ServeFault {
+pub enum ProxyFault {
     /// A poll of the system can't be had.
     System,
     /// The system fails a loop while it serves: its poll, or its clock.
@@ -38,15 +38,15 @@ pub enum ServeFault {
     Unheard,
 }
 
-impl Display for ServeFault {
+impl Display for ProxyFault {
     fn fmt<W: fmt::Write>(&self, f: &mut fmt::Formatter<W>) -> fmt::Result {
         f.write_str(match self {
-            ServeFault::System | ServeFault::Loop => "cannot listen",
-            ServeFault::Missing => "audit missing",
-            ServeFault::NoMemory => "out of memory",
-            ServeFault::Unheard => "write failed",
+            ProxyFault::System | ProxyFault::Loop => "cannot listen",
+            ProxyFault::Missing => "audit missing",
+            ProxyFault::NoMemory => "out of memory",
+            ProxyFault::Unheard => "write failed",
         })
     }
 }
 
-impl Error for ServeFault {}
+impl Error for ProxyFault {}

@@ -19,12 +19,12 @@ mod stats;
 mod tally;
 
 pub use append::Append;
-pub use audit::{ServeFault, StopAudit, Stopped};
+pub use audit::{ProxyFault, StopAudit, Stopped};
 pub use capacity::change_capacity;
 pub use clock::moment;
 pub use heads::{kind_in, kind_of, request_line, status_in, what_was_found, without_query};
 pub use log::Log;
 pub use notes::{Note, Notes, address_of, elapsed_of, status_of, why_of};
-pub use reasons::{Evidence, failed_status, failed_word, verdict_of};
+pub use reasons::{Evidence, failed_word, verdict_of};
 pub use stats::{Figures, stats_text};
-pub use tally::{Bound, Class, Count, Tally};
+pub use tally::{Bound, Class, Count, Dealing, LoopTally};

@@ -6,7 +6,9 @@ ghost use Rattle.exchange_report.specs.declared.why.Why.TheVariants.{UserGone};
 ghost use Rattle.shard_report.specs.Notes.{IsOpen};
 
 use adapt_bytes::front;
-use exchange_report::{Address, Entry, MAX_FOUND, MAX_KIND, MAX_METHOD, MAX_TARGET, Verdict, Why};
+use exchange_report::{
+    Address, Destination, Entry, MAX_FOUND, MAX_KIND, MAX_METHOD, MAX_TARGET, Reason, Verdict, Why,
+};
 use std::alloc::{AllocError, Global};
 use std::net::SocketAddrV4;
 use trace_core::Point;
@@ -23,10 +25,10 @@ pub struct Note {
     pub taken: u64,
     /// How many bytes were read of the user, as far as they are counted.
     pub read: u64,
-    /// The origin to which a connection is, or is to be, opened.
-    pub dialled: Option<Address>,
-    /// The origin that got a byte of the request.
-    pub origin: Option<Address>,
+    /// The origin or the parent to which a connection is, or is to be, opened.
+    pub dialled: Option<Destination>,
+    /// The one that got a byte of the request.
+    pub destination: Option<Destination>,
     /// Which message is under way: the request, or the response.
     pub point: Point,
     /// How many bytes of the request's body came.
@@ -39,7 +41,7 @@ pub struct Note {
     pub respmod: Verdict,
     pub why: Option<Why>,
     /// Why a service can't serve, where that was found.
-    pub blamed: Option<Why>,
+    pub blamed: Option<Reason>,
 }
 
 /// Texts from outside: the method, the target and the answer's media type, one after another; and what a service found.
@@ -81,7 +83,7 @@ fn blank() -> Note {
         taken: 0,
         read: 0,
         dialled: None,
-        origin: None,
+        destination: None,
         point: Point::Reqmod,
         received: 0,
         refused: false,
@@ -214,6 +216,18 @@ impl Notes {
         }
     }
 
+    /// The request is begun anew: it went nowhere yet, and no service has seen it.
+    pub fn withdraw(&mut self, key: usize) {
+        if let Some(note) = self.notes.get_mut(key) {
+            note.point = Point::Reqmod;
+            note.dialled = None;
+            note.destination = None;
+            note.received = 0;
+            note.reqmod = Verdict::none();
+            note.why = None;
+        }
+    }
+
     /// The answer has this status, and this media type.
     pub fn answer(&mut self, key: usize, status: u16, kind: &[u8]) {
         if let Some(note) = self.notes.get_mut(key) {
@@ -224,13 +238,13 @@ impl Notes {
         }
     }
 
-    /// The proxy's own refusal is the answer. It has no media type.
-    pub fn refuse(&mut self, key: usize, why: Why, status: u16) {
-        self.answer(key, status, b"");
+    /// The proxy's own refusal is the answer, with the status of this reason. It has no media type.
+    pub fn refuse(&mut self, key: usize, reason: Reason) {
+        self.answer(key, reason.status(), b"");
         if let Some(note) = self.notes.get_mut(key) {
             note.is_open = true;
             note.refused = true;
-            note.why = Some(why);
+            note.why = Some(Why::Failed(reason));
         }
     }
 
@@ -280,7 +294,7 @@ impl Notes {
             sent,
             method,
             target,
-            origin: note.origin,
+            destination: note.destination,
             kind,
             reqmod: note.reqmod,
             respmod: note.respmod,

@@ -1,9 +1,9 @@
 //! Why a message didn't come through, and what became of it, as its history shows.
 
 ghost use Rattle.std.specs.Prelude.{◌≡◌};
-ghost use Rattle.shard_report.specs.Reasons.{verdict_of, next_hop_owes, late_of, taker, failed_word, failed_status};
+ghost use Rattle.shard_report.specs.Reasons.{verdict_of, next_hop_owes, late_of, taker, failed_word};
 
-use exchange_report::{Reply, Verdict, Why};
+use exchange_report::{Reason, Reply, Verdict, Why};
 use trace_core::{Cause, Point, Seen};
 
 /// What became of a message, as its history shows.
@@ -37,7 +37,7 @@ fn is_next_hop_late(seen: &Seen) -> bool
 }
 
 /// Who let a deadline pass: who gets the message takes no byte, the source owes some, or the service an answer.
-fn late_of(seen: &Seen, to_user: bool) -> Why
+fn late_of(seen: &Seen, to_user: bool) -> Reason
     ensures { result ≡ late_of seen.now to_user }
 {
     let offered = !seen.plan.kind.is_plain();
@@ -47,21 +47,21 @@ fn late_of(seen: &Seen, to_user: bool) -> Why
         return taker(to_user);
     }
     match seen.plan.point {
-        Point::Reqmod if source_owes => Why::UserDeadline,
-        Point::Respmod if source_owes => Why::OriginDeadline,
-        _ if !served => Why::ServiceDeadline,
+        Point::Reqmod if source_owes => Reason::UserDeadline,
+        Point::Respmod if source_owes => Reason::OriginDeadline,
+        _ if !served => Reason::ServiceDeadline,
         _ => taker(to_user),
     }
 }
 
 /// That who gets the message let a deadline pass.
-fn taker(to_user: bool) -> Why
+fn taker(to_user: bool) -> Reason
     ensures { result ≡ taker to_user }
 {
     if to_user {
-        Why::UserDeadline
+        Reason::UserDeadline
     } else {
-        Why::OriginDeadline
+        Reason::OriginDeadline
     }
 }
 
@@ -69,7 +69,7 @@ fn taker(to_user: bool) -> Why
 #[derive(Clone, Copy)]
 pub struct Evidence {
     /// Why the service failed, if it did.
-    pub service: Why,
+    pub service: Reason,
     /// Whether nothing went over the connection to the next hop.
     pub next_is_fresh: bool,
     /// Whether its message goes to the user: an answer, of the origin or of a service.
@@ -81,27 +81,15 @@ pub fn failed_word(cause: Cause, seen: &Seen, evidence: Evidence) -> Why
     ensures { result ≡ failed_word cause seen.now evidence }
 {
     let point = seen.plan.point;
-    match cause {
-        Cause::Source if point == Point::Reqmod => Why::RequestBroken,
-        Cause::Source => Why::OriginBroken,
+    let reason = match cause {
+        Cause::NextHop if evidence.to_user => return Why::UserGone,
+        Cause::Source if point == Point::Reqmod => Reason::RequestBroken,
+        Cause::NextHop if evidence.next_is_fresh => Reason::OriginRefused,
+        Cause::Source | Cause::NextHop => Reason::OriginBroken,
         Cause::Service => evidence.service,
-        Cause::NextHop if evidence.to_user => Why::UserGone,
-        Cause::NextHop if evidence.next_is_fresh => Why::OriginRefused,
-        Cause::NextHop => Why::OriginBroken,
-        Cause::Memory => Why::NoMemory,
+        Cause::Memory => Reason::NoMemory,
         Cause::Deadline => late_of(seen, evidence.to_user),
-        Cause::Stopping => Why::Stopping,
-    }
-}
-
-/// The status of the refusal that a failed transaction has.
-pub fn failed_status(cause: Cause, point: Point) -> u16
-    ensures { result ≡ failed_status cause point }
-{
-    match cause {
-        Cause::Source if point == Point::Reqmod => 400,
-        Cause::Source | Cause::Service | Cause::NextHop => 502,
-        Cause::Memory | Cause::Stopping => 503,
-        Cause::Deadline => 504,
-    }
+        Cause::Stopping => Reason::Stopping,
+    };
+    Why::Failed(reason)
 }

@@ -1,7 +1,7 @@
 //! The answer to `stats`: the sums of what the loops count, and the numbers of what they share.
 
-use crate::tally::{Bound, Class, Count, Tally};
-use exchange_report::{Family, Kind, Metric, Reply, Why, metrics_text};
+use crate::tally::{Bound, Class, Count, Dealing, LoopTally};
+use exchange_report::{Family, Kind, Metric, REASONS, Reason, Reply, Why, metrics_text};
 use service_pool::Numbers;
 use span_bank::Book;
 use std::alloc::{AllocError, Global};
@@ -20,6 +20,10 @@ pub struct Figures {
     pub respmod_waiting: u64,
     /// The buffer budget.
     pub book: Book,
+    /// Connections that were closed, since they came from elsewhere than users may.
+    pub refused: u64,
+    /// Users that were refused, since their address had as many connections as it may.
+    pub over: u64,
     /// Lines of the log that are lost.
     pub lost: u64,
     /// Seconds since the start.
@@ -70,41 +74,19 @@ const RESPMOD_REPLIES: [(Reply, &[u8]); 4] = [
     (Reply::Missing, b"{point=\"respmod\",outcome=\"failed\"}"),
 ];
 
-/// The reasons of the proxy's own refusals.
-const REFUSALS: [Why; 18] = [
-    Why::BadRequest,
-    Why::NotServed,
-    Why::RequestBroken,
-    Why::UnknownHost,
-    Why::OriginRefused,
-    Why::OriginBroken,
-    Why::OriginDeadline,
-    Why::ServiceRefused,
-    Why::ServiceStatus,
-    Why::ServiceBroken,
-    Why::ServiceDeadline,
-    Why::Busy,
-    Why::Full,
-    Why::NoRow,
-    Why::NoSeat,
-    Why::NoMemory,
-    Why::UserDeadline,
-    Why::Stopping,
-];
-
 /// The reasons why an answer is cut, or a user without one.
 const FAILURES: [Why; 11] = [
-    Why::RequestBroken,
-    Why::OriginBroken,
-    Why::OriginDeadline,
-    Why::ServiceRefused,
-    Why::ServiceStatus,
-    Why::ServiceBroken,
-    Why::ServiceDeadline,
-    Why::NoMemory,
-    Why::UserDeadline,
+    Why::Failed(Reason::RequestBroken),
+    Why::Failed(Reason::OriginBroken),
+    Why::Failed(Reason::OriginDeadline),
+    Why::Failed(Reason::ServiceRefused),
+    Why::Failed(Reason::ServiceStatus),
+    Why::Failed(Reason::ServiceBroken),
+    Why::Failed(Reason::ServiceDeadline),
+    Why::Failed(Reason::NoMemory),
+    Why::Failed(Reason::UserDeadline),
     Why::UserGone,
-    Why::Stopping,
+    Why::Failed(Reason::Stopping),
 ];
 
 /// The points, with their names.
@@ -130,7 +112,7 @@ const BOUNDS: [(Bound, &[u8]); 12] = [
 #[derive(Drop)]
 struct Sheet<'a> {
     metrics: Vec<Metric>,
-    tallies: &'a [Tally],
+    tallies: &'a [LoopTally],
 }
 
 impl<'a> Sheet<'a> {
@@ -184,9 +166,9 @@ impl<'a> Sheet<'a> {
         );
         self.put(Metric::Family(refusals))?;
         for (point, name) in POINTS {
-            for why in REFUSALS {
-                let value = self.sum(Count::Refusals(point, why));
-                self.put(Metric::Reason(refusals, name, why, value))?;
+            for reason in REASONS {
+                let value = self.sum(Count::Refusals(point, reason));
+                self.put(Metric::Reason(refusals, name, Why::Failed(reason), value))?;
             }
         }
         Ok(())
@@ -255,6 +237,45 @@ impl<'a> Sheet<'a> {
         self.put(Metric::Sample(bytes, b"{direction=\"out\"}", sent))
     }
 
+    /// The connections to origins.
+    fn put_origins(&mut self) -> Result<(), AllocError> {
+        let origins = [
+            (
+                counter(
+                    b"adaptproxy_origin_connections_opened",
+                    b"Connections to origins that were opened, or prepared.",
+                ),
+                Dealing::Opened,
+            ),
+            (
+                counter(
+                    b"adaptproxy_origin_connections_reused",
+                    b"Connections to origins that an earlier exchange had left, and that were taken.",
+                ),
+                Dealing::Reused,
+            ),
+            (
+                counter(
+                    b"adaptproxy_requests_begun_anew",
+                    b"Requests that were begun anew, as such a connection was none for them.",
+                ),
+                Dealing::BegunAnew,
+            ),
+            (
+                gauge(
+                    b"adaptproxy_origin_connections_idle",
+                    b"Connections to origins that lie idle.",
+                ),
+                Dealing::Idle,
+            ),
+        ];
+        for (family, dealing) in origins {
+            let value = self.sum(Count::Origins(dealing));
+            self.one(family, value)?;
+        }
+        Ok(())
+    }
+
     /// The connections to both services.
     fn put_pools(&mut self, reqmod: Numbers, respmod: Numbers) -> Result<(), AllocError> {
         let open = gauge(
@@ -320,8 +341,8 @@ impl<'a> Sheet<'a> {
         )
     }
 
-    /// The users, and the seats for them.
-    fn put_users(&mut self, seats: u64) -> Result<(), AllocError> {
+    /// The users, the seats for them, and those that weren't let in.
+    fn put_users(&mut self, figures: &Figures) -> Result<(), AllocError> {
         let users = self.sum(Count::Users);
         self.one(
             gauge(b"adaptproxy_users", b"Users that are connected."),
@@ -329,7 +350,21 @@ impl<'a> Sheet<'a> {
         )?;
         self.one(
             gauge(b"adaptproxy_seats", b"Users that can be served at once."),
-            seats,
+            figures.seats,
+        )?;
+        self.one(
+            counter(
+                b"adaptproxy_users_refused",
+                b"Connections that were closed, since no user may come from their address.",
+            ),
+            figures.refused,
+        )?;
+        self.one(
+            counter(
+                b"adaptproxy_users_over_limit",
+                b"Users that were refused, since their address had as many connections as it may.",
+            ),
+            figures.over,
         )
     }
 }
@@ -337,7 +372,7 @@ impl<'a> Sheet<'a> {
 /// The counters of all loops, and the numbers of what they share, as OpenMetrics text.
 pub fn stats_text(
     alloc: Global,
-    tallies: &[Tally],
+    tallies: &[LoopTally],
     figures: &Figures,
 ) -> Result<Vec<u8>, AllocError> {
     let mut sheet = Sheet {
@@ -349,9 +384,10 @@ pub fn stats_text(
     sheet.put_failures()?;
     sheet.put_times()?;
     sheet.put_messages()?;
-    sheet.put_users(figures.seats)?;
+    sheet.put_users(figures)?;
     sheet.put_pools(figures.reqmod, figures.respmod)?;
     sheet.put_waiting(figures.reqmod_waiting, figures.respmod_waiting)?;
+    sheet.put_origins()?;
     sheet.put_book(figures.book)?;
     sheet.one(
         counter(

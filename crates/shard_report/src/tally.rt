@@ -1,10 +1,10 @@
 //! What a loop counts. It alone adds; the administrator's loop reads.
 
 ghost use Rattle.std.specs.Prelude.{◌≡◌, ◌<◌};
-ghost use Rattle.shard_report.specs.Indexes.{class_of, class_number, bound_of, bound_number, point_number, reply_number, why_number, index_of};
+ghost use Rattle.shard_report.specs.Indexes.{class_of, class_number, bound_of, bound_number, point_number, reply_number, why_number, dealing_number, index_of};
 ghost use Rattle.shard_report.specs.declared.tally.TheConstants.{COUNTS};
 
-use exchange_report::{Reply, Why};
+use exchange_report::{REASONS, Reason, Reply, Why};
 use std::alloc::{AllocError, Global};
 use std::sync::atomic::{AtomicU64, Ordering};
 use trace_core::Point;
@@ -64,16 +64,36 @@ pub enum Count {
     /// Messages of a point with this reply of their service.
     Messages(Point, Reply),
     /// The proxy's own refusals of a point's message, for this reason.
-    Refusals(Point, Why),
+    Refusals(Point, Reason),
     /// Exchanges that ended in a point's message without a whole answer, and without a refusal, for this reason.
     Failures(Point, Why),
     /// Exchanges that took this long, and longer than the bound before.
     Times(Bound),
+    /// Connections to origins, and what came of them.
+    Origins(Dealing),
 }
 
-/// How many numbers a loop has: six, one for each class, four for each point, one for each reason of each point, twice, and one for each
-/// bound.
-const COUNTS: usize = 6 + 6 + 2 * 4 + 2 * 2 * 20 + 12;
+/// What is counted of connections to origins.
+#[derive(Clone, Copy, Debug, PartialEq, Eq)]
+pub enum Dealing {
+    /// Connections that were opened, or prepared to be opened by the first byte on them.
+    Opened,
+    /// Connections which an earlier exchange had left, and that were taken for a request.
+    Reused,
+    /// Requests that were begun anew, since they couldn't go out on such a connection, or it had ended.
+    BegunAnew,
+    /// Connections that lie idle now.
+    Idle,
+}
+
+/// How many reasons there are, and how many ends of an exchange: these, and two without a reason.
+const REASON_COUNT: usize = REASONS.len();
+
+const END_COUNT: usize = REASON_COUNT + 2;
+
+/// How many numbers a loop has: six, one for each class, four for each point, one for each bound, four of connections to origins, one
+/// for each reason of each point, and one for each end of each point.
+const COUNTS: usize = 6 + 6 + 2 * 4 + 12 + 4 + 2 * REASON_COUNT + 2 * END_COUNT;
 
 impl Bound {
     /// The least bound that so many milliseconds don't pass.
@@ -170,25 +190,19 @@ fn why_number(why: Why) -> usize
 {
     match why {
         Why::Served => 0,
-        Why::BadRequest => 1,
-        Why::NotServed => 2,
-        Why::RequestBroken => 3,
-        Why::UnknownHost => 4,
-        Why::OriginRefused => 5,
-        Why::OriginBroken => 6,
-        Why::OriginDeadline => 7,
-        Why::ServiceRefused => 8,
-        Why::ServiceStatus => 9,
-        Why::ServiceBroken => 10,
-        Why::ServiceDeadline => 11,
-        Why::Busy => 12,
-        Why::Full => 13,
-        Why::NoRow => 14,
-        Why::NoSeat => 15,
-        Why::NoMemory => 16,
-        Why::UserDeadline => 17,
-        Why::UserGone => 18,
-        Why::Stopping => 19,
+        Why::UserGone => 1,
+        Why::Failed(reason) => 2 + reason.number(),
+    }
+}
+
+fn dealing_number(dealing: Dealing) -> usize
+    ensures { result ≡ dealing_number dealing }
+{
+    match dealing {
+        Dealing::Opened => 0,
+        Dealing::Reused => 1,
+        Dealing::BegunAnew => 2,
+        Dealing::Idle => 3,
     }
 }
 
@@ -206,33 +220,38 @@ fn index(count: Count) -> usize
         Count::Milliseconds => 5,
         Count::Answers(class) => 6 + class.number(),
         Count::Messages(point, reply) => 12 + 4 * point_number(point) + reply_number(reply),
-        Count::Refusals(point, why) => 20 + 20 * point_number(point) + why_number(why),
-        Count::Failures(point, why) => 60 + 20 * point_number(point) + why_number(why),
-        Count::Times(bound) => 100 + bound.number(),
+        Count::Times(bound) => 20 + bound.number(),
+        Count::Origins(dealing) => 32 + dealing_number(dealing),
+        Count::Refusals(point, reason) => {
+            36 + REASON_COUNT * point_number(point) + reason.number()
+        }
+        Count::Failures(point, why) => {
+            36 + 2 * REASON_COUNT + END_COUNT * point_number(point) + why_number(why)
+        }
     }
 }
 
 /// The numbers of one loop.
 ///
 /// ```
-/// let tally = Tally::new(alloc)?;
+/// let tally = LoopTally::new(alloc)?;
 /// tally.add(Count::Answers(Class::of(204)), 1);
 /// assert_eq!(rt; tally.get(Count::Answers(Class::Successful)), 1);
 /// assert_eq!(rt; tally.get(Count::Requests), 0);
 /// ```
 #[derive(Drop)]
-pub struct Tally {
+pub struct LoopTally {
     all: Vec<AtomicU64>,
 }
 
-impl Tally {
+impl LoopTally {
     /// All are 0. `Err` where no memory was found.
-    pub fn new(alloc: Global) -> Result<Tally, AllocError> {
+    pub fn new(alloc: Global) -> Result<LoopTally, AllocError> {
         let mut all = Vec::with_capacity(alloc, COUNTS)?;
         for _ in 0..COUNTS {
             all.push(AtomicU64::new(0))?;
         }
-        Ok(Tally { all })
+        Ok(LoopTally { all })
     }
 
     /// Adds to a number.
@@ -246,6 +265,13 @@ impl Tally {
     pub fn take(&self, count: Count, fewer: u64) {
         if let Some(number) = self.all.get(index(count)) {
             let _ = number.fetch_sub(fewer, Ordering::SeqCst);
+        }
+    }
+
+    /// Says what a number is, whatever it was.
+    pub fn set(&self, count: Count, value: u64) {
+        if let Some(number) = self.all.get(index(count)) {
+            number.store(value, Ordering::SeqCst);
         }
     }
 

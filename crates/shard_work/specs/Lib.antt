@@ -1,4 +1,6 @@
 pub mod Driving
+pub mod Lines
 pub mod Seats
 pub mod Slots
+pub mod Sparing
 pub mod Terms

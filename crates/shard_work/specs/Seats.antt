@@ -1,9 +1,16 @@
 -- When the connections of an exchange last moved.
-use Rattle.std.specs.Prelude.{◌≡◌, ◌≢◌, ℕ, ◌-◌, Bool, true, false, nat_lt, Option, Some, None, IsSomeAnd}
-use Rattle.slab.specs.Slab.{get}
-use Rattle.shard_work.specs.declared.seats.Seat.{Seat}
+use Rattle.std.specs.Prelude.{◌≡◌, ◌≢◌, ℕ, ◌<◌, ◌-◌, Bool, true, false, nat_lt, Option, Some, None, IsSomeAnd}
+use Rattle.slab.specs.Slab.{get, slab_len}
+use Rattle.socket_wire.specs.declared.token.Peer.{Peer}
+use Rattle.socket_wire.specs.declared.token.Peer.TheVariants.{User, Origin, Service}
+use Rattle.shard_work.specs.declared.lines.IdleLine.{IdleLine}
+use Rattle.shard_work.specs.declared.seat.Purpose.{Purpose}
+use Rattle.shard_work.specs.declared.seat.Purpose.TheVariants.{Requests, Refusal}
+use Rattle.shard_work.specs.declared.seat.Seat.{Seat}
 use Rattle.shard_work.specs.declared.seats.Seats.{Seats}
+use Rattle.shard_work.specs.declared.seats.TheConstants.{SPARE}
 use Rattle.shard_work.specs.declared.terms.Terms.{Terms}
+use Rattle.shard_work.specs.Lines.{owner}
 use Rattle.shard_work.specs.Terms.{is_overdue as is_awaited_for_long}
 
 -- at this moment, more than this number of seconds have passed since a byte moved; where there is no seat, nothing moves
@@ -24,16 +31,75 @@ awaits_for_long (Some seat) now terms = is_awaited_for_long seat.awaited now ter
 abbrev pub is_overdue : Seats → (key now : ℕ) → Terms → Bool
 is_overdue seats key now terms = awaits_for_long (get seats.all key) now terms
 
+-- at this moment, more than this number of seconds have passed since a wait began; where none did, none have
+abbrev pub has_passed : Option ℕ → (now seconds : ℕ) → Bool
+has_passed None now seconds = false
+has_passed (Some since) now seconds = nat_lt seconds (now - since)
+
+-- so since the message of a seat began to wait for a connection to its service
+abbrev pub waits_long : Option Seat → (now seconds : ℕ) → Bool
+waits_long None now seconds = false
+waits_long (Some seat) now seconds = has_passed seat.waits now seconds
+
+-- so for the seat under a key
+abbrev pub has_waited : Seats → (key now seconds : ℕ) → Bool
+has_waited seats key now seconds = waits_long (get seats.all key) now seconds
+
 -- the same seat, where a byte moved at this moment
 abbrev pub moved_at : (now : ℕ) → Option Seat → Option Seat
 moved_at now None = None
 moved_at now (Some seat) = Some (record seat { moved = now })
 
--- the seat under a key was taken at this moment
-pub record IsTaken (old new : Seats) (key now : ℕ) : Type 0 where
+-- the turn of the thread's loop, where its poll reported all that there was to report; else 0
+abbrev pub heard_of : Seats → ℕ
+heard_of seats = seats.heard
+
+-- fewer users are served than may be
+abbrev pub HasRoom : Seats → Type 0
+HasRoom seats = slab_len seats.all - seats.refused < seats.most
+
+-- a few more may be refused
+abbrev pub MayRefuse : Seats → Type 0
+MayRefuse seats = seats.refused < SPARE
+
+-- what the next seat is for: requests exactly while a further user can be served, and its address has a share left; else a refusal
+abbrev pub IsFor : (over : Bool) → Seats → Purpose → Type 0
+IsFor over seats Requests = (over ≡ false) × HasRoom seats
+IsFor over seats Refusal = (over ≡ false → HasRoom seats → ⊥) × MayRefuse seats
+
+-- the seat under a key was taken for this at this moment
+pub record IsTaken (over : Bool) (old new : Seats) (key : ℕ) (purpose : Purpose) (now : ℕ) : Type 0 where
   -- nobody had it
   pub free : get old.all key ≡ None
+  -- it is for that
+  pub is_for : IsFor over old purpose
+  pub purpose_is : IsSomeAnd (get new.all key) (λ seat. seat.purpose ≡ purpose)
   -- its seconds count from now on
   pub moved : IsSomeAnd (get new.all key) (λ seat. seat.moved ≡ now)
   -- all other seats stay
   pub others : (other : ℕ) → other ≢ key → get new.all other ≡ get old.all other
+
+-- the exchange under this key has the connection that the poll reports under this number and peer: that of its user under its key, that to an
+-- origin or a service under its line
+abbrev pub Has : Seats → (number : ℕ) → Peer → (key : ℕ) → Type 0
+Has seats number User key = key ≡ number
+Has seats number Origin key = owner seats.lines number ≡ Some key
+Has seats number Service key = owner seats.lines number ≡ Some key
+
+-- the line of a seat's connection to this peer; that of its user has none
+abbrev pub line_in : Option Seat → Peer → Option ℕ
+line_in None peer = None
+line_in (Some seat) User = None
+line_in (Some seat) Origin = seat.origin
+line_in (Some seat) Service = seat.service
+
+-- so for the seat under a key
+abbrev pub line_of : Seats → (key : ℕ) → Peer → Option ℕ
+line_of seats key peer = line_in (get seats.all key) peer
+
+-- the line of the connection to this peer that the exchange under this key had lies idle since the turn of now, and nobody has it
+pub record IsLaid (old new : Seats) (key : ℕ) (peer : Peer) (idle : IdleLine) : Type 0 where
+  pub was : line_of old key peer ≡ Some idle.number
+  pub gone : line_of new key peer ≡ None
+  pub nobody : owner new.lines idle.number ≡ None
+  pub laid : idle.laid ≡ old.turn

@@ -1,7 +1,11 @@
 //! How an exchange is driven: step by step, until others get their turn.
 
-ghost use Rattle.std.specs.Prelude.{◌≡◌, ◌+◌, ◌<◌, ◌↔◌, true, false};
-ghost use Rattle.shard_work.specs.Driving.{weight};
+ghost use Rattle.std.specs.Prelude.{◌≡◌, ◌+◌, ◌<◌, ◌≤◌, ◌⊎◌, true, false, cond, IfSome};
+ghost use Rattle.slab.specs.Slab.{get};
+ghost use Rattle.trace_core.specs.declared.history.Point.{Point as AnyPoint};
+ghost use Rattle.shard_work.specs.Driving.{Adds, Drives, IfBlocked, Leaves, is_round, weight};
+ghost use Rattle.shard_work.specs.Driving.Doing.{Did};
+ghost use Rattle.shard_work.specs.Sparing.{GivesWay, has_ended, is_gone};
 
 use crate::exchanges::{Exchanges, Slotted};
 use crate::seating::Seating;
@@ -47,7 +51,9 @@ fn has_moved(step: Step) -> bool {
 }
 
 /// Whether a step here is one at a connection: a message is read, moves, or waits.
-fn is_round(phase: Phase) -> bool {
+fn is_round(phase: Phase) -> bool
+    ensures { result ≡ is_round phase }
+{
     !matches!(
         phase,
         Phase::Planning { .. } | Phase::Preparing { .. } | Phase::AtGate { .. }
@@ -68,11 +74,12 @@ struct Noted {
 impl Noted {
     ghost use Rattle.shard_work.specs.Driving.{weight};
 
-    /// Whether others should get their turn before the next step at a connection.
-    fn is_spent(&self) -> bool
-        ensures { result ≡ false ↔ self.now.rounds < ROUNDS }
+    /// Whether others should get their turn before a step in this phase, which is one at a connection.
+    fn is_spent(&self, phase: Phase) -> bool
+        ensures spent { result ≡ true → ROUNDS ≤ self.now.rounds }
+        ensures room { result ≡ false → is_round phase ≡ true → self.now.rounds < ROUNDS }
     {
-        self.rounds >= ROUNDS
+        is_round(phase) && self.rounds >= ROUNDS
     }
 
     /// Counts a step at a connection.
@@ -124,6 +131,8 @@ fn take_step<E: Exchanges, R: Wait + Dial + Clock, G: Gate>(
     phase: Phase,
     noted: &mut Noted,
 ) -> Step
+    requires { phase ≡ E.Exchange.phase_of exchange.old }
+    ensures past { Adds (E.Exchange.past exchange.old) (E.Exchange.past exchange.new) (Did phase Task.Step result) }
     ensures rounds { noted.new.rounds ≡ noted.old.rounds }
     ensures over { result ≡ Step.Over → E.Exchange.is_over exchange.new ≡ true }
 {
@@ -151,7 +160,9 @@ fn is_awaited<S: Seating, R: Wait>(users: &S, rt: &R, key: usize) -> bool {
 
 /// Whether the user of an exchange in this phase is lost: it is gone, or has ended its bytes in the way of others, who would wait for
 /// their turn in the queue for a service's connection.
-fn is_lost<S: Seating, R: Wait>(users: &S, rt: &R, key: usize, phase: Phase) -> bool {
+fn is_lost<S: Seating, R: Wait>(users: &S, rt: &R, key: usize, phase: Phase) -> bool
+    ensures { result ≡ true → (is_gone (get (S.seats_of users.now).all key) ≡ true) ⊎ (has_ended (get (S.seats_of users.now).all key) ≡ true) }
+{
     let seats = users.seats();
     seats.is_gone(key)
         || seats.has_ended(key)
@@ -174,7 +185,9 @@ fn wanted_point(phase: Phase) -> Option<Point> {
 
 /// The user of the thread that has ended its bytes, and has a connection to a service that an exchange in this phase wants, while none is
 /// free. That user gives way to it.
-fn in_way<S: Seating, R: Wait, G>(users: &S, at: &Spot<'_, R, G>, phase: Phase) -> Option<usize> {
+fn in_way<S: Seating, R: Wait, G>(users: &S, at: &Spot<'_, R, G>, phase: Phase) -> Option<usize>
+    ensures { IfSome result (λ other. (point : AnyPoint) × GivesWay (S.seats_of users.now) point other) }
+{
     let point = wanted_point(phase)?;
     let key = users.seats().ended_with(point)?;
     if users.seats().leases(at.key).is_none() && users.lacks(at.rt, point) {
@@ -184,20 +197,24 @@ fn in_way<S: Seating, R: Wait, G>(users: &S, at: &Spot<'_, R, G>, phase: Phase) 
     }
 }
 
-/// A step of an exchange at a connection, which is counted.
-fn take_round<E: Exchanges, R: Wait + Dial + Clock, G: Gate>(
+/// A step of an exchange in this phase. One at a connection is counted.
+fn take_next<E: Exchanges, R: Wait + Dial + Clock, G: Gate>(
     exchanges: &mut E,
     at: &Spot<'_, R, G>,
     exchange: &mut E::Exchange,
     phase: Phase,
     noted: &mut Noted,
 ) -> Step
-    requires { noted.old.rounds < ROUNDS }
-    ensures counted { noted.new.rounds ≡ noted.old.rounds + weight result }
+    requires room { is_round phase ≡ true → noted.old.rounds < ROUNDS }
+    requires phase { phase ≡ E.Exchange.phase_of exchange.old }
+    ensures past { Adds (E.Exchange.past exchange.old) (E.Exchange.past exchange.new) (Did phase Task.Step result) }
+    ensures counted { noted.new.rounds ≡ cond (is_round phase) (noted.old.rounds + weight result) noted.old.rounds }
     ensures over { result ≡ Step.Over → E.Exchange.is_over exchange.new ≡ true }
 {
     let step = take_step(exchanges, at, exchange, phase, noted);
-    noted.count(step);
+    if is_round(phase) {
+        noted.count(step);
+    }
     step
 }
 
@@ -208,31 +225,28 @@ pub(crate) fn drive_on<E: Exchanges, R: Wait + Dial + Clock, G: Gate>(
     at: &Spot<'_, R, G>,
     exchange: &mut E::Exchange,
 ) -> Driven
-    ensures { result ≡ Driven.Over → E.Exchange.is_over exchange.new ≡ true }
+    ensures drives { Drives (E.Exchange.past exchange.old) (E.Exchange.past exchange.new) result }
+    ensures over { result ≡ Driven.Over → E.Exchange.is_over exchange.new ≡ true }
+    ensures blocked { IfBlocked result (λ other. (point : AnyPoint) × GivesWay (E.Seating.seats_of (E.users_of exchanges.new)) point other) }
 {
     let mut noted = Noted {
         stay: None,
         went_on: false,
         rounds: 0,
     };
-    for _ in 0..STEPS {
+    for _taken in 0..STEPS {
         let phase = exchange.phase();
         if let Some(other) = in_way(exchanges.users(), at, phase) {
             return Driven::Blocked(other);
         }
-        let step = if is_round(phase) {
-            if is_lost(exchanges.users(), at.rt, at.key, phase) {
-                exchanges.act(at, exchange, Task::Lose);
-                return Driven::Over;
-            }
-            if noted.is_spent() {
-                return Driven::CutShort;
-            }
-            take_round(exchanges, at, exchange, phase, &mut noted)
-        } else {
-            take_step(exchanges, at, exchange, phase, &mut noted)
-        };
-        match step {
+        if is_round(phase) && is_lost(exchanges.users(), at.rt, at.key, phase) {
+            exchanges.act(at, exchange, Task::Lose);
+            return Driven::Over;
+        }
+        if noted.is_spent(phase) {
+            return Driven::CutShort;
+        }
+        match take_next(exchanges, at, exchange, phase, &mut noted) {
             Step::On | Step::Turned { .. } | Step::Unmoved => {}
             Step::Waits => return Driven::Waiting,
             Step::Over => return Driven::Over,
@@ -248,7 +262,8 @@ pub(crate) fn leave_on<E: Exchanges, R: Wait + Dial + Clock, G: Gate>(
     at: &Spot<'_, R, G>,
     exchange: &mut E::Exchange,
 ) -> Driven
-    ensures { result ≡ Driven.Over → E.Exchange.is_over exchange.new ≡ true }
+    ensures leaves { Leaves (E.Exchange.past exchange.old) (E.Exchange.past exchange.new) result }
+    ensures over { result ≡ Driven.Over → E.Exchange.is_over exchange.new ≡ true }
 {
     if exchanges.users().seats().is_gone(at.key) {
         exchanges.act(at, exchange, Task::Lose);

@@ -1,6 +1,10 @@
 //! What a thread's users have in common, beside their exchanges.
 
-use crate::seats::{Purpose, Seats};
+ghost use Rattle.std.specs.Prelude.{◌≡◌};
+ghost use Rattle.shard_work.specs.declared.seats.Seats.{Seats as AnySeats};
+
+use crate::seat::Purpose;
+use crate::seats::Seats;
 use mio::net::TcpStream;
 use std::sync::Wait;
 use std::time::Clock;
@@ -8,7 +12,11 @@ use trace_core::Point;
 
 /// Where the users of a thread sit: what is noted of them, and who of them waits for a connection to a service.
 pub trait Seating {
-    fn seats(&self) -> &Seats;
+    // the seats of the users
+    ghost seats_of: { Self → AnySeats };
+
+    fn seats(&self) -> &Seats
+        ensures { result.now ≡ seats_of self.now };
 
     fn seats_mut(&mut self) -> &mut Seats;
 
@@ -24,6 +32,15 @@ pub trait Seating {
     /// Closes idle connections to services, where they keep the next user out, and says whether it has room then. `None` where they
     /// don't.
     fn close_idle<R: Wait>(&mut self, rt: &R) -> Option<bool>;
+
+    /// How many milliseconds may pass before the next turn, while connections to origins lie idle. `None` where none does.
+    fn patience(&self) -> Option<u64>;
+
+    /// A turn of the loop is over: idle connections to origins that are of no use any more are closed.
+    fn turn_over(&mut self, now: u64);
+
+    /// No further user comes: no connection to an origin is kept from now on, and those that lie idle are closed.
+    fn drain(&mut self);
 
     /// Whether users of other threads alone have ended their bytes: they are spared before one of this thread.
     fn has_ended_elsewhere(&self) -> bool;

@@ -1,15 +1,17 @@
 //! Users' connections by their keys: their readiness, when they last moved, and which can best be spared.
 
-ghost use Rattle.std.specs.Prelude.{◌≡◌, ◌/◌, IfSome, IfOk, IfErr};
+ghost use Rattle.std.specs.Prelude.{◌≡◌, ◌↔◌, ◌/◌, if◌then◌else◌, true, false, None, IfSome};
+ghost use Rattle.shard_work.specs.Sparing.{GivesWay, HasRank, has_ended, is_gone};
 
-use crate::terms::{Awaited, Terms};
-use event_loop::{Spared, Stay, Told, UserPermit, is_young, spared_of, youth_of};
-use mio::{Registry, Token};
+mod wiring;
+
+use crate::lines::Lines;
+use crate::seat::{Purpose, Seat};
+use crate::terms::Terms;
+use event_loop::{Spared, Stay, UserPermit, is_young, youth_of};
 use slab::Slab;
-use socket_wire::{MAX_KEY, Peer, Readiness, Role, SocketWire, Stream, token_of};
 use std::alloc::{AllocError, Global};
 use std::mem;
-use std::sync::Arc;
 use trace_core::Point;
 
 /// The milliseconds of a second.
@@ -18,76 +20,27 @@ pub const SECOND: u64 = 1000;
 /// How many seats there are beyond those of the users that are served.
 const SPARE: usize = 16;
 
-/// What a seat is for.
-#[derive(Clone, Copy, Debug, PartialEq, Eq)]
-pub enum Purpose {
-    /// The requests of a user.
-    Requests,
-    /// The refusal of a user for whom there is no room.
-    Refusal,
-}
-
-/// What is known of the connections of an exchange.
-#[derive(Drop)]
-struct Seat {
-    purpose: Purpose,
-    number: u64,
-    permit: UserPermit,
-    /// When the user was taken in, in milliseconds.
-    came: u64,
-    moved: u64,
-    stay: Stay,
-    /// When the stay began, in the order of all stays.
-    since: u64,
-    /// When the message began to wait for a connection to its service.
-    waits: Option<u64>,
-    awaited: Awaited,
-    /// The point to whose service it has a connection.
-    leases: Option<Point>,
-    user: Option<Arc<Readiness>>,
-    origin: Option<Arc<Readiness>>,
-    service: Option<Arc<Readiness>>,
-}
-
-/// How many bytes were written on a connection.
-fn taken_by(ready: &Option<Arc<Readiness>>) -> u64 {
-    match ready {
-        Some(ready) => ready.taken(),
-        None => 0,
-    }
-}
-
-/// Since when a connection is awaited that nobody has taken yet.
-fn awaited_since(ready: &Option<Arc<Readiness>>, since: Option<u64>, now: u64) -> Option<u64> {
-    match ready {
-        Some(ready) if ready.is_on_its_way() => Some(since.unwrap_or(now)),
-        _ => None,
-    }
-}
-
-/// Whether the user of a seat has ended its bytes, or its connection is gone both ways.
-fn has_ended(seat: &Seat) -> bool {
-    match &seat.user {
-        Some(user) => user.is_closed(),
-        None => false,
-    }
-}
-
 /// The seats of a thread, each under its key.
 #[derive(Drop)]
 pub struct Seats {
     alloc: Global,
     all: Slab<Seat>,
+    lines: Lines,
     most: usize,
     refused: usize,
     /// How many stays have begun.
     stays: u64,
     /// How many users that are served have ended their bytes.
     ended: usize,
+    /// How many turns of the loop are over.
+    turn: u64,
+    /// This turn, where its poll reported all that there was to report; else 0.
+    heard: u64,
 }
 
 impl Seats {
-    ghost use Rattle.shard_work.specs.Seats.{is_late, is_overdue, moved_at, IsTaken};
+    ghost use Rattle.loop_parts.specs.Shares.{is_over};
+    ghost use Rattle.shard_work.specs.Seats.{heard_of, HasRoom, IsFor, MayRefuse, has_waited, is_late, is_overdue, moved_at, IsTaken};
     ghost use Rattle.slab.specs.Slab.{get, Updates};
 
     /// No seat is taken, and at most `most` users may be served at once. `Err` if no memory was found for their seats.
@@ -95,10 +48,13 @@ impl Seats {
         let mut seats = Seats {
             alloc,
             all: Slab::new(alloc),
+            lines: Lines::new(alloc),
             most,
             refused: 0,
             stays: 0,
             ended: 0,
+            turn: 0,
+            heard: 0,
         };
         let bound = seats.bound();
         seats.all.reserve(bound)?;
@@ -110,10 +66,13 @@ impl Seats {
         let none = Seats {
             alloc: self.alloc,
             all: Slab::new(self.alloc),
+            lines: Lines::new(self.alloc),
             most: 0,
             refused: 0,
             stays: 0,
             ended: 0,
+            turn: 0,
+            heard: 0,
         };
         mem::replace(self, none)
     }
@@ -124,13 +83,18 @@ impl Seats {
     }
 
     /// Whether a further user can be served.
-    pub fn has_room(&self) -> bool {
+    pub fn has_room(&self) -> bool
+        ensures { result ≡ true ↔ HasRoom self.now }
+    {
         self.all.len().saturating_sub(self.refused) < self.most
     }
 
-    /// What the next seat is for. `None` if no seat is free.
-    fn next_purpose(&self) -> Option<Purpose> {
-        if self.has_room() {
+    /// What the next seat is for, that of a user whose address has no share left or of another one. `None` if no seat is free.
+    fn next_purpose(&self, is_over: bool) -> Option<Purpose>
+        ensures some { IfSome result (IsFor is_over self.now) }
+        ensures none { result ≡ None → (is_over ≡ false → HasRoom self.now → ⊥) × (MayRefuse self.now → ⊥) }
+    {
+        if !is_over && self.has_room() {
             Some(Purpose::Requests)
         } else if self.refused < SPARE {
             Some(Purpose::Refusal)
@@ -142,7 +106,7 @@ impl Seats {
     /// How many bytes a user has taken, on its connection.
     pub fn taken(&self, key: usize) -> u64 {
         match self.all.get(key) {
-            Some(seat) => taken_by(&seat.user),
+            Some(seat) => seat.taken(),
             None => 0,
         }
     }
@@ -155,31 +119,16 @@ impl Seats {
     /// Takes a seat for a user's connection of this number at this moment, in milliseconds, and says what it is for. `None` if no
     /// seat is free.
     pub fn take(&mut self, number: u64, permit: UserPermit, millis: u64) -> Option<(usize, Purpose)>
-        ensures taken { IfSome result (λ taken. IsTaken self.old self.new taken.0 (millis / SECOND)) }
+        ensures taken { IfSome result (λ taken. IsTaken (is_over permit) self.old self.new taken.0 taken.1 (millis / SECOND)) }
     {
-        let purpose = self.next_purpose()?;
+        let purpose = self.next_purpose(permit.is_over())?;
         let since = self.next_stay();
         if self.all.reserve(1).is_err() || self.all.vacant_key() >= self.bound() {
             return None;
         }
-        let key = self.all.insert_reserved(Seat {
-            purpose,
-            number,
-            permit,
-            came: millis,
-            moved: millis / SECOND,
-            stay: match purpose {
-                Purpose::Requests => Stay::Head,
-                Purpose::Refusal => Stay::Exchange,
-            },
-            since,
-            waits: None,
-            awaited: Awaited::nothing(),
-            leases: None,
-            user: None,
-            origin: None,
-            service: None,
-        });
+        let key = self
+            .all
+            .insert_reserved(Seat::new(purpose, number, permit, millis, since));
         if purpose == Purpose::Refusal {
             self.refused = self.refused.saturating_add(1);
         }
@@ -191,9 +140,11 @@ impl Seats {
         let Some(seat) = self.all.try_remove(key) else {
             return;
         };
+        self.free(seat.origin);
+        self.free(seat.service);
         if seat.purpose == Purpose::Refusal {
             self.refused = self.refused.saturating_sub(1);
-        } else if has_ended(&seat) {
+        } else if seat.ended {
             self.ended = self.ended.saturating_sub(1);
         }
     }
@@ -238,19 +189,9 @@ impl Seats {
 
     /// Takes note of the connections that are awaited, of those which the exchange needs: their times count from now on.
     pub fn await_connections(&mut self, key: usize, now: u64, origin: bool, service: bool) {
-        let Some(seat) = self.all.get_mut(key) else {
-            return;
-        };
-        seat.awaited.origin = if origin {
-            awaited_since(&seat.origin, seat.awaited.origin, now)
-        } else {
-            None
-        };
-        seat.awaited.service = if service {
-            awaited_since(&seat.service, seat.awaited.service, now)
-        } else {
-            None
-        };
+        if let Some(seat) = self.all.get_mut(key) {
+            seat.await_connections(&self.lines, now, origin, service);
+        }
     }
 
     /// A request comes on a user's connection, of which nothing was read yet: it isn't spared before it is driven.
@@ -279,15 +220,11 @@ impl Seats {
         millis: u64,
         youth: u64,
         best: Option<Spared>,
-    ) -> Option<Spared> {
+    ) -> Option<Spared>
+        ensures { IfSome result (λ spared. (spared.key ≡ key) × HasRank self.now key millis youth spared.rank) }
+    {
         let seat = self.all.get(key)?;
-        let stay = if has_ended(seat) && seat.purpose == Purpose::Requests {
-            Stay::Ended
-        } else {
-            seat.stay
-        };
-        let age = millis.saturating_sub(seat.came);
-        let this = spared_of(key, stay, age, youth, seat.since)?;
+        let this = seat.spared(key, millis, youth)?;
         match best {
             Some(best) if !this.comes_before(&best) => None,
             _ => Some(this),
@@ -295,22 +232,21 @@ impl Seats {
     }
 
     /// Whether the user's connection is gone both ways.
-    pub fn is_gone(&self, key: usize) -> bool {
+    pub fn is_gone(&self, key: usize) -> bool
+        ensures { result ≡ is_gone (get self.now.all key) }
+    {
         match self.all.get(key) {
-            Some(
-                Seat {
-                    user: Some(user),
-                    ..
-                },
-            ) => user.has_failed(),
-            _ => false,
+            Some(seat) => seat.gone,
+            None => false,
         }
     }
 
     /// Whether the user has ended its bytes, or its connection is gone both ways.
-    pub fn has_ended(&self, key: usize) -> bool {
+    pub fn has_ended(&self, key: usize) -> bool
+        ensures { result ≡ has_ended (get self.now.all key) }
+    {
         match self.all.get(key) {
-            Some(seat) => has_ended(seat),
+            Some(seat) => seat.ended,
             None => false,
         }
     }
@@ -331,7 +267,9 @@ impl Seats {
     }
 
     /// The exchange with a connection to the service of this point, whose user has ended its bytes: the one whose stay began first.
-    pub fn ended_with(&self, point: Point) -> Option<usize> {
+    pub fn ended_with(&self, point: Point) -> Option<usize>
+        ensures { IfSome result (GivesWay self.now point) }
+    {
         if self.ended == 0 {
             return None;
         }
@@ -340,7 +278,7 @@ impl Seats {
         for key in 0..self.bound() {
             if let Some(seat) = self.all.get(key)
                 && seat.leases == Some(point)
-                && has_ended(seat)
+                && seat.ended
                 && seat.since < since
             {
                 first = Some(key);
@@ -367,7 +305,9 @@ impl Seats {
     }
 
     /// Whether it has waited for more than this number of seconds: that is never early, and a second late at most.
-    pub fn has_waited(&self, key: usize, now: u64, seconds: u64) -> bool {
+    pub fn has_waited(&self, key: usize, now: u64, seconds: u64) -> bool
+        ensures { result ≡ has_waited self.now key now seconds }
+    {
         match self.all.get(key) {
             Some(
                 Seat {
@@ -409,6 +349,27 @@ impl Seats {
         }
     }
 
+    /// The poll of this turn reported all that there was to report, or only as much as it had room for.
+    pub(crate) fn heard(&mut self, is_whole: bool)
+        ensures { self.new ≡ record self.old { heard = if is_whole then self.old.turn else 0 } }
+    {
+        self.heard = if is_whole { self.turn } else { 0 };
+    }
+
+    /// The loop's turn, where its poll reported all that there was to report. Else 0: an idle connection of which it said nothing may have
+    /// been heard on.
+    pub fn heard_at(&self) -> u64
+        ensures { result ≡ heard_of self.now }
+    {
+        self.heard
+    }
+
+    /// A turn of the loop is over.
+    pub(crate) fn turn_over(&mut self) {
+        self.turn = self.turn.saturating_add(1);
+        self.lines.turn_over();
+    }
+
     /// Whether a user that is served has ended its bytes.
     pub fn have_ended(&self) -> bool {
         self.ended > 0
@@ -420,96 +381,5 @@ impl Seats {
         if let Some(seat) = self.all.get_mut(key) {
             seat.permit.end();
         }
-    }
-
-    /// Takes note of an event. False if it says nothing new.
-    pub fn note(&mut self, key: usize, peer: Peer, told: Told) -> bool {
-        let Some(seat) = self.all.get(key) else {
-            return false;
-        };
-        let had_ended = has_ended(seat);
-        let ready = match peer {
-            Peer::User => &seat.user,
-            Peer::Origin => &seat.origin,
-            Peer::Service => &seat.service,
-        };
-        let is_news = match ready {
-            Some(ready) => {
-                let gone = told.failed && ready.fail();
-                ready.note(told.readable, told.writable, told.closed) || gone
-            }
-            None => false,
-        };
-        if !had_ended && has_ended(seat) && seat.purpose == Purpose::Requests {
-            self.end(key);
-        }
-        is_news
-    }
-
-    /// Keeps the readiness of a connection, in place of that of another one.
-    fn keep(
-        &mut self,
-        key: usize,
-        peer: Peer,
-        ready: Option<Arc<Readiness>>,
-    ) -> Option<Arc<Readiness>> {
-        let seat = self.all.get_mut(key)?;
-        match peer {
-            Peer::User => mem::replace(&mut seat.user, ready),
-            Peer::Origin => mem::replace(&mut seat.origin, ready),
-            Peer::Service => mem::replace(&mut seat.service, ready),
-        }
-    }
-
-    /// A wire over a stream to a peer of the role `P`, which the poll reports. The stream comes back if the system refuses, or no
-    /// memory was found.
-    pub fn wire<P: Role>(
-        &mut self,
-        registry: &Registry,
-        key: usize,
-        ready: Readiness,
-        stream: Stream<P>,
-    ) -> Result<SocketWire<P>, Stream<P>>
-        ensures { IfOk result (λ wire. wire.stream ≡ stream) }
-    {
-        let Ok(ready) = Arc::new(self.alloc, ready) else {
-            return Err(stream);
-        };
-        let Ok(told) = Arc::clone(&ready) else {
-            return Err(stream);
-        };
-        let wire = SocketWire::new(stream, ready);
-        match self.enlist(registry, key, wire, told) {
-            Ok(wire) => Ok(wire),
-            Err(wire) => Err(wire.into_stream()),
-        }
-    }
-
-    /// Has the poll report a wire. It comes back if the system refuses.
-    pub fn enlist<P: Role>(
-        &mut self,
-        registry: &Registry,
-        key: usize,
-        wire: SocketWire<P>,
-        ready: Arc<Readiness>,
-    ) -> Result<SocketWire<P>, SocketWire<P>>
-        ensures ok { IfOk result (λ enlisted. enlisted ≡ wire) }
-        ensures err { IfErr result (λ refused. refused ≡ wire) }
-    {
-        let mut wire = wire;
-        if key > MAX_KEY
-            || wire
-                .register(registry, Token(token_of(key, P::PEER)))
-                .is_err()
-        {
-            return Err(wire);
-        }
-        let _ = self.keep(key, P::PEER, Some(ready));
-        Ok(wire)
-    }
-
-    /// The readiness of a service's connection that leaves the exchange.
-    pub fn dismiss(&mut self, key: usize) -> Option<Arc<Readiness>> {
-        self.keep(key, Peer::Service, None)
     }
 }

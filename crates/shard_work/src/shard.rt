@@ -1,7 +1,10 @@
 //! The work of one thread: its exchanges, each in a slot.
 
-ghost use Rattle.std.specs.Prelude.{◌≡◌, ◌<◌, true, ⊤, length, slice_get};
+ghost use Rattle.std.specs.Prelude.{◌≡◌, ◌<◌, true, Some, None, ⊤, length, slice_get};
 ghost use Rattle.event_loop.specs.Deeds.{has_more};
+ghost use Rattle.trace_core.specs.declared.history.Point.{Point as AnyPoint};
+ghost use Rattle.shard_work.specs.Driving.{IfBlocked};
+ghost use Rattle.shard_work.specs.Sparing.{GivesWay};
 ghost use Rattle.shard_work.specs.Slots.{ChangesOnly, Slot};
 
 use crate::driving::{drive_on, leave_on};
@@ -86,6 +89,7 @@ impl<'a, E: Exchanges + Drop, G: Gate> Shard<'a, E, G> {
     /// Puts an exchange into the slot of its key, from which it was taken. What comes back, which is nothing, ends.
     fn keep<R: Wait + Dial + Clock>(&mut self, at: &Spot<'_, R, G>, exchange: Box<E::Exchange>)
         ensures only { ChangesOnly at.entry.now.key self.old.slots.all.items self.new.slots.all.items }
+        ensures free { slice_get self.old.slots.all.items at.entry.now.key ≡ Some None → self.new.exchanges ≡ self.old.exchanges }
         ensures queues { self.new.queues ≡ self.old.queues }
     {
         if let Some(old) = self.slots.place(at.key, exchange) {
@@ -99,6 +103,7 @@ impl<'a, E: Exchanges + Drop, G: Gate> Shard<'a, E, G> {
     /// touched.
     fn drive_slot<R: Wait + Dial + Clock>(&mut self, at: &Spot<'_, R, G>) -> Driven
         ensures only { ChangesOnly at.entry.now.key self.old.slots.all.items self.new.slots.all.items }
+        ensures blocked { IfBlocked result (λ other. (point : AnyPoint) × GivesWay (E.Seating.seats_of (E.users_of self.new.exchanges)) point other) }
         ensures there { has_more result ≡ true → at.entry.now.key < length self.old.slots.all.items }
         ensures queues { self.new.queues ≡ self.old.queues }
     {
@@ -274,7 +279,11 @@ impl<'a, E: Exchanges + Drop, G: Gate> Work for Shard<'a, E, G> {
         user: Handed,
         millis: u64,
     ) -> Admitted {
-        if !self.has_seat(rt, registry, user.is_first_round(), millis) && user.may_go_on() {
+        // One that has no share of its address's connections takes no seat from another user.
+        if !user.permit.is_over()
+            && !self.has_seat(rt, registry, user.is_first_round(), millis)
+            && user.may_go_on()
+        {
             return Admitted::Full(user);
         }
         let Handed {
@@ -342,8 +351,18 @@ impl<'a, E: Exchanges + Drop, G: Gate> Work for Shard<'a, E, G> {
         }
     }
 
-    fn note(&mut self, key: usize, peer: Peer, told: Told) -> bool {
-        self.exchanges.users_mut().seats_mut().note(key, peer, told)
+    fn heard(&mut self, is_whole: bool) {
+        self.exchanges.users_mut().seats_mut().heard(is_whole);
+    }
+
+    fn note(&mut self, number: usize, peer: Peer, told: Told) -> Option<usize> {
+        let seats = self.exchanges.users_mut().seats_mut();
+        let key = seats.note(number, peer, told)?;
+        if key < self.slots.count() {
+            Some(key)
+        } else {
+            None
+        }
     }
 
     fn drive<R: Wait + Dial + Clock>(
@@ -411,17 +430,23 @@ impl<'a, E: Exchanges + Drop, G: Gate> Work for Shard<'a, E, G> {
     }
 
     fn patience(&self) -> Option<u64> {
-        None
+        self.exchanges.users().patience()
     }
 
-    fn turn_over<R: Wait>(&mut self, _rt: &R) {}
+    fn turn_over<R: Wait>(&mut self, _rt: &R, now: u64) {
+        let users = self.exchanges.users_mut();
+        users.seats_mut().turn_over();
+        users.turn_over(now);
+    }
 
     fn drain(&mut self) {
         self.serving = Serving::Draining;
+        self.exchanges.users_mut().drain();
     }
 
     fn halt<R: Wait + Dial + Clock>(&mut self, rt: &R, registry: &Registry, now: u64) {
         self.serving = Serving::Stopped;
+        self.exchanges.users_mut().drain();
         for key in 0..self.slots.count() {
             let gate = self.gate;
             self.halt_slot(&Spot {

@@ -1,4 +1,4 @@
--- The number of a connection in its exchange's tokens.
+-- The number of a peer in the tokens of connections.
 use Rattle.std.specs.Prelude.{ℕ}
 use Rattle.socket_wire.specs.declared.token.Peer.{Peer}
 use Rattle.socket_wire.specs.declared.token.Peer.TheVariants.{User, Origin, Service}

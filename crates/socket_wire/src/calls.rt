@@ -36,7 +36,7 @@ pub trait Calls {
     fn connect(&mut self) -> bool
         ensures { (p : Past) → calls self.old p → calls self.new (after_offer p [] (put_by result)) };
 
-    /// Gives it up after a call that signals broke off again and again: it counts as failed.
+    /// Gives it up, as after a call that signals broke off again and again: it counts as failed.
     fn give_up(&mut self)
         ensures { (p : Past) → calls self.old p → calls self.new (after_offer p [] (Some Put.Fault)) };
 

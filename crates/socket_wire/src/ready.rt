@@ -19,6 +19,10 @@ pub struct Readiness {
     /// Whether a write waits for that.
     wanted: AtomicBool,
     taken: AtomicU64,
+    /// Whether it was taken up after it lay idle, and no byte was written since.
+    resumed: AtomicBool,
+    /// How often the connection has left its line.
+    departures: AtomicU64,
 }
 
 impl Readiness {
@@ -34,6 +38,8 @@ impl Readiness {
             polled: AtomicBool::new(false),
             wanted: AtomicBool::new(false),
             taken: AtomicU64::new(0),
+            resumed: AtomicBool::new(false),
+            departures: AtomicU64::new(0),
         }
     }
 
@@ -101,6 +107,7 @@ impl Readiness {
 
     /// Takes note of bytes that were written.
     pub fn took(&self, count: u64) {
+        self.resumed.store(false, Ordering::Relaxed);
         let _ = self.taken.fetch_add(count, Ordering::Relaxed);
     }
 
@@ -122,6 +129,32 @@ impl Readiness {
     /// Whether the other side has ended its bytes, or the connection has failed.
     pub fn is_closed(&self) -> bool {
         self.closed.load(Ordering::Relaxed)
+    }
+
+    /// Whether nothing was noted since a read or a look found nothing more to do, but room to write: no byte, no end and no failure.
+    pub fn is_quiet(&self) -> bool {
+        !self.can_read() && !self.is_closed() && !self.has_failed()
+    }
+
+    /// The connection is taken up after it lay idle: nothing may be heard on it before a byte is written.
+    pub fn resume(&self) {
+        self.resumed.store(true, Ordering::Relaxed);
+    }
+
+    /// Whether something was heard on it after it was taken up, and before a byte was written: that answers nothing, so no answer that
+    /// comes on it is to be believed.
+    pub fn is_spoiled(&self) -> bool {
+        self.resumed.load(Ordering::Relaxed) && !self.is_quiet()
+    }
+
+    /// The connection leaves its line, which is free from now on, for another one. Any thread may say so.
+    pub fn depart(&self) {
+        let _ = self.departures.fetch_add(1, Ordering::SeqCst);
+    }
+
+    /// How often the connection has left its line: one that it came to after fewer departures is free.
+    pub fn departures(&self) -> u64 {
+        self.departures.load(Ordering::SeqCst)
     }
 
     /// Nothing more is there to read before the next event.

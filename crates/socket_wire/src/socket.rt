@@ -68,12 +68,16 @@ fn got_from<S: Calls>(stream: &mut S, ready: &Readiness, buf: &mut [u8]) -> Got
     }
 }
 
-/// Offers bytes once, on a stream that was dialled.
+/// Offers bytes once, on a stream that was dialled. One on which something was heard after it lay idle has failed.
 fn put_to<S: Calls>(stream: &mut S, ready: &Readiness, bytes: &[u8]) -> Put
     ensures fits { FitsPut (length bytes.now) result }
     ensures bound { taken_by result ≤ length bytes.now }
     ensures calls { (p : Past) → S.calls stream.old (but_waits p) → S.calls stream.new (but_waits (after_write p bytes.now result)) }
 {
+    if ready.is_spoiled() {
+        stream.give_up();
+        return Put::Fault;
+    }
     match offer_once(stream, bytes) {
         Ok(0) => Put::Wait,
         Ok(n) => {

@@ -1,4 +1,4 @@
-//! Tokens: which exchange, and which of its connections.
+//! Tokens: under which number a poll reports a connection, and to which peer it leads.
 
 ghost use Rattle.std.specs.Prelude.{◌≡◌, ℕ, ◌≤◌, ◌+◌, ◌*◌, Some};
 ghost use Rattle.socket_wire.specs.Token.{peer_number as number_of_peer};
@@ -12,7 +12,7 @@ pub enum Peer {
     Service,
 }
 
-/// The greatest key that a token can name.
+/// The greatest number that a token can name.
 pub const MAX_KEY: usize = 1_048_575;
 
 fn peer_number(peer: Peer) -> usize
@@ -25,17 +25,17 @@ fn peer_number(peer: Peer) -> usize
     }
 }
 
-/// The token of a connection of an exchange.
-pub fn token_of(key: usize, peer: Peer) -> usize
-    requires { key ≤ MAX_KEY }
-    ensures { result ≡ 4 * key + number_of_peer peer }
+/// The token of a connection to this peer. Its number is the key of the exchange where it is that of its user, and else that of its line.
+pub fn token_of(number: usize, peer: Peer) -> usize
+    requires { number ≤ MAX_KEY }
+    ensures { result ≡ 4 * number + number_of_peer peer }
 {
-    4 * key + peer_number(peer)
+    4 * number + peer_number(peer)
 }
 
-/// The exchange and the connection that a token names; `None` for any other token.
+/// The number and the peer that a token names; `None` for any other token.
 pub fn peer_of(token: usize) -> Option<(usize, Peer)>
-    ensures { (key : ℕ) → (peer : AnyPeer) → token ≡ 4 * key + number_of_peer peer → result ≡ Some (key, peer) }
+    ensures { (number : ℕ) → (peer : AnyPeer) → token ≡ 4 * number + number_of_peer peer → result ≡ Some (number, peer) }
 {
     let peer = match token % 4 {
         0 => Peer::User,
@@ -46,10 +46,10 @@ pub fn peer_of(token: usize) -> Option<(usize, Peer)>
     Some((token / 4, peer))
 }
 
-/// A token names its exchange and its connection.
-pub fn names_its_peer(key: usize, peer: Peer) -> Option<(usize, Peer)>
-    requires { key ≤ MAX_KEY }
-    ensures { result ≡ Some (key, peer) }
+/// A token names the number and the peer of its connection.
+pub fn names_its_peer(number: usize, peer: Peer) -> Option<(usize, Peer)>
+    requires { number ≤ MAX_KEY }
+    ensures { result ≡ Some (number, peer) }
 {
-    peer_of(token_of(key, peer))
+    peer_of(token_of(number, peer))
 }

@@ -1,8 +1,8 @@
-//! The heads that go on, to an origin, to a service and to the user (RFC 9110, section 7.6; RFC 9112, section 3.2).
+//! The heads that go on, to an origin or a parent, to a service and to the user (RFC 9110, section 7.6; RFC 9112, section 3.2).
 use crate::http_heads::put_request;
 use http_side::{
-    BodyKind, Encapsulated, Forward, HttpRequest, Message, encapsulated_head, forward_head,
-    read_request, read_response,
+    BodyKind, Encapsulated, Forward, HttpRequest, Message, NextServer, OriginUse, OriginWay,
+    encapsulated_head, forward_head, read_request, read_response,
 };
 use std::alloc::Global;
 use test_rows::{NoMemory, Row, put_line, put_shown, says};
@@ -18,6 +18,30 @@ fn part_of(row: &Row<'_>) -> BodyKind {
     }
 }
 
+/// The connection that a request goes out on.
+fn use_of(row: &Row<'_>) -> OriginUse {
+    let word = row.get(b"origin");
+    if says(word, b"fresh") {
+        OriginUse::Fresh
+    } else if says(word, b"kept") {
+        OriginUse::Kept
+    } else {
+        OriginUse::Once
+    }
+}
+
+/// How a request goes to its origin: straight, or through a parent.
+fn way_of(row: &Row<'_>) -> OriginWay {
+    OriginWay {
+        next: if says(row.get(b"next"), b"parent") {
+            NextServer::Parent
+        } else {
+            NextServer::Origin
+        },
+        connection: use_of(row),
+    }
+}
+
 fn put_forward(
     alloc: Global,
     out: &mut Vec<u8>,
@@ -30,13 +54,19 @@ fn put_forward(
     out.extend_from_slice(&forward_head(alloc, forward)?)
 }
 
-/// The user's own request as an origin gets it.
-fn put_to_origin(alloc: Global, out: &mut Vec<u8>, user: &HttpRequest) -> Result<(), NoMemory> {
+/// The user's own request as an origin or a parent gets it.
+fn put_to_origin(
+    alloc: Global,
+    out: &mut Vec<u8>,
+    user: &HttpRequest,
+    origin: OriginWay,
+) -> Result<(), NoMemory> {
     let forward = Forward {
         user,
         message: Message::Request(user),
         part: BodyKind::Own,
         carries_on: true,
+        origin,
     };
     out.extend_from_slice(&forward_head(alloc, &forward)?)
 }
@@ -48,9 +78,14 @@ fn put_to_service(alloc: Global, out: &mut Vec<u8>, user: &HttpRequest) -> Resul
 }
 
 /// How the request that goes on is read again.
-fn put_read_again(alloc: Global, out: &mut Vec<u8>, user: &HttpRequest) -> Result<(), NoMemory> {
+fn put_read_again(
+    alloc: Global,
+    out: &mut Vec<u8>,
+    user: &HttpRequest,
+    origin: OriginWay,
+) -> Result<(), NoMemory> {
     let mut text = Vec::new(alloc);
-    put_to_origin(alloc, &mut text, user)?;
+    put_to_origin(alloc, &mut text, user, origin)?;
     put_request(alloc, out, &text, true)
 }
 
@@ -67,6 +102,7 @@ fn put_adapted(
                 message: Message::Request(&adapted.value),
                 part: part_of(row),
                 carries_on: true,
+                origin: way_of(row),
             };
             put_forward(alloc, out, &forward)
         }
@@ -87,6 +123,7 @@ fn put_to_user(
                 message: Message::Response(&response.value),
                 part: part_of(row),
                 carries_on: !row.has(b"early"),
+                origin: way_of(row),
             };
             put_forward(alloc, out, &forward)
         }
@@ -103,11 +140,11 @@ fn put_head(
     user: &HttpRequest,
 ) -> Result<(), NoMemory> {
     if says(call, b"head to origin") {
-        put_to_origin(alloc, out, user)
+        put_to_origin(alloc, out, user, way_of(row))
     } else if says(call, b"head to service") {
         put_to_service(alloc, out, user)
     } else if says(call, b"read head to origin") {
-        put_read_again(alloc, out, user)
+        put_read_again(alloc, out, user, way_of(row))
     } else if says(call, b"adapted head to origin") {
         put_adapted(alloc, out, user, row)
     } else if says(call, b"head to user") {

@@ -8,6 +8,7 @@ use crate::game::{Lines, Played, undo};
 use crate::sides::{Sides, Subject, Wires, make_sides};
 use crate::told::Counted;
 use adapt_turn::Side;
+use http_side::{OriginUse, OriginWay};
 use plan_rules::{Limits, Pace, claim};
 use proxy_rules::{Beginning, Incoming, Offer, Running, Way, laws};
 use span_bank::{Bank, Ledgers, Stake};
@@ -148,6 +149,7 @@ fn start<'a, B: Ledgers, A: Wire + Drop, C: Wire + Drop, R: Wait>(
         },
         pace: Pace::new(DEADLINE, BEGIN, limits.retry),
         last: false,
+        origin: OriginWay::straight(OriginUse::Once),
     };
     let begun = laws::from_the_beginning_the_wires_take_one_message(
         rt, alloc, bank, beginning, first,

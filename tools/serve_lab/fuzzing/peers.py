@@ -1,6 +1,7 @@
 """The origin and the service of the fuzz: what they read has to be of one exchange, and what they answer is that one's."""
 import asyncio
 import random
+import time
 
 from serve_lab.fuzzing.plans import TOKEN, aliens, changed, chosen, chunks, filled, garbage, plan_by
 from serve_lab.fuzzing.wires import Ended, Reset, Wire, fields_of
@@ -44,6 +45,9 @@ class Peer:
     def wrong(self, text, *values):
         self.found.wrong("%s: %s" % (type(self).__name__, text % values))
 
+    def wrong_of(self, mark, text, *values):
+        self.found.wrong_of(mark, "%s: %s" % (type(self).__name__, text % values))
+
     def own(self, plan, word):
         return random.Random("%s %s %s" % (self.seed, plan.mark, word))
 
@@ -51,45 +55,202 @@ class Peer:
 INTERIM = (b"HTTP/1.1 103 Hints\r\nLink: x\r\n\r\n", b"HTTP/1.1 100 Continue\r\n\r\n", b"HTTP/1.1 102 Processing\r\nX: %s\r\n\r\n" % (b"y" * 500))
 
 
+# The methods of a request that may be sent again without harm (RFC 9110, section 9.2.1).
+REPEATABLE = (b"GET", b"HEAD", b"OPTIONS", b"TRACE")
+
+
+class Line:
+    """An origin's connection: how many requests have come on it, and why no further one may. `since`: when the bytes that say so were out;
+    None where the answer itself says it. `is_blank`: these are empty lines, which may stand before the head of an answer."""
+
+    def __init__(self, wire):
+        self.wire, self.place, self.last, self.since, self.is_blank = wire, 0, None, None, False
+
+    async def says(self, last, more):
+        """Bytes that answer nothing were sent: once they are out, the proxy's poll reports them."""
+        await self.wire.is_out()
+        self.is_blank = more == b"\r\n" and (self.since is None or self.is_blank)
+        self.last, self.since = last, time.monotonic()
+
+    async def has_raced(self, is_answered):
+        """A request met them. Its own answer belongs to nobody, but where nothing stood before it; where it has none, nobody can know of
+        anything wrong."""
+        if not is_answered:
+            self.since = float("inf")
+        elif self.is_blank:
+            self.last = self.since = None
+        else:
+            await self.says(self.last, b"")
+
+
 class FuzzOrigin(Peer):
-    """Answers what the target's identity asks for, whole or broken."""
+    """Answers what the target's identity asks for, whole or broken. One that keeps its connections reads on after its answer, and ends
+    them as the plan says; bytes that it sends after an answer may come to nobody."""
+
+    def __init__(self, seed, found, keeps=False):
+        super().__init__(seed, found)
+        self.keeps = keeps
+        # Requests that came on a connection that had served one before.
+        self.kept = 0
 
     async def serve(self, own, wire):
-        async with asyncio.timeout(PATIENCE):
-            await self.exchange(own, wire)
+        line, goes_on = Line(wire), True
+        while goes_on:
+            async with asyncio.timeout(PATIENCE):
+                since, sent = line.since, wire.sent
+                goes_on = await self.exchange(line)
+                if since and line.since == since:
+                    await line.has_raced(wire.sent > sent)
+        if line.since:
+            async with asyncio.timeout(0.1):
+                await self.see_others(line)
 
-    async def exchange(self, own, wire):
+    async def exchange(self, line):
+        """Reads a request and answers it. Whether a further one may come."""
+        wire = line.wire
         head = await wire.head()
         fields = fields_of(head)
-        plan, _mark = plan_of_target(self.seed, fields[b""])
+        plan, mark = plan_of_target(self.seed, fields[b""])
+        line.place += 1
+        self.see_kept(line, mark, head, fields)
         if plan is None:
             self.found.count("origin: requests without an identity")
+            await wire.message(bytearray(), fields, False)
             wire.write(b"HTTP/1.1 200 OK\r\nContent-Length: 0\r\n\r\n")
-            return
+            return self.keeps
         own = self.own(plan, "origin")
         wire.breaks = plan.origin in ("refuses", "cut", "early", "changed", "garbage")
         if plan.origin == "refuses":
-            return
+            return False
+        if line.place > 1 and plan.on_kept == "ends":
+            self.found.count("origin: kept connections that end as they are asked")
+            wire.breaks = True
+            return False
         if plan.origin != "early":
             body = bytearray()
             await wire.message(body, fields, False)
             self.judge(plan, head, fields, bytes(body))
+            if wire.raw and plan.mark not in self.found.raced:
+                self.wrong("%r has %d bytes after its request: %r", plan.mark, len(wire.raw), bytes(wire.raw[:200]))
         if plan.origin == "mute":
             await asyncio.sleep(PATIENCE)
         text = self.answer(own, plan)
+        if plan.origin in ("changed", "cut", "trailing", "garbage", "early"):
+            return await self.break_answer(own, line, plan, text)
+        if not self.keeps:
+            await wire.write_in_pieces(own, text)
+            return False
+        return await self.keep(own, line, plan, text)
+
+    async def see_others(self, line):
+        """Looks at the requests that are on their way to a connection that is to end."""
+        while True:
+            head = await line.wire.head()
+            fields = fields_of(head)
+            line.place += 1
+            self.see_kept(line, plan_of_target(self.seed, fields[b""])[1], head, fields)
+
+    def see_kept(self, line, mark, head, fields):
+        """A connection that was used again has to be one that may be, and the request one that may be sent again."""
+        if line.place == 1:
+            return
+        self.kept += 1
+        self.found.count("origin: requests on a kept connection")
+        method = fields[b""].split(b" ")[0]
+        if method not in REPEATABLE or fields.get(b"content-length", b"0") != b"0" or b"transfer-encoding" in fields:
+            self.wrong("%r came on a kept connection: %r", mark, head)
+        if not line.last:
+            return
+        if line.since and not self.found.is_caused_after(mark, line.since):
+            # Nobody could know of the bytes when the poll reported what brought the request: they may be taken for its answer.
+            self.found.has_raced(mark if plan_by(self.seed, mark or b"") else None)
+            return
+        self.wrong("%r came on a connection that had served request %d, after %s", mark, line.place - 1, line.last)
+
+    async def break_answer(self, own, line, plan, text):
+        """A broken answer. Of an origin that keeps its connections it goes out at once, so that bytes after its end are there with it; then
+        the connection stays for a while, now and then. Whether further requests are looked for: after bytes that answer nothing."""
         if plan.origin == "changed":
             text = changed(own, text)
         elif plan.origin == "cut":
             text = text[:own.randrange(len(text))]
         elif plan.origin == "trailing":
-            text += own.choice((b"x", text, b"\r\n", b"HTTP/1.1 200 OK\r\nContent-Length: 3\r\n\r\nabc"))
+            more = own.choice((b"x", text, b"\r\n", b"HTTP/1.1 200 OK\r\nContent-Length: 3\r\n\r\nabc"))
+            text += more
         elif plan.origin == "garbage":
             text = garbage(own)
+        if not self.keeps or plan.origin in ("cut", "early"):
+            await line.wire.write_in_pieces(own, text)
+            if plan.origin == "early":
+                await asyncio.sleep(own.choice((0, 0, 0.01)))
+            return False
+        line.wire.write(text)
+        if plan.origin == "trailing":
+            await line.says("an answer that had bytes after it", more)
+            return True
+        if own.random() < 0.5:
+            await self.hears(line, 0.3)
+        return False
+
+    async def hears(self, line, seconds):
+        """Whether bytes come within this time. Where the other side ends, that is raised."""
+        try:
+            async with asyncio.timeout(seconds):
+                while not line.wire.raw:
+                    await line.wire.more()
+        except TimeoutError:
+            pass
+        return bool(line.wire.raw)
+
+    async def keep(self, own, line, plan, text):
+        """Answers, and keeps the connection as the plan says. Whether a further request may come."""
+        wire, after = line.wire, plan.after
+        if line.place > 1 and plan.on_kept == "cut":
+            self.found.count("origin: answers that are cut on a kept connection")
+            wire.breaks = True
+            await wire.write_in_pieces(own, text[:own.randrange(len(text))])
+            return False
+        if text.rindex(b"HTTP/1.") == text.rfind(b"HTTP/1.0"):
+            line.last = "an answer of HTTP/1.0"
+        if after == "says close":
+            at = text.rindex(b"X-Mark: ", 0, text.index(b"<r%s>" % plan.mark))
+            text, line.last = text[:at] + own.choice((b"Connection: close\r\n", b"connection: X-Hop ,CLOSE\r\n")) + text[at:], "close"
+            self.found.count("origin: answers that say close, and go on")
+        more = b""
+        if after == "byte":
+            more = own.choice((b"x", b"\r\n", b"H"))
+        elif after == "twice":
+            more = text
+        elif after == "body" and plan.bodiless():
+            more = own.choice((b"", b"HTTP/1.1 200 OK\r\nContent-Length: 100\r\n\r\n")) + filled(b"r", plan.mark, 100)
+        if more and (plan.framing != "close" or plan.bodiless()):
+            self.found.count("origin: answers with bytes after them: " + after)
+            wire.write(text + more)
+            await line.says("an answer and %d bytes more" % len(more), more)
+            return True
         await wire.write_in_pieces(own, text)
-        if plan.origin == "early":
-            await asyncio.sleep(own.choice((0, 0, 0.01)))
-        elif wire.raw:
-            self.wrong("%r has %d bytes after its request: %r", plan.mark, len(wire.raw), bytes(wire.raw[:200]))
+        if plan.framing == "close" and not plan.bodiless():
+            return False
+        if after == "late":
+            return await self.say_more(own, line, plan, text)
+        if after in ("ends", "half") and not await self.hears(line, plan.idle):
+            self.found.count("origin: idle connections that end")
+            wire.breaks = after == "ends"
+            if after == "half":
+                wire.end_writing()
+                await self.hears(line, 0.2)
+            return False
+        return True
+
+    async def say_more(self, own, line, plan, text):
+        """Bytes after an answer, by themselves. A request that was on its way to this connection just then can't be told that they answer
+        nothing; one that comes of what its user, or the service of requests, said after that does wrong."""
+        await asyncio.sleep(own.choice((0, 0, 0.001, 0.005)))
+        more = own.choice((b"x", text, b"\r\n", b"HTTP/1.1 408 Late\r\nContent-Length: 0\r\n\r\n"))
+        line.wire.write(more)
+        self.found.count("origin: bytes on an idle connection")
+        await line.says("bytes on it", more)
+        return True
 
     def judge(self, plan, head, fields, body):
         """A whole request that was read has to be the user's, or the one that the service made of it."""
@@ -214,13 +375,16 @@ class FuzzService(Peer):
             text = text[:own.randrange(len(text))]
         elif fault == "trailing":
             text += own.choice((b"x", b"\r\n", b"ICAP/1.0 "))
+        offer.is_answered()
         await wire.write_in_pieces(own, text)
         return fault not in ("changed", "cut", "leaves")
 
     async def answer_first(self, own, wire, offer):
         """Answers before the rest of the message has come. What comes then is that rest, and nothing else, or the connection ends."""
         self.found.count("service: answers before the message was read")
-        wire.write(offer.answer(own))
+        text = offer.answer(own)
+        offer.is_answered()
+        wire.write(text)
         await asyncio.sleep(own.choice((0, 0, 0.002)))
         try:
             await offer.read(wire)
@@ -244,6 +408,11 @@ class Offer:
         # Whether there may be more after a preview.
         self.is_open = False
 
+    def is_answered(self):
+        """Its answer goes out now: before that no byte of the request has gone to its origin."""
+        if self.is_request:
+            self.service.found.cause(self.plan.mark)
+
     def may_be_hasty(self):
         return self.verdict.is_hasty and not self.verdict.fault and (self.word != "same" or self.is_allowed)
 
@@ -258,7 +427,7 @@ class Offer:
 
     def wrong(self, text, *values):
         point = "REQMOD" if self.is_request else "RESPMOD"
-        self.service.wrong("%r, %s, " + text, self.plan.mark, point, *values)
+        self.service.wrong_of(self.plan.mark, "%r, %s, " + text, self.plan.mark, point, *values)
 
     def judge(self, is_whole):
         """What was offered has to be of one exchange; where its sides are sound, just their bytes."""

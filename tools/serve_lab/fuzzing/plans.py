@@ -131,6 +131,14 @@ class Plan:
                              ("mute", 0.1), ("storm", 1))
         if self.framing == "close" and self.origin in ("cut", "trailing"):
             self.origin = None
+        # An origin that keeps its connections: what comes after its answer, and how it meets this request on a kept connection: None, ends
+        # (with no byte of an answer), or cut.
+        own = random.Random("%s kept %d %d" % (seed, number, at))
+        self.after = chosen(own, None, ("ends", 12), ("half", 3), ("says close", 4), ("byte", 3), ("twice", 3), ("body", 10), ("late", 3))
+        self.idle = own.choice((0, 0, 0.001, 0.005, 0.02, 0.05))
+        self.on_kept = chosen(own, None, ("ends", 8), ("cut", 3))
+        if self.framing == "close" and self.on_kept == "cut":
+            self.on_kept = None
 
     def __repr__(self):
         def words(thing):
@@ -172,13 +180,13 @@ class Plan:
         adapted = self.verdict(points[1], False) == "adapted"
         return self.status, b"<r%s>" % self.mark, b"<R%s>" % self.mark if adapted else None, self.answer_body(adapted)
 
-    def strength(self, points):
-        """How much of the answer is known. 3: it is that of `answer`, or a refusal. 2: so where it is whole; it may be cut.
-        1: only that it has no bytes of another exchange."""
+    def strength(self, points, keeps=False):
+        """How much of the answer is known, of an origin that keeps its connections or doesn't. 3: it is that of `answer`, or a refusal.
+        2: so where it is whole; it may be cut. 1: only that it has no bytes of another exchange."""
         faults = [verdict.fault for verdict, there in ((self.reqmod, points[0]), (self.respmod, points[1])) if there]
         if not self.is_sound() or self.origin in ("changed", "garbage") or "changed" in faults:
             return 1
-        if self.origin in ("cut", "early") or "cut" in faults:
+        if self.origin in ("cut", "early") or "cut" in faults or keeps and self.on_kept == "cut":
             return 2
         return 3
 

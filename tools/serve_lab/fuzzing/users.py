@@ -48,14 +48,18 @@ def request(own, plan):
 class FuzzUser:
     """The exchanges of one connection."""
 
-    def __init__(self, seed, number, port, points, seats, found):
+    def __init__(self, seed, number, port, points, seats, keeps, found):
         self.seed, self.number, self.port, self.points, self.seats, self.found = seed, number, port, points, seats, found
+        self.keeps = keeps
         self.own = random.Random("%s user %d" % (seed, number))
         self.wire = Wire()
         self.made = 0
 
     def wrong(self, text, *values):
         self.found.wrong("connection %d: %s" % (self.number, text % values))
+
+    def wrong_of(self, plan, text, *values):
+        self.found.wrong_of(plan.mark, "connection %d: %s" % (self.number, text % ((plan.mark,) + values)), plan.fault == "changed")
 
     async def run(self):
         """How many exchanges there were."""
@@ -64,6 +68,8 @@ class FuzzUser:
             plans.append(plan_of(self.seed, self.number, at))
             if plans[-1].fault:
                 break
+        # The first request may be read as soon as its user is let in, and no poll need report it.
+        self.found.cause(plans[0].mark)
         try:
             await asyncio.get_running_loop().create_connection(lambda: self.wire, "127.0.0.1", self.port)
         except OSError:
@@ -85,6 +91,8 @@ class FuzzUser:
         piped = self.own.random() < 0.4
         sender = None
         if piped:
+            for plan in plans[1:]:
+                self.found.cause(plan.mark)
             text = b"".join(head + body for head, body in texts)
             sender = asyncio.create_task(self.wire.write_in_pieces(self.own, text))
         for plan, (head, body) in zip(plans, texts):
@@ -106,6 +114,8 @@ class FuzzUser:
         return plans[-1].is_sound()
 
     async def send(self, plan, head, body):
+        if plan.at:
+            self.found.cause(plan.mark)
         if plan.expects and not plan.fault and self.own.random() < 0.7:
             self.wire.write(head)
             self.body = body
@@ -126,7 +136,7 @@ class FuzzUser:
 
     async def hear(self, plan, is_first):
         """Reads an answer and judges it. Whether the next one may follow."""
-        strength = plan.strength(self.points)
+        strength = plan.strength(self.points, self.keeps)
         try:
             async with asyncio.timeout(PATIENCE if plan.is_sound() else 3):
                 return await self.read(plan, strength)
@@ -137,17 +147,17 @@ class FuzzUser:
             if strength == 3 and is_first and not self.seats and not isinstance(error, Cut):
                 word = "closed at once for want of a seat"
             if strength == 3 and isinstance(error, Cut) and not self.found.is_late():
-                self.wrong("%r was %s: %s", plan.mark, word, error)
+                self.wrong_of(plan, "%r was %s: %s", word, error)
             self.found.count("%s %s%s" % ("sound ones" if strength == 3 else "others", word, "" if is_first else " to a later request"))
             if strength == 3 and is_first and self.seats and not self.found.is_late():
-                self.wrong("%r is sound, and %s: %s", plan.mark, word, type(error).__name__)
+                self.wrong_of(plan, "%r is sound, and %s: %s", word, type(error).__name__)
         except (ValueError, KeyError, IndexError) as error:
             if strength > 1:
-                self.wrong("%r has no answer: %s, before %r", plan.mark, error, bytes(self.wire.raw[:100]))
+                self.wrong_of(plan, "%r has no answer: %s, before %r", error, bytes(self.wire.raw[:100]))
             self.found.count("an answer that can't be read")
         except TimeoutError:
             if plan.is_sound() and not self.found.is_late():
-                self.wrong("%r hangs, in state %s", plan.mark, self.wire.ended)
+                self.wrong_of(plan, "%r hangs, in state %s", self.wire.ended)
             self.found.count("broken, and not ended by the proxy within 3 s")
         return False
 
@@ -183,7 +193,7 @@ class FuzzUser:
             self.found.count("%s refused by %d" % ("sound ones" if strength == 3 else "others", status))
             others = (502, 504) if any(self.points) else ({"refuses": 502, "storm": 502, "mute": 504}.get(plan.origin),)
             if strength == 3 and status != 503 and status not in others and not (status == 504 and self.found.is_late()):
-                self.wrong("%r is sound, and refused by %d", plan.mark, status)
+                self.wrong_of(plan, "%r is sound, and refused by %d", status)
         elif strength == 1:
             self.judge_bytes(plan, head, body)
         else:
@@ -194,17 +204,17 @@ class FuzzUser:
         """No byte is of another exchange."""
         others = aliens(self.seed, bytes(head) + bytes(body), plan.mark)
         if others:
-            self.wrong("%r has an answer with %r: %r", plan.mark, others, head)
+            self.wrong_of(plan, "%r has an answer with %r: %r", others, head)
 
     def judge_answer(self, plan, fields, status, body, head):
         wanted = plan.answer(self.points)
         self.found.count("answers that are known to the byte")
         if plan.origin == "storm" and plan.verdict(self.points[0], True) != "page":
-            self.wrong("%r has the answer of an origin that sends too many interim heads: %r", plan.mark, head)
+            self.wrong_of(plan, "%r has the answer of an origin that sends too many interim heads: %r", head)
         if (status, fields.get(b"x-mark"), fields.get(b"x-adapted")) != wanted[:3]:
-            self.wrong("%r has another head: %r, wanted %r", plan.mark, head, wanted[:3])
+            self.wrong_of(plan, "%r has another head: %r, wanted %r", head, wanted[:3])
         elif body != wanted[3]:
-            self.wrong("%r has another body: %s", plan.mark, shown(body, wanted[3]))
+            self.wrong_of(plan, "%r has another body: %s", shown(body, wanted[3]))
 
     async def see_the_end(self):
         """After its last answer no further byte comes."""

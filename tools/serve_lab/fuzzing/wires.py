@@ -20,6 +20,8 @@ class Wire(asyncio.Protocol):
         self.raw = bytearray()
         self.ended = False
         self.said_all = False
+        # How many bytes were written.
+        self.sent = 0
         self.fault = None
         self.waiter = None
         self.transport = None
@@ -62,6 +64,12 @@ class Wire(asyncio.Protocol):
     def write(self, data):
         if not self.transport.is_closing() and not self.said_all:
             self.transport.write(data)
+            self.sent += len(data)
+
+    async def is_out(self):
+        """Waits until all that was written is with the system, or can't go there any more."""
+        while self.transport.get_write_buffer_size() and not self.transport.is_closing() and not self.ended:
+            await asyncio.sleep(0.001)
 
     async def write_in_pieces(self, own, text):
         """Sends a text, in pieces now and then: a dozen of them on average, however long it is, since each takes a turn of this process."""

@@ -1,9 +1,9 @@
 //! A row's exchange on a budget of its own, whose ledgers are picked here, once for all.
 ghost use Rattle.std.specs.Prelude.{◌≡◌};
 
-use crate::exchanges::memory::Memory;
+use crate::exchanges::memory::{Memory, RowOutside};
 use crate::exchanges::play::{Played, play_row};
-use crate::stage::{Ended, Peer, Stage, TalkWire, put_ended};
+use crate::stage::{Ended, Peer, Stage, StageWire, TalkWire, put_ended};
 use proxy_config::{Config, ConfigFault, read_config};
 use proxy_rules::Incoming;
 use shard_holdings::{Held, Holdings};
@@ -17,10 +17,10 @@ use test_rows::{NoMemory, put_line};
 use wire_rows::{Scene, Values};
 
 /// What is left of an exchange, which is over, or was stopped. Its reservation is closed.
-fn left_of<'a, B: Ledgers, R: Wait>(
+fn left_of<O: RowOutside, R: Wait>(
     rt: &R,
-    bank: &Bank<B>,
-    played: Played<Holdings<Memory<'a, B>>>,
+    bank: &Bank<O::Ledgers>,
+    played: Played<Holdings<O>>,
 ) -> Ended {
     let Played {
         ends: _,
@@ -42,20 +42,34 @@ fn left_of<'a, B: Ledgers, R: Wait>(
 }
 
 /// Plays the row's exchange: whether it came to an end, and what is left.
-fn ended_of<'a, B: Ledgers, R: Wait>(
+fn ended_with<O: RowOutside, R: Wait>(
+    rt: &R,
+    bank: &Bank<O::Ledgers>,
+    stage: &Stage,
+    scene: Scene<'_>,
+    values: Values,
+    user: O::User,
+    message: Box<Incoming>,
+    memory: O,
+) -> (bool, Ended) {
+    let played = play_row(rt, stage, scene, values, user, message, memory);
+    let ends = played.ends;
+    (ends, left_of(rt, bank, played))
+}
+
+/// Plays the row's exchange over its user's connection.
+fn ended_of<'a, W: StageWire<'a>, B: Ledgers, R: Wait>(
     rt: &R,
     alloc: Global,
     bank: &Bank<B>,
     stage: &'a Stage,
     scene: Scene<'a>,
     values: Values,
-    memory: Memory<'a, B>,
+    memory: Memory<'a, W, B>,
 ) -> Result<(bool, Ended), NoMemory> {
     let message = Box::new(alloc, Incoming::request(alloc))?;
-    let user = TalkWire::new(stage, scene, values, Peer::User, b"user");
-    let played = play_row(rt, stage, scene, values, user, message, memory);
-    let ends = played.ends;
-    Ok((ends, left_of(rt, bank, played)))
+    let user = W::open(stage, scene, values, Peer::User, b"user");
+    Ok(ended_with(rt, bank, stage, scene, values, user, message, memory))
 }
 
 /// Adds what the row's exchange reports on this budget.
@@ -69,7 +83,9 @@ fn put_scene<B: Ledgers, R: Wait>(
     out: &mut Vec<u8>,
 ) -> Result<(), NoMemory> {
     let stage = Stage::new(alloc, scene);
-    let memory = Memory::new(alloc, &stage, scene, values, config, bank);
+    let memory: Memory<'_, TalkWire<'_>, B> = Memory::new(
+        alloc, &stage, scene, values, config, bank,
+    );
     let (ends, ended) = ended_of(rt, alloc, bank, &stage, scene, values, memory)?;
     put_ended(out, scene, &stage, ended)?;
     if ends {

@@ -2,6 +2,7 @@
 use crate::rules::services::wire_of;
 use adapt_turn::Outcome;
 use http_relay::SourceSide;
+use http_side::{NextServer, OriginUse, OriginWay};
 use proxy_rules::{HeadMaker, Headed, keeps_user};
 use std::alloc::Global;
 use test_rows::{NoMemory, put_line, put_shown};
@@ -25,6 +26,29 @@ fn origin_side(alloc: Global, text: &[u8]) -> Result<SourceSide, NoMemory> {
     let mut side = SourceSide::response(alloc, false);
     let _ = side.head_turn(&mut wire_of(alloc, text)?);
     Ok(side)
+}
+
+/// The connection that a request goes out on.
+fn use_of(scene: Scene<'_>) -> OriginUse {
+    if scene.is(b"origin", b"fresh") {
+        OriginUse::Fresh
+    } else if scene.is(b"origin", b"kept") {
+        OriginUse::Kept
+    } else {
+        OriginUse::Once
+    }
+}
+
+/// How a request goes to its origin: straight, or through a parent.
+fn way_of(scene: Scene<'_>) -> OriginWay {
+    OriginWay {
+        next: if scene.is(b"next", b"parent") {
+            NextServer::Parent
+        } else {
+            NextServer::Origin
+        },
+        connection: use_of(scene),
+    }
 }
 
 /// The history of the row, at whose end the service may have answered without a body.
@@ -106,7 +130,13 @@ pub fn put_answer(alloc: Global, scene: Scene<'_>, out: &mut Vec<u8>) -> Result<
     let user = user_side(alloc, scene.get(b"request"))?;
     let last = scene.has(b"last");
     match point_of(scene.get(b"plan")) {
-        Point::Reqmod => put_made(alloc, HeadMaker::for_request(last), &user, scene, out),
+        Point::Reqmod => put_made(
+            alloc,
+            HeadMaker::for_request(last, way_of(scene)),
+            &user,
+            scene,
+            out,
+        ),
         Point::Respmod => {
             let origin = origin_side(alloc, scene.get(b"response"))?;
             put_made(

@@ -1,12 +1,14 @@
-//! The statuses of the proxy's own responses.
+//! The reasons and the statuses of the proxy's own responses.
 use adapt_sides::{ClientFault, RelayFault};
+use exchange_report::{REASONS, Reason};
 use http_side::{HttpFault, own_refusal};
 use options_book::OptFault;
 use shard_effects::{
-    Reason, open_reason, options_reason, origin_head_reason, record_reason, user_head_reason,
+    open_reason, options_reason, origin_head_reason, record_reason, request_reason,
+    user_head_reason,
 };
 use span_bank::OpenFault;
-use test_rows::{NoMemory, put_line, put_number, put_shown};
+use test_rows::{NoMemory, put_all, put_line, put_number};
 use wire_rows::{Scene, index_of};
 
 const HEAD_FAULTS: [HttpFault; 10] = [
@@ -51,28 +53,18 @@ fn side_fault(scene: Scene<'_>) -> Option<RelayFault> {
         .copied()
 }
 
-const REASONS: [Reason; 10] = [
-    Reason::UnknownHost,
-    Reason::NoOrigin,
-    Reason::OriginHead,
-    Reason::Service,
-    Reason::Busy,
-    Reason::Full,
-    Reason::NoRow,
-    Reason::NoMemory,
-    Reason::Stopping,
-    Reason::Deadline,
-];
-
-const REASON_WORDS: &[u8] =
-    b"UnknownHost NoOrigin OriginHead Service Busy Full NoRow NoMemory Stopping Deadline";
-
-/// The reason that the row names: a word, or else the fault of a request's head.
+/// The reason that the row names by its word, or else that of the fault of a request's head.
 fn reason_of(scene: Scene<'_>) -> Option<Reason> {
-    match index_of(REASON_WORDS, scene.get(b"reason")) {
-        Some(place) => REASONS.get(place).copied(),
-        None => Some(Reason::Request(head_fault(scene)?)),
+    let word = scene.get(b"reason");
+    if word.is_empty() {
+        return Some(request_reason(head_fault(scene)?));
     }
+    for reason in REASONS {
+        if reason.word() == word {
+            return Some(reason);
+        }
+    }
+    None
 }
 
 /// The reason by the fault of the row's OPTIONS exchange, record or reservation.
@@ -108,7 +100,7 @@ pub fn put_answer(scene: Scene<'_>, out: &mut Vec<u8>) -> Result<(), NoMemory> {
     let Some(reason) = reason(scene) else {
         return put_line(out, b"no answer");
     };
-    put_shown(out, b"reason", &reason)?;
+    put_all(out, &[b"reason ", reason.word(), b"\n"])?;
     put_number(out, b"status", u64::from(reason.status()))?;
     if scene.has(b"text") {
         out.extend_from_slice(own_refusal(reason.status()))?;

@@ -1,12 +1,14 @@
 //! Where requests go, and what users wait for.
-use http_side::{HttpRequest, read_request};
+use http_side::{HttpRequest, NextServer, read_request};
 use proxy_config::{Config, read_config};
-use proxy_rules::{awaits_continue, interim_continue, is_head_request, origin_address, origin_of};
+use proxy_rules::{
+    Unrouted, awaits_continue, interim_continue, is_head_request, origin_of, route_of,
+};
 use std::alloc::Global;
 use test_rows::{NoMemory, put_all, put_line, put_number, put_shown};
 use wire_rows::{Scene, put_flag, put_word};
 
-/// Adds the name and the port of a request's target, and the address where it goes.
+/// Adds the name and the port of a request's target, and where it goes.
 fn put_origin(out: &mut Vec<u8>, config: &Config, user: &HttpRequest) -> Result<(), NoMemory> {
     let origin = origin_of(user);
     put_word(out, b"host", origin.host)?;
@@ -14,9 +16,13 @@ fn put_origin(out: &mut Vec<u8>, config: &Config, user: &HttpRequest) -> Result<
         Some(port) => put_number(out, b"port", u64::from(port))?,
         None => put_line(out, b"no port")?,
     }
-    match origin_address(config, user) {
-        Some(address) => put_shown(out, b"goes to", &address),
-        None => put_line(out, b"goes nowhere"),
+    match route_of(config, user) {
+        Ok(route) => match route.next {
+            NextServer::Origin => put_shown(out, b"goes to", &route.address),
+            NextServer::Parent => put_shown(out, b"goes to the parent", &route.address),
+        },
+        Err(Unrouted::Unknown) => put_line(out, b"goes nowhere"),
+        Err(Unrouted::Denied) => put_line(out, b"is denied"),
     }
 }
 

@@ -59,6 +59,19 @@ impl Pace {
     }
 }
 
+/// The text that a word names: `NAME/NUMBER` are so many first bytes of one.
+fn named_text<'a>(scene: Scene<'a>, values: Values, word: &'a [u8]) -> &'a [u8] {
+    let mut parts = word.splitn(2, |byte| *byte == b'/');
+    let text = scene.get(parts.next().unwrap_or(b""));
+    match parts.next() {
+        Some(count) => {
+            let count = number(count, values).unwrap_or(0).min(text.len());
+            &text[..count]
+        }
+        None => text,
+    }
+}
+
 /// What an act's word says: `<NAME` that a text is heard, `takes=NUMBER`, `takes`, `pause`, `ends`, `fails` and `stays`, and else the
 /// name of a text that is given.
 fn read_act<'a>(scene: Scene<'a>, values: Values, word: &'a [u8]) -> Act<'a> {
@@ -73,7 +86,7 @@ fn read_act<'a>(scene: Scene<'a>, values: Values, word: &'a [u8]) -> Act<'a> {
         [b't', b'a', b'k', b'e', b's', b'=', count @ ..] => {
             Act::Takes(number(count, values).unwrap_or(0))
         }
-        name => Act::Gives(scene.get(name)),
+        name => Act::Gives(named_text(scene, values, name)),
     }
 }
 
@@ -113,6 +126,8 @@ pub struct TalkWire<'a> {
     talk: Talk<'a>,
     read: u64,
     taken: u64,
+    /// Whether nothing went out on it since it was taken up: if something was heard on it meanwhile, nothing goes.
+    is_taken_up: bool,
 }
 
 /// The most acts of a script that are over at once.
@@ -220,9 +235,29 @@ impl<'a> Talk<'a> {
     }
 }
 
-impl<'a> TalkWire<'a> {
+/// A connection of a row's exchange, whose other end plays a part of the row.
+pub trait StageWire<'a>: Wire + Drop {
     /// A connection whose other end does what the key says.
-    pub fn new(
+    fn open(stage: &'a Stage, scene: Scene<'a>, values: Values, peer: Peer, key: &[u8]) -> Self;
+
+    /// It is taken up, as one that lay idle. Another request may go out on it as long as nothing is heard on it.
+    fn take_up(&mut self);
+
+    /// What happens at this end.
+    fn note(&self, what: &[u8]);
+
+    /// The number of an origin's or a service's connection.
+    fn number(&self) -> Option<u64>;
+
+    /// Whether nothing is to be read, and the other end hasn't ended its bytes.
+    fn is_quiet(&mut self) -> bool;
+
+    /// This end says that nothing more comes.
+    fn finish(&self);
+}
+
+impl<'a> StageWire<'a> for TalkWire<'a> {
+    fn open(
         stage: &'a Stage,
         scene: Scene<'a>,
         values: Values,
@@ -248,16 +283,28 @@ impl<'a> TalkWire<'a> {
             talk,
             read: 0,
             taken: 0,
+            is_taken_up: false,
         }
     }
 
-    /// What happens at this end.
-    pub fn note(&self, what: &[u8]) {
+    fn take_up(&mut self) {
+        self.note(b"takes up");
+        self.is_taken_up = true;
+    }
+
+    fn note(&self, what: &[u8]) {
         self.talk.stage.note_peer(what, self.talk.peer);
     }
 
-    /// This end says that nothing more comes.
-    pub fn finish(&self) {
+    fn number(&self) -> Option<u64> {
+        self.talk.peer.number()
+    }
+
+    fn is_quiet(&mut self) -> bool {
+        !matches!(self.talk.go_on(), Act::Gives(_) | Act::Ends | Act::Fails)
+    }
+
+    fn finish(&self) {
         self.note(b"finishes");
         self.talk.stage.finish();
     }
@@ -292,14 +339,19 @@ impl<'a> Wire for TalkWire<'a> {
         if bytes.len() as u64 > u64::MAX - self.taken {
             return Put::Wait;
         }
-        if matches!(self.talk.go_on(), Act::Fails) {
+        let act = self.talk.go_on();
+        if matches!(act, Act::Fails) {
             self.talk.lose();
+            return Put::Fault;
+        }
+        if self.is_taken_up && matches!(act, Act::Gives(_) | Act::Ends) {
             return Put::Fault;
         }
         match self.talk.take(bytes) {
             0 => Put::Wait,
             count => {
                 self.taken += count as u64;
+                self.is_taken_up = false;
                 Put::Took(count)
             }
         }
@@ -320,6 +372,7 @@ impl<'a> Drop for TalkWire<'a> {
             talk: _,
             read: _,
             taken: _,
+            is_taken_up: _,
         } = self;
     }
 }

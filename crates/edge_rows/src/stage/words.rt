@@ -34,6 +34,7 @@ pub fn name_of(phase: Phase) -> &'static [u8] {
         Phase::AtGate { point, .. } => by_point(point, b"gate", b"response-gate"),
         Phase::Moving { point, .. } => by_point(point, b"moving", b"response-moving"),
         Phase::Answer => b"answer",
+        Phase::Withdrawing => b"withdrawing",
         Phase::Refusing { .. } => b"refusing",
         Phase::Closing => b"closing",
         Phase::Gone => b"gone",

@@ -3,7 +3,7 @@
 ghost use Rattle.std.specs.Prelude.{◌≡◌, ◌<◌, [], ◌∷◌, ℕ, true, OnOk};
 ghost use Rattle.loop_parts.specs.Marks.{is_marked};
 ghost use Rattle.event_loop.specs.Deeds.Deed.{Drove};
-ghost use Rattle.event_loop.specs.Turns.{Does, Did, Drives, Gets, IsDriven, IsAsked, ways};
+ghost use Rattle.event_loop.specs.Turns.{Works, Does, Did, Drives, Gets, IsDriven, IsAsked, ways};
 
 use crate::looping::EventLoop;
 use crate::work::{Driven, Work};
@@ -27,7 +27,8 @@ impl<K: Work> EventLoop<K> {
 
     /// Ends the exchange that blocked the one that was driven, if one did.
     fn clear_way<R: Wait + Dial + Clock>(&mut self, rt: &R, driven: Driven)
-        ensures { Does K.Work self.old self.new (ways driven) }
+        ensures works { Works K.Work self.old.work self.new.work (ways driven) }
+        ensures kept { (self.new.ready ≡ self.old.ready) × (self.new.reports ≡ self.old.reports) }
     {
         let now = self.now();
         match driven {
@@ -44,8 +45,8 @@ impl<K: Work> EventLoop<K> {
         self.clear_way(rt, driven);
     }
 
-    /// Drives an exchange, unless it has a mark: then it is driven in the next turn, before which no time is waited. So others wait for one
-    /// drive of an exchange that has much to do, and not for one by each of its events.
+    /// Drives an exchange, unless it has a mark: then it is driven with all that have one, before any time is waited. So others wait for
+    /// one drive of an exchange that has much to do.
     pub(super) fn drive<R: Wait + Dial + Clock>(&mut self, rt: &R, key: usize) -> io::Result<()>
         ensures { Did K.Work self.old self.new (λ deeds. OnOk result (Gets key deeds self.new.ready)) }
     {
@@ -70,7 +71,8 @@ impl<K: Work> EventLoop<K> {
         Ok(())
     }
 
-    /// Drives those that were cut short.
+    /// Drives those that have a mark: an event was news for them, or they were cut short. One that is cut short again has its next turn
+    /// after the next poll.
     pub(super) fn drive_ready<R: Wait + Dial + Clock>(&mut self, rt: &R) -> io::Result<()>
         ensures { Did K.Work self.old self.new (λ deeds. OnOk result ((key : ℕ)
             → is_marked self.old.ready key ≡ true → IsDriven key deeds)) }

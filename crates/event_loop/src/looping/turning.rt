@@ -1,8 +1,8 @@
 //! A turn of a loop: what is served between two waits.
 
-ghost use Rattle.std.specs.Prelude.{◌≡◌, ◌<◌, [], ◌∷◌, ℕ, true, All, length, IfOk, OnOk, ⊤};
+ghost use Rattle.std.specs.Prelude.{◌≡◌, ◌<◌, [], ◌∷◌, ℕ, true, All, length, OnOk, ⊤};
 ghost use Rattle.event_loop.specs.Deeds.Deed.{MadeRoom};
-ghost use Rattle.event_loop.specs.Turns.{Does, Did, AreServed, IsServed, IsAsked, IsAdmitted, Serves};
+ghost use Rattle.event_loop.specs.Turns.{Does, Did, AreServed, AreNotes, IsServed, IsAsked, IsAdmitted, Serves};
 
 use crate::event::Event;
 use crate::inbox::{Handed, Inbox};
@@ -18,8 +18,8 @@ use std::sync::Wait;
 use std::time::Clock;
 
 impl<K: Work> EventLoop<K> {
-    /// Serves all events. Users are taken in last: until then no key is another user's than the one that an event
-    /// is about.
+    /// Serves all events. All of them are noted before anybody is driven: so no exchange takes a connection of which an event stands
+    /// further behind. Users are taken in last: until then no key is another user's than the one that an event is about.
     pub(super) fn turn<R: Wait + Dial + Clock>(
         &mut self,
         rt: &R,
@@ -31,14 +31,14 @@ impl<K: Work> EventLoop<K> {
         ensures { Did K.Work self.old self.new (λ deeds.
             OnOk result (Serves K.Work self.old self.new self.old.reports.seen.items deeds)) }
     {
+        let woken = self.serve_seen(rt, alloc, number, inboxes);
+        self.drain_if_asked(rt, number, inboxes)?;
         self.drive_ready(rt)?;
-        let woken = self.serve_seen(rt, alloc, number, inboxes)?;
         self.hear(rt, inboxes);
         self.crowd_out(rt, number, inboxes);
         self.wake_up(rt, woken)?;
         self.ask_ports(rt, alloc, number, inboxes);
         self.take_handed(rt, alloc, woken, number, inboxes)?;
-        self.work.turn_over(rt);
         Ok(())
     }
 
@@ -91,15 +91,15 @@ impl<K: Work> EventLoop<K> {
     }
 
     /// Serves the events that were noted down, and says whether one of them was that the loop was woken.
-    fn serve_seen<R: Wait + Dial + Clock>(
+    fn serve_seen<R: Wait>(
         &mut self,
         rt: &R,
         alloc: Global,
         number: usize,
         inboxes: &[Inbox],
-    ) -> io::Result<bool>
+    ) -> bool
         ensures { Did K.Work self.old self.new (λ deeds.
-            IfOk result (λ woken. AreServed self.old.reports.seen.items woken deeds self.new.ready)) }
+            AreServed self.old.reports.seen.items result deeds self.new.ready × AreNotes deeds) }
     {
         let mut woken = false;
         for at in 0..self.reports.count() {
@@ -107,43 +107,40 @@ impl<K: Work> EventLoop<K> {
             if event.token == WAKER.0 {
                 woken = true;
             } else {
-                self.serve(rt, alloc, number, inboxes, event)?;
+                self.serve(rt, alloc, number, inboxes, event);
             }
         }
-        Ok(woken)
+        woken
     }
 
-    /// Serves one event.
-    fn serve<R: Wait + Dial + Clock>(
+    /// Serves one event. An exchange for which it is news is marked: it is driven once all events are noted.
+    fn serve<R: Wait>(
         &mut self,
         rt: &R,
         alloc: Global,
         number: usize,
         inboxes: &[Inbox],
         event: Event,
-    ) -> io::Result<()>
-        ensures { Did K.Work self.old self.new (λ deeds. OnOk result (IsServed event deeds self.new.ready)) }
+    )
+        ensures { Did K.Work self.old self.new (λ deeds. IsServed event deeds self.new.ready × AreNotes deeds) }
     {
         if event.token == LISTENER.0 {
             self.accept(rt, number, inboxes);
-            return Ok(());
+            return;
         }
         if event.token == ADMIN.0 {
             self.admin.accept(alloc, self.poll.registry());
-            return Ok(());
+            return;
         }
         if event.token == METRICS.0 {
             self.metrics.accept(alloc, self.poll.registry());
-            return Ok(());
+            return;
         }
         match peer_of(event.token) {
-            Some((key, peer)) => {
-                if self.work.note(key, peer, event.told) {
-                    self.drive(rt, key)
-                } else {
-                    Ok(())
-                }
-            }
+            Some((number, peer)) => match self.work.note(number, peer, event.told) {
+                Some(key) => self.ready.add(key),
+                None => {}
+            },
             None => {
                 let key = event.token / 4;
                 if key < MAX_ASKERS {
@@ -151,7 +148,6 @@ impl<K: Work> EventLoop<K> {
                 } else {
                     self.metrics.note(key - MAX_ASKERS, event.told);
                 }
-                Ok(())
             }
         }
     }

@@ -66,6 +66,7 @@ fn put_on_pools<'s, Q: Ledger, A: Ledger, R: Wait>(
         request: &request,
         response: &response,
         idle_seconds: row.number(b"idle").unwrap_or(60),
+        thread: 0,
         waiting: Waiting {
             queues: &queues,
             edge: Memory { stage },

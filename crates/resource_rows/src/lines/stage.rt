@@ -24,6 +24,8 @@ pub struct Stage {
     pub fault: Cell<Option<LendFault>>,
     /// The threads that were woken, the last one in the last digit.
     pub woken: Cell<u64>,
+    /// How often connections were listened to.
+    pub polls: Cell<u64>,
     /// The moment, in seconds.
     pub now: Cell<u64>,
 }
@@ -39,6 +41,7 @@ impl Stage {
             wanted: Cell::new(0),
             fault: Cell::new(None),
             woken: Cell::new(0),
+            polls: Cell::new(0),
             now: Cell::new(0),
         }
     }
@@ -72,6 +75,9 @@ impl<'a> Drop for Berth<'a> {
 pub struct Idle<'a> {
     number: u64,
     since: u64,
+    home: usize,
+    /// How often connections had been listened to when it was laid down.
+    laid: u64,
     berth: Berth<'a>,
 }
 
@@ -88,10 +94,16 @@ impl<'a> Edge for Memory<'a> {
 
     ghost since = { λ idle. idle.since };
 
+    ghost home = { λ idle. idle.home };
+
     ghost thread_of = { λ thread. thread };
 
     fn since(idle: &Idle<'a>) -> u64 {
         idle.since
+    }
+
+    fn home(idle: &Idle<'a>) -> usize {
+        idle.home
     }
 
     fn is_quiet(&self, idle: &Idle<'a>) -> bool {
@@ -116,6 +128,8 @@ impl<'a> Edge for Memory<'a> {
 #[derive(Drop)]
 pub struct Hand<'a, 'o> {
     pub stage: &'a Stage,
+    /// The number of the thread whose connections these are.
+    pub thread: usize,
     pub out: &'o mut Vec<u8>,
 }
 
@@ -139,6 +153,8 @@ impl<'a, 'o> Keeper<Memory<'a>> for Hand<'a, 'o> {
 
     ghost past = { λ hand p. ⊤ };
 
+    ghost thread = { λ hand. hand.thread };
+
     ghost is_line = { λ idle used. ⊤ };
 
     fn may_rest(&mut self, used: &u64) -> bool {
@@ -150,6 +166,7 @@ impl<'a, 'o> Keeper<Memory<'a>> for Hand<'a, 'o> {
 
     fn rest(&mut self, used: u64, now: u64) -> Option<Idle<'a>> {
         let room = self.stage.room.get();
+        let home = self.thread;
         self.say(b"rests", used);
         self.say_truth(room > 0);
         if room == 0 {
@@ -159,6 +176,8 @@ impl<'a, 'o> Keeper<Memory<'a>> for Hand<'a, 'o> {
         Some(Idle {
             number: used,
             since: now,
+            home,
+            laid: self.stage.polls.get(),
             berth: Berth { stage: self.stage },
         })
     }
@@ -175,6 +194,10 @@ impl<'a, 'o> Connector<Memory<'a>> for Hand<'a, 'o> {
     ghost leads = { λ place used. ⊤ };
 
     ghost idle_leads = { λ place idle. ⊤ };
+
+    fn is_known_quiet(&self, idle: &Idle<'a>) -> bool {
+        self.stage.is_quiet(idle.number) && idle.laid < self.stage.polls.get()
+    }
 
     fn open(&mut self, place: Point) -> Result<u64, LendFault> {
         let name: &[u8] = match place {
@@ -207,10 +230,17 @@ impl<'a, 'o> Connector<Memory<'a>> for Hand<'a, 'o> {
         let Idle {
             number,
             since: _,
+            home,
+            laid: _,
             berth,
         } = idle;
         drop(berth);
-        self.say(b"resumes", number);
+        let how: &[u8] = if home == self.thread {
+            b"resumes"
+        } else {
+            b"moves"
+        };
+        self.say(how, number);
         match self.stage.fault.get() {
             Some(LendFault::Busy) | None => {
                 self.say_truth(true);

@@ -16,10 +16,11 @@ use trace_core::Point;
 use wait_queue::Waiter;
 
 /// The steps that threads take, in the order of `put_step`.
-const STEPS: &[u8] = b"woken lend turn put close renew join leave first room maximum numbers tidy";
+const STEPS: &[u8] =
+    b"woken lend turn put close renew join leave first room maximum numbers tidy thread";
 
 /// The steps from outside, in the order of `put_outside`.
-const OUTSIDE: &[u8] = b"end say read refuse short serve now";
+const OUTSIDE: &[u8] = b"end say read refuse short serve now poll";
 
 /// The connections that are lent. None has a `Drop`.
 pub type Held<Q, A> = Vec<LeasedConnection<u64, Q, A>>;
@@ -121,6 +122,7 @@ fn put_outside(stage: &Stage, word: &[u8], text: &[u8], out: &mut Vec<u8>) -> Re
         Some(4) => stage.fault.set(Some(LendFault::NoMemory)),
         Some(5) => stage.fault.set(None),
         Some(6) => stage.now.set(number),
+        Some(7) => stage.polls.set(stage.polls.get().saturating_add(1)),
         _ => return put_line(out, b"no step"),
     }
     put_line(out, b"so")
@@ -161,6 +163,7 @@ impl<'a, 's, Q: Ledger, A: Ledger, R: Wait> Play<'a, 's, Q, A, R> {
                 } else {
                     let mut hand = Hand {
                         stage: self.stage,
+                        thread: self.pools.thread,
                         out,
                     };
                     self.pools.close(self.rt, &mut hand, connection);
@@ -181,6 +184,7 @@ impl<'a, 's, Q: Ledger, A: Ledger, R: Wait> Play<'a, 's, Q, A, R> {
         let now = self.stage.now.get();
         let mut hand = Hand {
             stage: self.stage,
+            thread: self.pools.thread,
             out,
         };
         let lent = match waiter {
@@ -190,7 +194,11 @@ impl<'a, 's, Q: Ledger, A: Ledger, R: Wait> Play<'a, 's, Q, A, R> {
             },
             None => self.pools.lend(self.rt, &mut hand, point, point, now),
         };
-        let Hand { stage: _, out } = hand;
+        let Hand {
+            stage: _,
+            thread: _,
+            out,
+        } = hand;
         self.keep(lent, out)
     }
 
@@ -207,12 +215,17 @@ impl<'a, 's, Q: Ledger, A: Ledger, R: Wait> Play<'a, 's, Q, A, R> {
         };
         let mut hand = Hand {
             stage: self.stage,
+            thread: self.pools.thread,
             out,
         };
         if says(word, b"renew") {
             let point = connection.lease.point();
             let lent = self.pools.renew(self.rt, &mut hand, point, connection);
-            let Hand { stage: _, out } = hand;
+            let Hand {
+                stage: _,
+                thread: _,
+                out,
+            } = hand;
             return self.keep(lent, out);
         }
         if says(word, b"put") {
@@ -221,7 +234,11 @@ impl<'a, 's, Q: Ledger, A: Ledger, R: Wait> Play<'a, 's, Q, A, R> {
         } else {
             self.pools.close(self.rt, &mut hand, connection);
         }
-        let Hand { stage: _, out } = hand;
+        let Hand {
+            stage: _,
+            thread: _,
+            out,
+        } = hand;
         put_counts(self.rt, &self.pools, Point::Reqmod, out)
     }
 }
@@ -244,6 +261,10 @@ impl<'a, 's, Q: Ledger, A: Ledger, R: Wait> steps::Stage for Play<'a, 's, Q, A, 
             Some(12) => {
                 self.pools.tidy(self.rt, self.stage.now.get());
                 put_counts(self.rt, &self.pools, Point::Reqmod, out)
+            }
+            Some(13) => {
+                self.pools.thread = (first_number(text).0 % 10) as usize;
+                put_line(out, b"so")
             }
             _ => put_outside(self.stage, word, text, out),
         }

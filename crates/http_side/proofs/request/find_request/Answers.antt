@@ -1,6 +1,6 @@
 use Rattle.std.proofs.Common.{List, ℕ, subst}
 use Rattle.httparse.specs.Grammar.{HasNoRequest, MayBecomeRequest}
-use Rattle.http_side.proofs.RequestLemmas.{refused_at}
+use Rattle.http_side.proofs.RequestLemmas.{refused_at, there_at}
 use Rattle.http_side.proofs.request.find_request.Goals as goal
 
 pub returns-in-Err-judge-clause-fault : goal.returns-in-Err-judge-clause-fault
@@ -15,3 +15,7 @@ returns-else-text-lt-MAX_HEAD-clause-fault c =
     let P : List ℕ → Type 0 = λ t. HasNoRequest t in
     let Q : List ℕ → Type 0 = λ t. MayBecomeRequest t in
     ((subst P c.judged-front.ensures none, subst Q c.judged-front.ensures some), c.if-text-lt-MAX_HEAD.false)
+
+pub judge-requires-clause-there : goal.judge-requires-clause-there
+judge-requires-clause-there c =
+    there_at c.judged-front.result.now c.parse_request.new.headers c.in-Ok-Complete.spans (rw c.in-Ok-Complete.field-0-is at c.in-Ok-Complete.ensures.complete)

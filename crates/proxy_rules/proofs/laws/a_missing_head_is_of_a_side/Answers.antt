@@ -2,6 +2,7 @@ use Rattle.std.proofs.Common.{◌≡◌, inl, inr, Bool, true, false, List, ℕ,
 use Rattle.trace_core.specs.declared.history.Cause.{Cause}
 use Rattle.trace_core.specs.declared.history.Cause.TheVariants as causes
 use Rattle.http_side.specs.Heads.{RequestParts}
+use Rattle.http_side.specs.declared.forward.OriginWay.{OriginWay}
 use Rattle.trace_core.specs.declared.history.Seen.{Seen}
 use Rattle.http_relay.specs.declared.side.SourceHead.{SourceHead}
 use Rattle.http_relay.specs.declared.side.SourceSide.{SourceSide}
@@ -18,22 +19,29 @@ of_source cause e = subst IsOfSide (sym e) tt
 of_service : (cause : Cause) → cause ≡ causes.Service → IsOfSide cause
 of_service cause e = subst IsOfSide (sym e) tt
 
-none_of : (source : SourceHead) (asked : RequestParts) (adapted : Option (List ℕ)) (is_response has_body : Bool) (cause : Cause) → MakesNoneOf source asked adapted is_response has_body cause → IsOfSide cause
-none_of source asked None is_response has_body cause (inl e) = of_memory cause e
-none_of source asked None is_response has_body cause (inr e) = of_source cause e.0
-none_of source asked (Some text) true has_body cause (inl e) = of_memory cause e
-none_of source asked (Some text) true has_body cause (inr e) = of_service cause e.0
-none_of source asked (Some text) false has_body cause (inl e) = of_memory cause e
-none_of source asked (Some text) false has_body cause (inr e) = of_service cause e.0
+of_next_hop : (cause : Cause) → cause ≡ causes.NextHop → IsOfSide cause
+of_next_hop cause e = subst IsOfSide (sym e) tt
 
-of_side : (user : Option SourceSide) (source : SourceHead) (x : Seen) (adapted : Option (List ℕ)) (is_response : Bool) (cause : Cause) → MakesNone user source x adapted is_response cause → IsOfSide cause
-of_side user source x adapted is_response cause none = elim none [
+none_of : (source : SourceHead) (asked : RequestParts) (origin : OriginWay) (adapted : Option (List ℕ)) (is_response has_body : Bool) (cause : Cause)
+    → MakesNoneOf source asked origin adapted is_response has_body cause → IsOfSide cause
+none_of source asked origin None is_response has_body cause (inl e) = of_memory cause e
+none_of source asked origin None is_response has_body cause (inr (inl e)) = of_source cause e.0
+none_of source asked origin None is_response has_body cause (inr (inr e)) = of_next_hop cause e.0
+none_of source asked origin (Some text) true has_body cause (inl e) = of_memory cause e
+none_of source asked origin (Some text) true has_body cause (inr e) = of_service cause e.0
+none_of source asked origin (Some text) false has_body cause (inl e) = of_memory cause e
+none_of source asked origin (Some text) false has_body cause (inr (inl e)) = of_service cause e.0
+none_of source asked origin (Some text) false has_body cause (inr (inr e)) = of_next_hop cause e.0
+
+of_side : (origin : OriginWay) (user : Option SourceSide) (source : SourceHead) (x : Seen) (adapted : Option (List ℕ)) (is_response : Bool) (cause : Cause)
+    → MakesNone origin user source x adapted is_response cause → IsOfSide cause
+of_side origin user source x adapted is_response cause none = elim none [
   | inl e ↦ of_source cause e.0
-  | inr e ↦ none_of source e.0 adapted is_response x.has_body cause e.2
+  | inr e ↦ none_of source e.0 origin adapted is_response x.has_body cause e.2
 ]
 
 pub returns-clause-deadline : goal.returns-clause-deadline
-returns-clause-deadline c = λ user source x adapted is_response none. of_side user source x adapted is_response causes.Deadline none
+returns-clause-deadline c = λ origin user source x adapted is_response none. of_side origin user source x adapted is_response causes.Deadline none
 
 pub returns-clause-stopping : goal.returns-clause-stopping
-returns-clause-stopping c = λ user source x adapted is_response none. of_side user source x adapted is_response causes.Stopping none
+returns-clause-stopping c = λ origin user source x adapted is_response none. of_side origin user source x adapted is_response causes.Stopping none

@@ -29,7 +29,7 @@ returns-then-not-may_answer-clause-err c = inr (
 )
 
 pub returns-clause-ok : goal.returns-clause-ok
-returns-clause-ok c = widened c.response_onward.result c.args.asked.user.now c.args.asked.carries_on c.part_of.result (part_of c.args.has_body)
+returns-clause-ok c = widened c.response_onward.result c.args.asked.user.now c.args.asked.carries_on c.args.asked.origin c.part_of.result (part_of c.args.has_body)
     (IsResponse c.in-Ok.head.value) (IsAdaptedResponse (is_head_request c.args.asked.user.now) c.args.has_body c.args.text.now)
     (adapted_response_is (is_head_request c.args.asked.user.now) c.args.has_body c.args.text.now c.in-Ok.head.value c.in-Ok.head.length (rw c.is_head_request.ensures at c.in-Ok.ensures.ok) c.if-head-text.false
     (let passes : c.may_answer.result ≡ true = search rules in sym c.may_answer.ensures ∙ passes))

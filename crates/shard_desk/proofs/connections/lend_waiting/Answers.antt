@@ -15,7 +15,7 @@ returns-clause-lends g c = IfOk-weaker c.lent_of.result _ _ (λ lent lends. (
   c.pools_of.ensures.idle.0,
   c.pools_of.ensures.idle.1,
   lends_within c.pools_of.ensures.idle.2 lends,
-)) (c.lent_of.ensures.lends _ _ c.port_of-port.result.berth.asked _ c.port_of-port.ensures c.lend_in_turn-lent.ensures.lends)
+)) (c.lent_of.ensures.lends _ _ _ c.port_of-port.result.berth.asked _ c.port_of-port.ensures c.lend_in_turn-lent.ensures.lends)
 
 pub returns-clause-fails : goal.returns-clause-fails
-returns-clause-fails g c = c.lent_of.ensures.fails _ _ c.port_of-port.result.berth.asked _ c.port_of-port.ensures c.lend_in_turn-lent.ensures.lends
+returns-clause-fails g c = c.lent_of.ensures.fails _ _ _ c.port_of-port.result.berth.asked _ c.port_of-port.ensures c.lend_in_turn-lent.ensures.lends

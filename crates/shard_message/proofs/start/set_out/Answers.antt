@@ -9,7 +9,7 @@ use Rattle.proxy_rules.specs.Since.{Since, first_snapshot}
 use Rattle.proxy_rules.specs.Arrivals.{Arrival, Came}
 use Rattle.proxy_rules.specs.Beginnings.{MayBegin, service_end_of}
 use Rattle.shard_outside.specs.declared.planning.Planned.{Planned}
-use Rattle.shard_message.specs.Begun.{BeginsWith, beginning}
+use Rattle.shard_message.specs.Begun.{BeginsWith, beginning, way_by}
 use Rattle.shard_message.proofs.start.set_out.Goals as goal
 
 pub returns-in-Ok-new-clause-begins : goal.returns-in-Ok-new-clause-begins
@@ -17,7 +17,7 @@ returns-in-Ok-new-clause-begins g c =
     let running = c.in-Ok.running in
     let offer : c.into_inner-offer.result ≡ c.in-Some.planned.value = c.into_inner-offer.ensures in
     let message : c.into_inner.result ≡ c.args.message.value = c.into_inner.ensures in
-    subst (λ r. BeginsWith (beginning c.args.room.planned c.args.message.value c.args.pace c.args.last) c.args.way.source c.args.way.service c.args.way.next r.tx.hold.history r.tx.pace r.tx.ends)
+    subst (λ r. BeginsWith (beginning c.args.room.planned c.args.message.value c.args.manner) c.args.way.source c.args.way.service c.args.way.next r.tx.hold.history r.tx.pace r.tx.ends)
     (sym c.in-Ok-new.ensures.ok)
     (record {
       planned = c.in-Some.planned;
@@ -28,6 +28,9 @@ returns-in-Ok-new-clause-begins g c =
       pace_is = c.in-Ok.ensures.pace;
       message = subst (λ (m : Arrival). (running.tx.ends.source ≡ m.side) × (running.tx.ends.maker.user ≡ m.user)) message (c.in-Ok.ensures.sides.0, c.in-Ok.ensures.sides.1);
       last = c.in-Ok.ensures.sides.2;
+      origin = subst (λ (p : Planned). c.args.message.value.user ≡ None → running.tx.ends.maker.origin ≡ way_by p.route c.args.manner.origin) offer
+          (subst (λ (m : Arrival). m.user ≡ None → running.tx.ends.maker.origin ≡ way_by c.into_inner-offer.result.route c.args.manner.origin) message
+          (λ none. c.in-Ok.ensures.origin none ∙ c.way_by.ensures));
       service = subst (λ (p : Planned). running.tx.ends.service ≡ service_end_of p.offer.side c.args.way.service) offer c.in-Ok.ensures.sides.3;
       wires = c.in-Ok.ensures.wires;
     })

@@ -4,7 +4,7 @@ use Rattle.std.specs.declared.alloc.Global.{Global}
 use Rattle.proxy_rules.specs.Arrivals.{Arrival, point_of}
 use Rattle.shard_effects.specs.declared.answers.Marks.{Marks}
 use Rattle.shard_outside.specs.declared.planning.Planned.{Planned}
-use Rattle.shard_outside.specs.Planning.{Grounds, grounds, heads_of, waits, IsPlan, IsKept, HasNoPlan}
+use Rattle.shard_outside.specs.Planning.{Grounds, grounds, heads_of, waits, repeats, IsPlan, IsKept, HasNoPlan}
 use Rattle.shard_outside.proofs.planning.keep_plan.Goals as goal
 
 -- what holds of a thing that was found
@@ -14,13 +14,15 @@ of_found F found x e holds = subst (λ z. IfSome z F) (sym e) holds
 -- a plan is kept of a message that was lent as these
 kept_of : (by : Grounds) → (m lent again : Arrival) → (planned : Box Planned Global) → (kept : Option (Box Planned Global)) → (marks : Marks)
     → lent ≡ m → again ≡ m → IsPlan by lent planned.value → kept ≡ Some planned
-    → marks.offered ≡ is_some planned.value.offer.side → marks.waits ≡ waits (heads_of again) → IsKept by m kept marks
-kept_of by m lent again planned kept marks e e' plan k o w = record {
+    → marks.offered ≡ is_some planned.value.offer.side → marks.waits ≡ waits (heads_of again)
+    → marks.repeatable ≡ repeats (heads_of again) → IsKept by m kept marks
+kept_of by m lent again planned kept marks e e' plan k o w r = record {
   planned = planned;
   kept_is = k;
   plan = subst (λ z. IsPlan by z planned.value) e plan;
   offered = o;
   waits_is = w ∙ ap (λ z. waits (heads_of z)) e';
+  repeats_is = r ∙ ap (λ z. repeats (heads_of z)) e';
 }
 
 pub returns-in-Ok-clause-planned : goal.returns-in-Ok-clause-planned
@@ -34,10 +36,10 @@ returns-in-Ok-clause-planned g c =
       c.limits-limits.result,
       c.limits-limits.ensures,
       c.book-book.result.now,
-      subst (λ z. g.O.Outside.book_is c.args.out.now z c.book-book.result.now) (c.point.ensures ∙ ap (λ m. point_of m.user) at) c.book-book.ensures,
+      subst (λ z. g.O.Services.book_is c.args.out.now z c.book-book.result.now) (c.point.ensures ∙ ap (λ m. point_of m.user) at) c.book-book.ensures,
       c.now-now.result,
       c.now-now.ensures,
-      kept_of (grounds c.config.result.now c.limits-limits.result c.book-book.result.now c.now-now.result c.args.asked) c.in-Some.message.value c.deref-2.result.now c.deref-in-Ok.result.now c.in-Ok.planned c.keep_planned.new.plan c.keep_planned.result lent again c.in-Ok.ensures.planned c.keep_planned.ensures.kept c.keep_planned.ensures.offered c.keep_planned.ensures.waits,
+      kept_of (grounds c.config.result.now c.limits-limits.result c.book-book.result.now c.now-now.result c.args.asked) c.in-Some.message.value c.deref-2.result.now c.deref-in-Ok.result.now c.in-Ok.planned c.keep_planned.new.plan c.keep_planned.result lent again c.in-Ok.ensures.planned c.keep_planned.ensures.kept c.keep_planned.ensures.offered c.keep_planned.ensures.waits c.keep_planned.ensures.repeats,
     )
 
 pub returns-in-Err-clause-planned : goal.returns-in-Err-clause-planned
@@ -50,7 +52,7 @@ returns-in-Err-clause-planned g c =
       c.limits-limits.result,
       c.limits-limits.ensures,
       c.book-book.result.now,
-      subst (λ z. g.O.Outside.book_is c.args.out.now z c.book-book.result.now) (c.point.ensures ∙ ap (λ m. point_of m.user) at) c.book-book.ensures,
+      subst (λ z. g.O.Services.book_is c.args.out.now z c.book-book.result.now) (c.point.ensures ∙ ap (λ m. point_of m.user) at) c.book-book.ensures,
       c.now-now.result,
       c.now-now.ensures,
       (search rules, subst (λ z. HasNoPlan (grounds c.config.result.now c.limits-limits.result c.book-book.result.now c.now-now.result c.args.asked) z c.in-Err.unplanned) lent c.in-Err.ensures.unplanned),

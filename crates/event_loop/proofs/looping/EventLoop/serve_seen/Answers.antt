@@ -1,15 +1,10 @@
--- One event after another is served.
+-- One event after another is noted.
 use Rattle.std.proofs.Common.{◌≡◌, ℕ, ◌<◌, get_or, length, ap, ◌∙◌, subst}
 use Rattle.event_loop.specs.declared.event.Event.{Event}
-use Rattle.event_loop.proofs.Turning.{did_start, did_then, did_and, did_fail_if, did_same}
-use Rattle.event_loop.proofs.Serving.{serve_step, served_none, wake_step}
+use Rattle.event_loop.proofs.Turning.{did_start, did_then, did_same}
+use Rattle.event_loop.proofs.Serving.{serve_step, served_none, wake_step, notes_then}
 use Rattle.event_loop.proofs.looping.EventLoop.serve_seen.Goals as goal
-use Rattle.event_loop.proofs.looping.EventLoop.serve_seen.Goals.{then-event, else-event+in_ok-serve}
-
-pub returns-in_err-serve : goal.returns-in_err-serve
-returns-in_err-serve g c =
-    did_fail_if g.K.Work c.args.self.now c.serve.new.self _ c.from_residual.result c.from_residual.ensures.0
-    (did_and g.K.Work c.args.self.now c.loop-at.self c.serve.new.self c.loop-at.invariant c.serve.ensures)
+use Rattle.event_loop.proofs.looping.EventLoop.serve_seen.Goals.{then-event, else-event}
 
 pub loop-at-preserved : goal.loop-at-preserved
 loop-at-preserved g c =
@@ -21,12 +16,15 @@ loop-at-preserved g c =
       | then-event w ↦
           rw (w.self-is, w.woken-is)
           (did_same g.K.Work c.args.self.now c.loop-at.self c.loop-at.invariant
-          (λ deeds p. wake_step xs c.loop-at.at c.get-event.result c.loop-at.woken c.loop-at.self.ready less is w.if-event.true deeds p))
-      | else-event+in_ok-serve w ↦
+          (λ deeds p. (wake_step xs c.loop-at.at c.get-event.result c.loop-at.woken c.loop-at.self.ready less is w.if-event.true deeds p.0, p.1)))
+      | else-event w ↦
           rw (w.self-is, w.woken-is)
-          (did_then g.K.Work c.args.self.now c.loop-at.self w.serve.new.self c.loop-at.invariant w.in_ok-serve.ensures
-          (λ first second f d tied p q. serve_step g.K.Work c.loop-at.self w.serve.new.self xs c.loop-at.at c.get-event.result c.loop-at.woken less is w.if-event.false first second d tied p q))
+          (did_then g.K.Work c.args.self.now c.loop-at.self w.serve.new.self c.loop-at.invariant w.serve.ensures
+          (λ first second f d tied p q. (
+            serve_step g.K.Work c.loop-at.self w.serve.new.self xs c.loop-at.at c.get-event.result c.loop-at.woken less is w.if-event.false first second d tied p.0 q.0,
+            notes_then first second p.1 q.1,
+          )))
     ]
 
 pub loop-at-init : goal.loop-at-init
-loop-at-init g c = did_start g.K.Work c.args.self.now (served_none c.args.self.now.reports.seen.items c.args.self.now.ready)
+loop-at-init g c = did_start g.K.Work c.args.self.now (served_none c.args.self.now.reports.seen.items c.args.self.now.ready, tt)

@@ -18,7 +18,7 @@ pub loop-user-preserved-in-Continue-1 : goal.loop-user-preserved-in-Continue-1
 loop-user-preserved-in-Continue-1 g c =
     did_then g.K.Work c.args.self.now c.loop-user.self c.drive.new.self c.loop-user.invariant
     (did_due g.K.Work c.loop-user.self _ c.drive.new.self (TookIn c.in-Some.user.number (Seated c.in-Seated.key)) c.in-Seated.key
-    (does_one g.K.Work c.loop-user.self _ (TookIn c.in-Some.user.number (Seated c.in-Seated.key)) c.in-Seated.ensures.past (λ x key. refl) c.in-Seated.ensures.kept refl refl)
+    (does_one g.K.Work c.loop-user.self _ (TookIn c.in-Some.user.number (Seated c.in-Seated.key)) c.in-Seated.ensures.past (λ x key. (refl, refl, tt)) c.in-Seated.ensures.kept refl refl)
     c.in_ok-drive-in-Seated.ensures)
     (λ first second f d tied p q. admitted_next g.K.Work c.loop-user.self c.drive.new.self c.loop-user.yielded c.in-Some.user first second d tied p (inl (c.in-Seated.key, q)))
 
@@ -27,14 +27,14 @@ returns-in_err-drive-in-Seated g c =
     did_fail g.K.Work c.args.self.now c.drive.new.self _ c.from_residual.result c.from_residual.ensures.0
     (did_and g.K.Work c.args.self.now c.loop-user.self c.drive.new.self c.loop-user.invariant
     (did_behind g.K.Work c.loop-user.self _ c.drive.new.self
-    (does_one g.K.Work c.loop-user.self _ (TookIn c.in-Some.user.number (Seated c.in-Seated.key)) c.in-Seated.ensures.past (λ x key. refl) c.in-Seated.ensures.kept refl refl)
+    (does_one g.K.Work c.loop-user.self _ (TookIn c.in-Some.user.number (Seated c.in-Seated.key)) c.in-Seated.ensures.past (λ x key. (refl, refl, tt)) c.in-Seated.ensures.kept refl refl)
     c.drive.ensures))
 
 pub loop-user-preserved-in-Full : goal.loop-user-preserved-in-Full
 loop-user-preserved-in-Full g c =
     did_then g.K.Work c.args.self.now c.loop-user.self _ c.loop-user.invariant
     (did_is g.K.Work c.loop-user.self _ {P = λ (deeds : List Deed). Stands (TookIn c.in-Some.user.number (Full c.in-Full.user)) deeds} (TookIn c.in-Some.user.number (Full c.in-Full.user) ∷ [])
-    (does_one g.K.Work c.loop-user.self _ (TookIn c.in-Some.user.number (Full c.in-Full.user)) c.in-Full.ensures.past (λ x key. refl) c.in-Full.ensures.kept refl refl)
+    (does_one g.K.Work c.loop-user.self _ (TookIn c.in-Some.user.number (Full c.in-Full.user)) c.in-Full.ensures.past (λ x key. (refl, refl, tt)) c.in-Full.ensures.kept refl refl)
     (stands_newest (TookIn c.in-Some.user.number (Full c.in-Full.user)) []))
     (λ first second f d tied p q. admitted_next g.K.Work c.loop-user.self _ c.loop-user.yielded c.in-Some.user first second d tied p (inr (inl (c.in-Full.user, q))))
 
@@ -42,7 +42,7 @@ pub loop-user-preserved : goal.loop-user-preserved
 loop-user-preserved g c =
     did_then g.K.Work c.args.self.now c.loop-user.self _ c.loop-user.invariant
     (did_is g.K.Work c.loop-user.self _ {P = λ (deeds : List Deed). Stands (TookIn c.in-Some.user.number Closed) deeds} (TookIn c.in-Some.user.number Closed ∷ [])
-    (does_one g.K.Work c.loop-user.self _ (TookIn c.in-Some.user.number Closed) c.in-Closed.ensures.past (λ x key. refl) c.in-Closed.ensures.kept refl refl)
+    (does_one g.K.Work c.loop-user.self _ (TookIn c.in-Some.user.number Closed) c.in-Closed.ensures.past (λ x key. (refl, refl, tt)) c.in-Closed.ensures.kept refl refl)
     (stands_newest (TookIn c.in-Some.user.number Closed) []))
     (λ first second f d tied p q. admitted_next g.K.Work c.loop-user.self _ c.loop-user.yielded c.in-Some.user first second d tied p (inr (inr q)))
 

@@ -11,10 +11,10 @@ loop-key-preserved g c =
       | in-Some+in-Ok w ↦
           rw w.work-is
           (answers_then g.K.Work c.args.work.now c.loop-key.work _ c.loop-key.invariant
-          (answers_one g.K.Work c.loop-key.work _ _ w.answer.ensures.past (λ x key. refl) w.answer.ensures.kept))
+          (answers_one g.K.Work c.loop-key.work _ _ w.answer.ensures.past (λ x key. (refl, refl, tt)) w.answer.ensures.kept))
       | in-Some+in-Err w ↦
           rw w.work-is
           (answers_then g.K.Work c.args.work.now c.loop-key.work _ c.loop-key.invariant
-          (answers_one g.K.Work c.loop-key.work _ _ w.answer.ensures.past (λ x key. refl) w.answer.ensures.kept))
+          (answers_one g.K.Work c.loop-key.work _ _ w.answer.ensures.past (λ x key. (refl, refl, tt)) w.answer.ensures.kept))
       | in-None w ↦ rw w.work-is c.loop-key.invariant
     ]

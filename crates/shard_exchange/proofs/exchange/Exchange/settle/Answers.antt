@@ -1,4 +1,4 @@
-use Rattle.std.proofs.Common.{◌≡◌, ◌∙◌}
+use Rattle.std.proofs.Common.{◌≡◌, ◌∙◌, Bool, sym, subst}
 use Rattle.exchange_core.specs.declared.course.Course.{Course}
 use Rattle.exchange_core.specs.declared.event.RefusalCause.{RefusalCause}
 use Rattle.exchange_core.specs.declared.event.RefusalCause.TheVariants as causes
@@ -8,7 +8,7 @@ use Rattle.shard_effects.specs.declared.ends.End.{End}
 use Rattle.shard_effects.specs.declared.ends.End.TheVariants as ends
 use Rattle.shard_effects.specs.declared.ends.EndedBy.{EndedBy}
 use Rattle.shard_effects.specs.declared.ends.EndedBy.TheVariants as ended
-use Rattle.shard_exchange.specs.Ends.{IsOwed, IsOwedBy}
+use Rattle.shard_exchange.specs.Ends.{IsOwed, IsOwedBy, LastsAs}
 use Rattle.shard_exchange.proofs.exchange.Exchange.settle.Goals as goal
 
 -- the deadline and the stop each have a status
@@ -43,10 +43,22 @@ returns-clause-told g c =
     (λ is_so. record {
       end = report.result.end;
       is_so = is_so;
+      next = report.ensures.followed;
       over = tells.leaves.1;
       alone = λ some. tells.alone (report.ensures.answered ∙ some);
       owed = λ why e none. let unanswered = report.ensures.answered ∙ none in tells.owed why e unanswered (report.ensures.cuts unanswered);
       lost = tells.lost;
       keeps = tells.keeps;
+      lasts = tells.lasts;
+      lasting = subst (λ (some : Bool). LastsAs some c.args.self.now.course c.tell.new.course report.result.end) report.ensures.answered tells.lasting;
       awaits = tells.awaits;
+      withdrawn = (tells.withdrawn, λ e. let again = report.ensures.withdrawn e in tells.again e again.2 (report.ensures.cuts again.2) again.0);
+      wanting = λ e none. let unanswered = report.ensures.answered ∙ none in tells.wanting e unanswered (report.ensures.cuts unanswered);
     })
+
+-- a request that was withdrawn is here to be sent again, and nothing of an answer went out
+pub returns-clause-withdrawn : goal.returns-clause-withdrawn
+returns-clause-withdrawn g c = λ back.
+    let report = c.settle-report in
+    let again = report.ensures.withdrawn (c.tell.ensures.withdrawn back) in
+    (again.1, sym report.ensures.answered ∙ again.2, again.0)

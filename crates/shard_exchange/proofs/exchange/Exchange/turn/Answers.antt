@@ -1,16 +1,18 @@
-use Rattle.std.proofs.Common.{◌≡◌, ◌⊎◌, inl, inr, Bool, true, false, ◌&&◌, ◌||◌, subst, sym, ap, ◌∙◌, refl}
+use Rattle.std.proofs.Common.{◌≡◌, ◌⊎◌, inl, inr, Bool, Option, true, false, ◌&&◌, ◌||◌, subst, sym, ap, ◌∙◌, refl}
 use Rattle.std.proofs.lemmas.Bool.{false≢true}
 use Rattle.exchange_core.specs.declared.connection.Connection.{Connection}
 use Rattle.exchange_core.specs.declared.connection.Connection.TheVariants.{Absent, Ready, InUse, Spent}
 use Rattle.exchange_core.specs.declared.course.Course.{Course}
-use Rattle.exchange_core.specs.declared.event.Event.TheVariants.{Renewed}
+use Rattle.exchange_core.specs.declared.event.Event.TheVariants.{Renewed, Withdrawn}
 use Rattle.exchange_core.specs.declared.phase.Phase.{Phase}
 use Rattle.exchange_core.specs.declared.phase.Phase.TheVariants.{Moving}
 use Rattle.exchange_core.specs.Course.{after, renewed}
-use Rattle.exchange_core.specs.May.{is_at_gate, is_moving, is_refusing}
+use Rattle.exchange_core.specs.May.{may_come, is_at_gate, is_moving, is_refusing, is_withdrawing}
 use Rattle.exchange_core.proofs.Stepping.{goes_on}
+use Rattle.shard_effects.specs.declared.answers.Round.{Round}
+use Rattle.shard_effects.specs.declared.answers.Round.TheVariants.{Broken}
 use Rattle.shard_effects.specs.declared.ends.End.{End}
-use Rattle.shard_exchange.specs.Ends.{IsServedBy}
+use Rattle.shard_exchange.specs.Ends.{moves, IsEnded, IsServedBy}
 use Rattle.shard_exchange.specs.Outcomes.{has_answer, IsTurned}
 use Rattle.shard_exchange.proofs.exchange.Exchange.turn.Goals as goal
 
@@ -37,6 +39,10 @@ not_refusing : (p : Phase) → is_moving p ≡ true → is_refusing p ≡ false
 not_refusing (Moving point offered) h = refl
 not_refusing _ h = cc
 
+not_withdrawing : (p : Phase) → is_moving p ≡ true → is_withdrawing p ≡ false
+not_withdrawing (Moving point offered) h = refl
+not_withdrawing _ h = cc
+
 still_moves : (gate moving : Bool) → moving ≡ true → (gate || moving) ≡ false → false ≡ true
 still_moves true moving h k = sym k
 still_moves false moving h k = sym k ∙ h
@@ -60,22 +66,29 @@ from_here : (answered usable : Bool) (old mid new : Course) → (mid ≡ old) �
 from_here answered usable old mid new (inl e) n = subst (λ (c : Course). Noted answered usable c new) e n
 from_here answered usable old mid new (inr e) n = noted_anew answered usable old new (subst (λ (c : Course). Noted answered usable c new) e n)
 
-moving_on : {H O : Type 0} (rounds : H → H → Type 0) (answered reusable : H → Bool) (ends : H → End → Type 0) (late : O → Bool) (held turned : H) (old new : Course)
-    → rounds held turned → Noted (answered turned) (reusable turned) old new → IsTurned rounds answered reusable ends late held old new
-moving_on rounds answered reusable ends late held turned old new r n =
+moving_on : {H O : Type 0} (rounds : H → H → O → Round → Type 0) (frees : H → Option Bool → Type 0) (answered reusable : H → Bool)
+    (ends : H → Bool → End → Type 0) (follows : H → End → Type 0) (repeats : H → Type 0) (late : O → Bool) (held turned : H) (later : O) (round : Round)
+    (old new : Course)
+    → rounds held turned later round → (usable : Option Bool) × frees turned usable → Noted (answered turned) (reusable turned) old new
+    → IsTurned rounds frees answered reusable ends follows repeats late held old new
+moving_on rounds frees answered reusable ends follows repeats late held turned later round old new r f n =
     let moves = ap (λ (p : Phase). is_moving p) n.phase ∙ n.moves in
     record {
       turned = turned;
-      round = r;
+      later = later;
+      round = round;
+      taken = r;
+      freed = λ m. f;
       begun = λ m. n.begun;
       alone = λ a. not_refusing new.phase moves;
       served = n.served;
+      withdrawn = λ w. absurd (false≢true (sym (not_withdrawing new.phase moves) ∙ w));
       over = λ m. absurd (false≢true (still_moves (is_at_gate new.phase) (is_moving new.phase) moves m));
     }
 
 pub returns-in-Moved-clause-turned : goal.returns-in-Moved-clause-turned
 returns-in-Moved-clause-turned g c =
-    moving_on _ _ _ _ _ _ c.round.new.self.holdings _ _ c.round.ensures.rounds (from_here _ _ _ c.round.new.self.course _ c.round.ensures.renewed
+    moving_on _ _ _ _ _ _ _ _ _ c.round.new.self.holdings c.round.new.out c.round.result _ _ c.round.ensures.rounds c.note_round.ensures.freed (from_here _ _ _ c.round.new.self.course _ c.round.ensures.renewed
     (record {
       moves = c.round.ensures.moves;
       phase = c.note_round.ensures.phase;
@@ -85,10 +98,41 @@ returns-in-Moved-clause-turned g c =
 
 pub returns-else-not-note_round-clause-turned : goal.returns-else-not-note_round-clause-turned
 returns-else-not-note_round-clause-turned g c =
-    moving_on _ _ _ _ _ _ c.round.new.self.holdings _ _ c.round.ensures.rounds (from_here _ _ _ c.round.new.self.course _ c.round.ensures.renewed
+    moving_on _ _ _ _ _ _ _ _ _ c.round.new.self.holdings c.round.new.out c.round.result _ _ c.round.ensures.rounds c.note_round-in_default.ensures.freed (from_here _ _ _ c.round.new.self.course _ c.round.ensures.renewed
     (record {
       moves = c.round.ensures.moves;
       phase = c.note_round-in_default.ensures.phase;
       begun = c.note_round-in_default.ensures.begun;
       served = c.note_round-in_default.ensures.served;
     }))
+
+-- what a message came to that is over as its transaction ended: the course is as before where it is told
+ended_there : {H O : Type 0} (rounds : H → H → O → Round → Type 0) (frees : H → Option Bool → Type 0) (answered reusable : H → Bool)
+    (ends : H → Bool → End → Type 0) (follows : H → End → Type 0) (repeats : H → Type 0) (late : O → Bool) (held turned : H) (later : O) (round : Round)
+    (old mid new : Course)
+    → mid ≡ old → rounds held turned later round → moves new ≡ false → IsServedBy (reusable turned) mid.connection new.connection
+    → (answered turned ≡ true → is_refusing new.phase ≡ false)
+    → (is_withdrawing new.phase ≡ true → repeats turned × (answered turned ≡ false) × (may_come mid Withdrawn ≡ true))
+    → IsEnded (ends turned (may_come mid Withdrawn)) (follows turned) (answered turned) mid new
+    → IsTurned rounds frees answered reusable ends follows repeats late held old new
+ended_there rounds frees answered reusable ends follows repeats late held turned later round old mid new same r over s a w e =
+    subst (λ (c : Course). IsTurned rounds frees answered reusable ends follows repeats late held c new) same
+    (record {
+      turned = turned;
+      later = later;
+      round = round;
+      taken = r;
+      freed = λ m. absurd (false≢true (sym over ∙ m));
+      begun = λ m. absurd (false≢true (sym over ∙ m));
+      alone = a;
+      served = s;
+      withdrawn = w;
+      over = λ m. inl e;
+    })
+
+pub returns-in-Over-clause-turned : goal.returns-in-Over-clause-turned
+returns-in-Over-clause-turned g c =
+    let told = c.settle.ensures in
+    ended_there _ _ _ _ _ _ _ _ _ c.round.new.self.holdings c.round.new.out c.round.result _ c.round.new.self.course _
+    (c.round.ensures.still (subst (λ (r : Round). r ≡ Broken → ⊥) (sym c.in-Over.is) (λ e. cc)))
+    c.round.ensures.rounds told.over told.served told.alone told.withdrawn told.told

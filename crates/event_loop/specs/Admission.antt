@@ -1,0 +1,23 @@
+-- Who may connect as a user.
+use Rattle.std.specs.Prelude.{◌≡◌, ◌⊎◌, List, Option, Some, None, ⊤}
+use Rattle.std.specs.declared.net.socket_addr.SocketAddr.{SocketAddr}
+use Rattle.std.specs.declared.net.socket_addr.SocketAddr.TheVariants.{V4, V6}
+use Rattle.std.specs.Net.Socket.{v4_ip}
+use Rattle.loop_parts.specs.declared.listening.Accepted.{Accepted}
+use Rattle.loop_parts.specs.declared.listening.Accepted.TheVariants.{One, Gone, None as NoOne, Rest}
+use Rattle.proxy_config.specs.Networks.{MayUse}
+use Rattle.proxy_config.specs.declared.network.Network.{Network}
+
+-- a user may connect from the address: by its IPv4 address; one without may where users come from everywhere
+abbrev pub MayConnect : Option (List Network) → SocketAddr → Type 0
+MayConnect networks (V4 from) = MayUse networks (v4_ip from)
+MayConnect None (V6 from) = ⊤
+MayConnect (Some networks) (V6 from) = ⊥
+
+-- a connection is handed on if a user may connect from where it comes, and is gone if none may; all else stays
+abbrev pub IsJudged : Option (List Network) → (was is : Accepted) → Type 0
+IsJudged networks (One stream from) is =
+    (MayConnect networks from × (is ≡ One stream from)) ⊎ ((MayConnect networks from → ⊥) × (is ≡ Gone))
+IsJudged networks Gone is = is ≡ Gone
+IsJudged networks NoOne is = is ≡ NoOne
+IsJudged networks Rest is = is ≡ Rest

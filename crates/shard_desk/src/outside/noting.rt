@@ -1,0 +1,74 @@
+//! What is noted of an exchange over sockets.
+
+use crate::desk::Desk;
+use crate::shared::Shares;
+use crate::words::asked_reason;
+use adapt_sides::ClientFault;
+use proxy_rules::{Incoming, Route};
+use shard_effects::Reason;
+use shard_outside::{MessageEnd, Noting};
+use shard_work::Spot;
+use socket_wire::{Dial, UserWire};
+use std::sync::Wait;
+use std::time::Clock;
+use wire_kit::{Gate, Wire};
+
+impl<'r, S: Shares, R: Wait + Dial + Clock, G: Gate> Noting<Spot<'r, R, G>> for Desk<S> {
+    fn note_request(&mut self, at: &Spot<'r, R, G>, request: &Incoming) {
+        self.heed_refresh();
+        self.seats.end_wait(at.key);
+        let taken = self.seats.taken(at.key);
+        let has_query = self.shared.config().log_query;
+        self.reporter
+            .request(at.rt, at.key, taken, request, has_query);
+    }
+
+    fn note_response(&mut self, at: &Spot<'r, R, G>, response: &Incoming) {
+        self.heed_refresh();
+        self.seats.end_wait(at.key);
+        self.reporter.response(at.key, response);
+    }
+
+    fn note_route(&mut self, at: &Spot<'r, R, G>, route: Route) {
+        self.reporter.route(at.key, route);
+    }
+
+    fn note_anew(&mut self, at: &Spot<'r, R, G>) {
+        self.reporter.anew(self.shared.tally(), at.key);
+    }
+
+    fn blame_service(&mut self, at: &Spot<'r, R, G>, fault: Option<ClientFault>, is_fresh: bool) {
+        self.reporter.blame(at.key, asked_reason(fault, is_fresh));
+    }
+
+    fn note_refusal(
+        &mut self,
+        at: &Spot<'r, R, G>,
+        user: &UserWire,
+        message: Option<&Incoming>,
+        reason: Reason,
+    ) {
+        let (read, _) = user.counts();
+        self.reporter.read(self.shared.tally(), at.key, read);
+        let taken = self.seats.taken(at.key);
+        if !self.reporter.is_open(at.key)
+            && let Some(message) = message
+        {
+            let has_query = self.shared.config().log_query;
+            self.reporter
+                .request(at.rt, at.key, taken, message, has_query);
+        }
+        self.reporter
+            .refusal(self.shared.tally(), at.key, taken, reason);
+    }
+
+    fn note_end(&mut self, at: &Spot<'r, R, G>, user: &UserWire, end: MessageEnd<'_>) {
+        let (read, _) = user.counts();
+        self.reporter.read(self.shared.tally(), at.key, read);
+        self.reporter.end(self.shared.tally(), at.key, end);
+    }
+
+    fn note_stop(&mut self, at: &Spot<'r, R, G>) {
+        self.reporter.stop(at.key);
+    }
+}

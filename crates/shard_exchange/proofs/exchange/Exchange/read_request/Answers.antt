@@ -1,0 +1,10 @@
+-- A turn at the head of the user's request leads where it says.
+use Rattle.shard_exchange.proofs.exchange.Exchange.read_request.Goals as goal
+
+pub returns-clause-read : goal.returns-clause-read
+returns-clause-read g c = record {
+  turned = c.read_request-turn.new.self;
+  turn = c.read_request-turn.result;
+  brought = c.read_request-turn.ensures.reads;
+  leads = c.take_request_turn.ensures.leads;
+}

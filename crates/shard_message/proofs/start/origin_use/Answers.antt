@@ -1,0 +1,4 @@
+use Rattle.shard_message.proofs.start.origin_use.Goals as goal
+
+pub returns : goal.returns
+returns g c = record { config = c.config.result.now; config_is_so = c.config.ensures; use_is = c.use_of.ensures }
