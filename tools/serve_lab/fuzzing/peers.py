@@ -72,6 +72,12 @@ class Line:
         self.is_blank = more == b"\r\n" and (self.since is None or self.is_blank)
         self.last, self.since = last, time.monotonic()
 
+    def has_no_answer(self):
+        """A request gets no answer. Where bytes that answer nothing met it, the proxy may have taken them for one, and the connection for
+        idle: what further requests get is anybody's guess. Else none may come."""
+        self.last = self.last or "one without an answer"
+        self.since = self.since and float("inf")
+
     async def has_raced(self, is_answered):
         """A request met them. Its own answer belongs to nobody, but where nothing stood before it; where it has none, nobody can know of
         anything wrong."""
@@ -133,7 +139,8 @@ class FuzzOrigin(Peer):
             if wire.raw and plan.mark not in self.found.raced:
                 self.wrong("%r has %d bytes after its request: %r", plan.mark, len(wire.raw), bytes(wire.raw[:200]))
         if plan.origin == "mute":
-            await asyncio.sleep(PATIENCE)
+            line.has_no_answer()
+            await self.see_others(line)
         text = self.answer(own, plan)
         if plan.origin in ("changed", "cut", "trailing", "garbage", "early"):
             return await self.break_answer(own, line, plan, text)
