@@ -64,6 +64,7 @@ adaptation_access s allow all
 # Its `done` prints how many answers took how many microseconds.
 SCRIPT = """wrk.headers["Host"] = "127.0.0.1:%(origin)d"
 %(closing)s
+%(pausing)s
 request = function() return wrk.format("GET", "http://127.0.0.1:%(origin)d/%(path)s") end
 done = function(summary, latency)
   print("took", summary.duration, summary.requests)
@@ -194,11 +195,13 @@ class Lab(Servers):
         if self.compiled:
             self.compiled.close()
 
-    def load(self, program, path, connections, seconds, closing=False):
-        """wrk's requests for a file, over this many connections, to a program's port; the times are those of its process."""
+    def load(self, program, path, connections, seconds, closing=False, pause=0):
+        """wrk's requests for a file, over this many connections, to a program's port; the times are those of its process. Each connection
+        pauses so many milliseconds before each request."""
         port, pid = program
         closes = 'wrk.headers["Connection"] = "close"' if closing else ""
-        script = self.write("wrk.lua", SCRIPT, origin=self.origin, path=path, closing=closes)
+        pauses = "delay = function() return %d end" % pause if pause else ""
+        script = self.write("wrk.lua", SCRIPT, origin=self.origin, path=path, closing=closes, pausing=pauses)
         before, delayed = times(pid), delayed_acks()
         out = subprocess.run(["wrk", "-t1", "-c%d" % connections, "-d%ds" % seconds, "--latency", "-s", script,
                               "http://127.0.0.1:%d/" % port], capture_output=True, text=True, check=True).stdout

@@ -1,6 +1,7 @@
 -- What a loop serves: events, queues and users, in a turn and in a round.
 use Rattle.std.proofs.Common.{◌≡◌, ℕ, ◌+◌, ◌<◌, ◌⊎◌, below_more, take, get_or, inl, inr, Option, Some, None, Bool, true, false, List, [], ◌∷◌, ◌++◌, length, map, refl, ap, sym, ◌∙◌, subst, append_assoc, arith}
-use Rattle.std.specs.Prelude.{All, ◌*◌, ⊤}
+use Rattle.std.specs.Prelude.{All, ◌*◌, ⊤, nat_lt}
+use Rattle.std.proofs.lemmas.List.{length-map}
 use Rattle.std.proofs.lemmas.List.Elements.{All-nil, All-push, All-weaker, All-more}
 use Rattle.mio.specs.Events.{items}
 use Rattle.socket_wire.specs.declared.token.Peer.{Peer}
@@ -13,11 +14,12 @@ use Rattle.event_loop.specs.declared.event.Event.{Event}
 use Rattle.event_loop.specs.declared.work.Work.{Ghosts as Work}
 use Rattle.event_loop.specs.declared.looping.EventLoop.{EventLoop}
 use Rattle.event_loop.specs.declared.looping.TheConstants.{WAKER, ADMIN, METRICS}
+use Rattle.event_loop.specs.declared.reports.TheConstants.{EVENTS}
 use Rattle.event_loop.specs.Reports.{words_of}
 use Rattle.event_loop.specs.Deeds.{Deed}
-use Rattle.event_loop.specs.Deeds.Deed.{Noted}
-use Rattle.event_loop.specs.Turns.{IsTied, Does, Did, Stands, IsDriven, Gets, IsDue, IsServed, IsAsked, IsAdmitted, AreServed, AreNotes, IsNoted, NotesFirst, IsWoken, Serves, ServesRound, polled, second}
-use Rattle.event_loop.proofs.Turning.{does_nothing, does_then, tied_then, did_then, did_is, did_behind, stands_more, stands_older, driven_more, driven_older, marked_gets, gets_more, gets_older, due_more, due_older, no}
+use Rattle.event_loop.specs.Deeds.Deed.{Heard, Noted}
+use Rattle.event_loop.specs.Turns.{IsTied, Does, Did, Stands, IsDriven, Gets, IsDue, IsServed, IsAsked, IsAdmitted, AreServed, IsNote, AreNotes, IsNoted, NotesFirst, IsWoken, Serves, ServesRound, polled, second}
+use Rattle.event_loop.proofs.Turning.{does_nothing, does_then, tied_then, did_then, did_is, did_behind, stands_more, stands_older, stands_newest, driven_more, driven_older, marked_gets, gets_more, gets_older, due_more, due_older, no}
 
 either_map : {A B C D : Type 0} → (A → C) → (B → D) → A ⊎ B → C ⊎ D
 either_map f g (inl a) = inl (f a)
@@ -201,11 +203,16 @@ serves_older w a b c events first second d tied notes h = record {
   asked = λ woke queue less. asked_older queue c.ready first (h.asked woke queue (subst (λ (n : ℕ). queue < n) (sym d.works.queues) less));
 }
 
-pub after_serves : {K : Type 0} (w : Work K) (a b c : EventLoop K) (events : List Event) → Did w a b AreNotes → Did w b c (Serves w b c events) → Did w a c (Serves w a c events)
-after_serves w a b c events f s = record {
-  deeds = s.deeds ++ f.deeds;
-  does = does_then w a b c f.deeds s.deeds f.does s.does;
-  holds = λ tied. serves_older w a b c events f.deeds s.deeds f.does tied (f.holds tied) (s.holds (tied_then w a b f.does tied));
+-- a turn after what the poll has reported was told, and nothing else
+after_told : {K : Type 0} (w : Work K) (a b c : EventLoop K) (events : List Event) (told : Deed) → IsNote told → Does w a b (told ∷ [])
+    → Did w b c (Serves w b c events) → Did w a c (λ deeds. Serves w a c events deeds × Stands told deeds)
+after_told w a b c events told note d s = record {
+  deeds = s.deeds ++ (told ∷ []);
+  does = does_then w a b c (told ∷ []) s.deeds d s.does;
+  holds = λ tied. (
+    serves_older w a b c events (told ∷ []) s.deeds d tied (note, tt) (s.holds (tied_then w a b d tied)),
+    stands_more s.deeds (stands_newest told []),
+  );
 }
 
 -- each event was noted and served, before anything else was done; one that had a mark got a turn, or has a mark still
@@ -286,23 +293,29 @@ polled_did w a m b work ready d = did_behind w (polled a b) m b (does_nothing w 
 pub round_served : {K : Type 0} (w : Work K) (a m0 m1 m2 m3 b : EventLoop K) (before : ℕ)
     → m0.work ≡ a.work → m0.ready ≡ a.ready → before ≡ second a
     → m0.reports.seen.items ≡ map words_of (items m0.reports.events)
-    → Does w m0 m1 [] → Does w m1 m2 []
+    → Does w m0 m1 (Heard (nat_lt (length m0.reports.seen.items) EVENTS) ∷ []) → Does w m1 m2 []
     → Did w m2 m3 (Serves w m2 m3 m2.reports.seen.items)
     → Did w m3 b (λ deeds. (second b ≡ before → ⊥) → (key : ℕ) → key < w.bound m3.work → Gets key deeds b.ready)
     → Did w (polled a b) b (ServesRound w a b)
 round_served {K} w a m0 m1 m2 m3 b before work ready seconds seen d1 d2 d3 d4 =
     let xs : List Event = map words_of (items b.reports.events) in
-    let x2 : Does w m0 m2 [] = does_then w m0 m1 m2 [] [] d1 d2 in
+    let told : Deed = Heard (nat_lt (length m0.reports.seen.items) EVENTS) in
+    let x2 : Does w m0 m2 (told ∷ []) = does_then w m0 m1 m2 (told ∷ []) [] d1 d2 in
+    let same = sym (d4.does.reports ∙ (d3.does.reports ∙ x2.reports)) in
     let heard : m2.reports.seen.items ≡ xs =
-    ap (λ r. r.seen.items) x2.reports ∙ (seen ∙ ap (λ r. map words_of (items r.events)) (sym (d4.does.reports ∙ (d3.does.reports ∙ x2.reports)))) in
+    ap (λ r. r.seen.items) x2.reports ∙ (seen ∙ ap (λ r. map words_of (items r.events)) same) in
     let s3 : Did w m2 m3 (Serves w m2 m3 xs) = subst (λ (es : List Event). Did w m2 m3 (Serves w m2 m3 es)) heard d3 in
-    let start : Does w (polled a b) m0 [] = does_nothing w (polled a b) m0 work ready (sym (d4.does.reports ∙ (d3.does.reports ∙ x2.reports))) in
-    let polls : Does w (polled a b) m2 [] = does_then w (polled a b) m0 m2 [] [] start x2 in
-    let u3 : Did w (polled a b) m3 (Serves w (polled a b) m3 xs) = after_serves w (polled a b) m2 m3 xs (did_is w (polled a b) m2 {P = AreNotes} [] polls tt) s3 in
+    let many : length m0.reports.seen.items ≡ length (items b.reports.events) =
+    ap (λ (es : List Event). length es) (seen ∙ ap (λ r. map words_of (items r.events)) same) ∙ length-map (items b.reports.events) words_of in
+    let start : Does w (polled a b) m0 [] = does_nothing w (polled a b) m0 work ready same in
+    let polls : Does w (polled a b) m2 (told ∷ []) = does_then w (polled a b) m0 m2 [] (told ∷ []) start x2 in
+    let u3 : Did w (polled a b) m3 (λ deeds. Serves w (polled a b) m3 xs deeds × Stands told deeds) =
+    after_told w (polled a b) m2 m3 xs told tt polls s3 in
     did_then w (polled a b) m3 b u3 d4 (λ first second f d tied p q.
-    let turn = serves_more w (polled a b) m3 b xs first second d tied p in
+    let turn = serves_more w (polled a b) m3 b xs first second d tied p.0 in
     record {
       turn = record { ready = turn.ready; first = turn.first; served = turn.served; asked = turn.asked };
+      told = stands_more second (subst (λ (n : ℕ). Stands (Heard (nat_lt n EVENTS)) first) many p.1);
       seconds = λ later key less.
           gets_older key b.ready first (q (λ e. later (e ∙ seconds)) key (subst (λ (n : ℕ). key < n) (sym f.works.bound) less));
     })

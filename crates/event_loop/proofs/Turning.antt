@@ -9,7 +9,7 @@ use Rattle.event_loop.specs.declared.work.Driven.TheVariants.{Waiting, CutShort,
 use Rattle.event_loop.specs.declared.work.Work.{Ghosts as Work}
 use Rattle.event_loop.specs.declared.looping.EventLoop.{EventLoop}
 use Rattle.event_loop.specs.Deeds.{Deed, Adds, has_more, is_end, blocker}
-use Rattle.event_loop.specs.Deeds.Deed.{TookIn, MadeRoom, Noted, Drove, GaveWay, Asked, Answered, EndedTurn, Drained, Halted}
+use Rattle.event_loop.specs.Deeds.Deed.{TookIn, MadeRoom, Heard, Noted, Drove, GaveWay, Asked, Answered, EndedTurn, Drained, Halted}
 use Rattle.event_loop.specs.Turns.{owes, owes_after, ends, Follows, AreOrderly, IsTied, Works, Does, Did, Answers, Stands, IsDriven, Drives, Gets, IsDue, ways}
 
 -- deeds of a work, one after another
@@ -53,6 +53,7 @@ blocker_more other (Drove key CutShort ∷ more) deeds e = absurd (none_some e)
 blocker_more other (Drove key Over ∷ more) deeds e = absurd (none_some e)
 blocker_more other (TookIn number admitted ∷ more) deeds e = absurd (none_some e)
 blocker_more other (MadeRoom there ∷ more) deeds e = absurd (none_some e)
+blocker_more other (Heard is_whole ∷ more) deeds e = absurd (none_some e)
 blocker_more other (Noted number peer told news ∷ more) deeds e = absurd (none_some e)
 blocker_more other (GaveWay it ∷ more) deeds e = absurd (none_some e)
 blocker_more other (Asked queue first ∷ more) deeds e = absurd (none_some e)
@@ -68,6 +69,7 @@ follows_more EndedTurn more deeds e h = absurd (no (sym e))
 follows_more (Drove other driven) more deeds e h = tt
 follows_more (TookIn number admitted) more deeds e h = tt
 follows_more (MadeRoom there) more deeds e h = tt
+follows_more (Heard is_whole) more deeds e h = tt
 follows_more (Noted number peer told news) more deeds e h = tt
 follows_more (Asked queue first) more deeds e h = tt
 follows_more (Answered request) more deeds e h = tt
@@ -93,6 +95,7 @@ after_more : (x y : Bool) (key : ℕ) (deed : Deed) → (x ≡ true → y ≡ tr
 after_more x y key (Drove other driven) h e = cond_more (nat_eq other key) (has_more driven) x y h e
 after_more x y key (TookIn number admitted) h e = h e
 after_more x y key (MadeRoom there) h e = h e
+after_more x y key (Heard is_whole) h e = h e
 after_more x y key (Noted number peer told news) h e = h e
 after_more x y key (GaveWay other) h e = h e
 after_more x y key (Asked queue first) h e = h e
@@ -371,6 +374,7 @@ owed_step x key (Drove other driven) deeds (inr e) =
     ]
 owed_step x key (TookIn number admitted) deeds (inr e) = inr e
 owed_step x key (MadeRoom there) deeds (inr e) = inr e
+owed_step x key (Heard is_whole) deeds (inr e) = inr e
 owed_step x key (Noted number peer told news) deeds (inr e) = inr e
 owed_step x key (GaveWay other) deeds (inr e) = inr e
 owed_step x key (Asked queue first) deeds (inr e) = inr e

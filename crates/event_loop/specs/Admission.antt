@@ -5,6 +5,7 @@ use Rattle.std.specs.declared.net.socket_addr.SocketAddr.TheVariants.{V4, V6}
 use Rattle.std.specs.Net.Socket.{v4_ip}
 use Rattle.loop_parts.specs.declared.listening.Accepted.{Accepted}
 use Rattle.loop_parts.specs.declared.listening.Accepted.TheVariants.{One, Gone, None as NoOne, Rest}
+use Rattle.mio.specs.declared.net.stream.TcpStream.{TcpStream}
 use Rattle.proxy_config.specs.Networks.{MayUse}
 use Rattle.proxy_config.specs.declared.network.Network.{Network}
 
@@ -21,3 +22,10 @@ IsJudged networks (One stream from) is =
 IsJudged networks Gone is = is ≡ Gone
 IsJudged networks NoOne is = is ≡ NoOne
 IsJudged networks Rest is = is ≡ Rest
+
+-- a connection that is handed on has waited already, or is one of a user who may connect from where it comes
+abbrev pub IsLetIn : Option (List Network) → (waiting : Option (TcpStream × SocketAddr)) → Accepted → Type 0
+IsLetIn networks waiting (One stream from) = (waiting ≡ Some (stream, from)) ⊎ MayConnect networks from
+IsLetIn networks waiting Gone = ⊤
+IsLetIn networks waiting NoOne = ⊤
+IsLetIn networks waiting Rest = ⊤

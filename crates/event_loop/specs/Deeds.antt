@@ -13,6 +13,8 @@ pub data Deed : Type 0 where
   TookIn : ℕ → Admitted → Deed
   -- it was asked for room for a user, and there is some or not
   MadeRoom : Bool → Deed
+  -- it was told that the last poll reported all that there was to report, or only as much as it had room for
+  Heard : Bool → Deed
   -- an event of the connection under this number and peer was noted, and is news for the exchange under a key, or for none
   Noted : ℕ → Peer → Told → Option ℕ → Deed
   -- the exchange under this key was driven so far

@@ -1,5 +1,5 @@
 -- What a loop did in a call: its deeds, and whom it owes another turn.
-use Rattle.std.specs.Prelude.{◌≡◌, ℕ, ◌+◌, ◌*◌, ◌≤◌, ◌<◌, ◌⊎◌, ◌||◌, ⊤, Bool, true, false, cond, nat_eq, List, [], ◌∷◌, ◌++◌, All, map, ◌/◌, Option, Some, None}
+use Rattle.std.specs.Prelude.{◌≡◌, ℕ, ◌+◌, ◌*◌, ◌≤◌, ◌<◌, ◌⊎◌, ◌||◌, ⊤, Bool, true, false, cond, nat_eq, nat_lt, length, List, [], ◌∷◌, ◌++◌, All, map, ◌/◌, Option, Some, None}
 use Rattle.mio.specs.Events.{items}
 use Rattle.socket_wire.specs.declared.token.Peer.{Peer}
 use Rattle.socket_wire.specs.Token.{peer_number}
@@ -13,15 +13,17 @@ use Rattle.event_loop.specs.declared.inbox.Handed.{Handed}
 use Rattle.event_loop.specs.declared.event.Event.{Event}
 use Rattle.event_loop.specs.declared.looping.EventLoop.{EventLoop}
 use Rattle.event_loop.specs.declared.looping.TheConstants.{WAKER, SECOND}
+use Rattle.event_loop.specs.declared.reports.TheConstants.{EVENTS}
 use Rattle.event_loop.specs.Reports.{words_of}
 use Rattle.event_loop.specs.Deeds.{Deed, has_more, is_end, blocker}
-use Rattle.event_loop.specs.Deeds.Deed.{TookIn, MadeRoom, Noted, Drove, GaveWay, Asked, Answered, EndedTurn, Drained, Halted}
+use Rattle.event_loop.specs.Deeds.Deed.{TookIn, MadeRoom, Heard, Noted, Drove, GaveWay, Asked, Answered, EndedTurn, Drained, Halted}
 
 -- whether the exchange under this key is owed a turn after the deed: if it was driven, by how far, else as before
 abbrev pub owes_after : Bool → ℕ → Deed → Bool
 owes_after before key (Drove other driven) = cond (nat_eq other key) (has_more driven) before
 owes_after before key (TookIn number admitted) = before
 owes_after before key (MadeRoom there) = before
+owes_after before key (Heard is_whole) = before
 owes_after before key (Noted number peer told news) = before
 owes_after before key (GaveWay other) = before
 owes_after before key (Asked queue first) = before
@@ -149,8 +151,9 @@ abbrev pub IsServed : Event → List Deed → ReadyList → Type 0
 IsServed event deeds ready = (number : ℕ) (peer : Peer) → event.token ≡ 4 * number + peer_number peer
     → Stands (Noted number peer event.told None) deeds ⊎ ((key : ℕ) × IsDue key (Noted number peer event.told (Some key)) deeds ready)
 
--- this deed notes an event
+-- this deed takes note of what a poll has reported
 abbrev pub IsNote : Deed → Type 0
+IsNote (Heard is_whole) = ⊤
 IsNote (Noted number peer told news) = ⊤
 IsNote _ = ⊥
 
@@ -214,5 +217,7 @@ polled old new = record old { reports = new.reports }
 pub record ServesRound {K : Type 0} (w : Work K) (old new : EventLoop K) (deeds : List Deed) : Type 0 where
   -- that of the events that its poll has reported
   pub turn : Serves w old new (map words_of (items new.reports.events)) deeds
+  -- its work was told whether the poll has reported all: it has where there was room for more
+  pub told : Stands (Heard (nat_lt (length (items new.reports.events)) EVENTS)) deeds
   -- once a second begins, each exchange gets a turn
   pub seconds : (second new ≡ second old → ⊥) → (key : ℕ) → key < w.bound old.work → Gets key deeds new.ready

@@ -1,9 +1,10 @@
 //! A loop: its poll, its events, and whom it drives.
 
-ghost use Rattle.std.specs.Prelude.{◌≡◌, ◌<◌, [], ◌∷◌, ℕ, true, false, length, IfOk, OnOk, IfErr, IsSomeAnd, ⊤};
+ghost use Rattle.std.specs.Prelude.{◌≡◌, ◌<◌, [], ◌∷◌, ℕ, true, false, nat_lt, length, IfOk, OnOk, IfErr, IsSomeAnd, ⊤};
 ghost use Rattle.std.specs.Duration.{as_nanos};
 ghost use Rattle.loop_parts.specs.Marks.{is_marked};
-ghost use Rattle.event_loop.specs.Deeds.Deed.{EndedTurn, Halted};
+ghost use Rattle.event_loop.specs.declared.reports.TheConstants.{EVENTS};
+ghost use Rattle.event_loop.specs.Deeds.Deed.{Heard, EndedTurn, Halted};
 ghost use Rattle.event_loop.specs.Turns.{Works, Does, Did, Ran, Stands, Gets, IsTied, ServesRound, polled, second};
 
 mod draining;
@@ -103,14 +104,14 @@ impl<K: Work> EventLoop<K> {
 
     /// Its work gets to know whether the poll reported all that there was to report.
     fn hear_poll(&mut self)
-        ensures { Does K.Work self.old self.new [] }
+        ensures { Does K.Work self.old self.new (Heard (nat_lt (length self.old.reports.seen.items) EVENTS) ∷ []) }
     {
         self.work.heard(self.reports.is_whole());
     }
 
     /// A turn begins: its poll has reported, and the clock is read.
     fn begin_turn<R: Clock>(&mut self, rt: &R) -> io::Result<()>
-        ensures { Does K.Work self.old self.new [] }
+        ensures { Does K.Work self.old self.new (Heard (nat_lt (length self.old.reports.seen.items) EVENTS) ∷ []) }
     {
         self.hear_poll();
         self.read_clock(rt)

@@ -1,7 +1,8 @@
 //! The users' port, of the one loop that serves it: users that connect are handed out in rotation. A loop that has no seat for one passes
 //! it on to the next.
 
-ghost use Rattle.std.specs.Prelude.{◌≡◌, ◌<◌, ◌+◌, ◌-◌, ◌%◌, ◌^◌, [], Bool, false, Some, cond, min, nat_eq, nat_lt};
+ghost use Rattle.std.specs.Prelude.{◌≡◌, ◌<◌, ◌+◌, ◌-◌, ◌%◌, ◌^◌, [], Bool, false, Some, cond, min, nat_eq, nat_lt, option_map};
+ghost use Rattle.event_loop.specs.Admission.{IsLetIn};
 ghost use Rattle.event_loop.specs.Mail.{Sends, HandsOut, asks, hands, is_own};
 
 use crate::admission::{Admission, ip_of, judged};
@@ -150,7 +151,9 @@ impl Ports {
 
     /// The user who waits for room, or the next one. One that comes from elsewhere than users may is closed.
     fn next(&mut self) -> Accepted
-        ensures { (self.new.accepted ≡ self.old.accepted) × (self.new.loops ≡ self.old.loops) }
+        ensures let_in { IsLetIn (option_map (λ vec. vec.items) self.old.networks) self.old.waiting result }
+        ensures kept { (self.new.accepted ≡ self.old.accepted) × (self.new.loops ≡ self.old.loops) }
+        ensures networks { self.new.networks ≡ self.old.networks }
     {
         if let Some((stream, from)) = self.waiting.take() {
             return Accepted::One(stream, from);

@@ -3,7 +3,7 @@
 ghost use Rattle.std.specs.Prelude.{◌≡◌, ℕ, ◌<◌, List, true, IfSome};
 ghost use Rattle.event_loop.specs.declared.inbox.Handed.{Handed as AnyHanded};
 ghost use Rattle.event_loop.specs.Deeds.{Deed, Adds, has_more};
-ghost use Rattle.event_loop.specs.Deeds.Deed.{TookIn, MadeRoom, Noted, Drove, GaveWay, Asked, Answered, EndedTurn, Drained, Halted};
+ghost use Rattle.event_loop.specs.Deeds.Deed.{TookIn, MadeRoom, Heard, Noted, Drove, GaveWay, Asked, Answered, EndedTurn, Drained, Halted};
 
 use crate::inbox::Handed;
 use loop_parts::Request;
@@ -106,7 +106,7 @@ pub trait Work {
 
     /// The poll of this turn reported all that there was to report, or only as much as it had room for.
     fn heard(&mut self, is_whole: bool)
-        ensures past { (deeds : List Deed) → past self.old deeds → past self.new deeds }
+        ensures past { Adds (past self.old) (past self.new) (Heard is_whole) }
         ensures still { (k : ℕ) → part self.new k ≡ part self.old k }
         ensures kept { (bound self.new ≡ bound self.old) × (queues self.new ≡ queues self.old) };
 

@@ -132,8 +132,12 @@ pub trait Holder: InHand {
         ensures says { SaysOn (user_past self.old) (user_past self.new) (refusal status) (Self.hand self.old).refused (Self.hand self.new).refused result }
         ensures kept { KeepsButRefused (Self.hand self.old) (Self.hand self.new) };
 
+    // the user was told that nothing more comes
+    ghost finished: { Self → Bool };
+
     /// Whether the user was told that nothing more comes.
-    fn is_finished(&self) -> bool;
+    fn is_finished(&self) -> bool
+        ensures { result ≡ finished self.now };
 
     /// Closes the user's connection. At this course the user is gone.
     fn lose_user(&mut self, course: &Exchange)
@@ -385,6 +389,7 @@ pub trait Effects<P>: Holder {
     /// Says to the user that nothing more comes. At this course all is said to it, also the refusal.
     fn close(&mut self, at: &P, course: &Exchange)
         requires silent { is_silent course.now.phase ≡ true }
+        ensures said { Self.finished self.new ≡ true }
         ensures kept { Keeps (Self.hand self.old) (Self.hand self.new) };
 
     /// Drops what the user still sends. At this course all is said to it.

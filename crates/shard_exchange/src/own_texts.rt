@@ -123,6 +123,7 @@ impl<H: Holder> Exchange<H> {
     where
         H: Effects<P>,
         requires due { due_of self.old.course ≡ dues.Linger }
+        ensures said { H.finished self.old.holdings ≡ false → H.finished self.new.holdings ≡ true }
         ensures goes { Goes self.old.course self.new.course }
         ensures heeds { Heeds (H.is_late out.new at.now) self.new.course result }
     {

@@ -115,6 +115,8 @@ impl<O: Kinds> Holder for Holdings<O> {
         say_to(&mut self.user, own_refusal(status), &mut self.refused)
     }
 
+    ghost finished = { λ held. held.is_finished };
+
     fn is_finished(&self) -> bool {
         self.is_finished
     }

@@ -1,6 +1,6 @@
 //! The proxy: its budget, its pools, and its threads.
 
-ghost use Rattle.std.specs.Prelude.{◌≡◌, ◌+◌, ◌≤◌};
+ghost use Rattle.std.specs.Prelude.{◌≡◌, ◌+◌, ◌≤◌, IfSome};
 ghost use Rattle.adapt_bytes.specs.declared.limits.TheConstants.{MAX_CONNECTIONS};
 ghost use Rattle.service_pool.specs.declared.step.TheConstants.{LEDGER_PARTS};
 
@@ -27,7 +27,8 @@ use wire_kit::Gate;
 
 /// The most connections of a service before it says another number.
 fn connections(service: &Option<ServicePoint>) -> u64
-    ensures { (1 ≤ result) × (result ≤ MAX_CONNECTIONS) }
+    ensures within { (1 ≤ result) × (result ≤ MAX_CONNECTIONS) }
+    ensures said { IfSome service.now (λ service. result ≡ service.connections) }
 {
     match service {
         Some(service) => service.connections,
