@@ -15,3 +15,4 @@ pub mod PortLemmas
 pub mod Judging
 pub mod NetworkLists
 pub mod ParentLemmas
+pub mod Said

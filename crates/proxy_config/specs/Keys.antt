@@ -1,5 +1,5 @@
 -- The keys of a configuration: one row a key, in the order in which they are judged.
-use Rattle.std.specs.Prelude.{◌≡◌, ℕ, List, [], ◌∷◌, map, Bool, true, Option, Some, codes, option_map, string_bytes}
+use Rattle.std.specs.Prelude.{◌≡◌, ℕ, List, [], ◌∷◌, ◌++◌, map, Bool, true, Option, Some, codes, option_map, string_bytes}
 use Rattle.std.specs.declared.net.socket_addr.SocketAddrV4.{SocketAddrV4}
 use Rattle.toml.specs.Data.{Members, get_member}
 use Rattle.adapt_bytes.specs.declared.limits.TheConstants.{MAX_ALLOW_LIMIT, MAX_PREVIEW, MAX_WINDOW}
@@ -84,11 +84,17 @@ pub record Row : Type 0 where
 abbrev pub row : List ℕ → (kind : Kind) → (Config → ValueOf kind) → Row
 row name kind goes = record { name = name; kind = kind; goes = goes }
 
-abbrev pub table : List Row
-table =
+-- where users and the administrator connect
+abbrev pub port_rows : List Row
+port_rows =
     row (codes "listen") address (λ c. c.listen)
     ∷ row (codes "admin") admin_address (λ c. c.admin)
-    ∷ row (codes "shards") (number 1 MAX_SHARDS 2) (λ c. c.shards)
+    ∷ []
+
+-- how much there may be, and for how long without a moved byte
+abbrev pub size_rows : List Row
+size_rows =
+    row (codes "shards") (number 1 MAX_SHARDS 2) (λ c. c.shards)
     ∷ row (codes "capacity") (number 1 MAX_CAPACITY 16777216) (λ c. c.capacity)
     ∷ row (codes "rows") (number 1 MAX_ROWS 256) (λ c. c.rows)
     ∷ row (codes "journal") (number 1 65536 1024) (λ c. c.journal)
@@ -96,26 +102,49 @@ table =
     ∷ row (codes "preview_limit") (number 0 MAX_PREVIEW 1024) (λ c. c.preview_limit)
     ∷ row (codes "allow_limit") (number 0 MAX_ALLOW_LIMIT 65536) (λ c. c.allow_limit)
     ∷ row (codes "window") (number 1 MAX_WINDOW 8192) (λ c. c.window)
-    ∷ row (codes "retry") (truth true) (λ c. c.retry)
+    ∷ []
+
+-- what becomes of a message that meets others, and what is told of messages
+abbrev pub message_rows : List Row
+message_rows =
+    row (codes "retry") (truth true) (λ c. c.retry)
     ∷ row (codes "wait") (number 0 3600 0) (λ c. c.wait)
     ∷ row (codes "log") log_path (λ c. option_map string_bytes c.log)
     ∷ row (codes "log_query") (truth true) (λ c. c.log_query)
     ∷ row (codes "metrics") metrics_address (λ c. c.metrics)
-    ∷ row (codes "users") user_networks (λ c. option_map (λ networks. networks.items) c.users)
+    ∷ []
+
+-- who may use the proxy, and where requests may go
+abbrev pub entrance_rows : List Row
+entrance_rows =
+    row (codes "users") user_networks (λ c. option_map (λ networks. networks.items) c.users)
     ∷ row (codes "denied") denied_networks (λ c. c.denied.items)
     ∷ row (codes "user_connections") (number 0 4096 0) (λ c. c.user_connections)
-    ∷ row (codes "keep_origins") (number 0 1024 0) (λ c. c.keep_origins)
+    ∷ []
+
+-- how long connections lie idle, and how long they may take to open
+abbrev pub time_rows : List Row
+time_rows =
+    row (codes "keep_origins") (number 0 1024 0) (λ c. c.keep_origins)
     ∷ row (codes "origin_idle") (number 1 3600 30) (λ c. c.origin_idle)
     ∷ row (codes "dial") dial_time (λ c. c.dial)
     ∷ row (codes "service_idle") (number 0 3600 60) (λ c. c.service_idle)
     ∷ row (codes "options_ttl") (number 0 2147483648 0) (λ c. c.options_ttl)
     ∷ row (codes "head_deadline") (number 0 3600 0) (λ c. c.head_deadline)
     ∷ row (codes "connect_deadline") (number 0 3600 0) (λ c. c.connect_deadline)
-    ∷ row (codes "hosts") host_table (λ c. c.hosts)
+    ∷ []
+
+-- where requests and messages go
+abbrev pub place_rows : List Row
+place_rows =
+    row (codes "hosts") host_table (λ c. c.hosts)
     ∷ row (codes "reqmod") service (λ c. c.reqmod)
     ∷ row (codes "respmod") service (λ c. c.respmod)
     ∷ row (codes "parent") parent_proxy (λ c. c.parent)
     ∷ []
+
+abbrev pub table : List Row
+table = port_rows ++ (size_rows ++ (message_rows ++ (entrance_rows ++ (time_rows ++ place_rows))))
 
 -- the names of the keys
 abbrev pub document_keys : List (List ℕ)

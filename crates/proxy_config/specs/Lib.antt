@@ -15,3 +15,4 @@ pub mod Dial
 pub mod Networks
 pub mod Reach
 pub mod Parent
+pub mod Groups

@@ -5,22 +5,19 @@ ghost use Rattle.adapt_bytes.specs.declared.limits.TheConstants.{MAX_ALLOW_LIMIT
 ghost use Rattle.span_bank.specs.declared.limits.TheConstants.{MAX_CAPACITY, MAX_ROWS};
 ghost use Rattle.proxy_config.specs.declared.limits.TheConstants.{MAX_SHARDS};
 
-use crate::dial::{Dial, read_dial};
+use crate::dial::Dial;
+use crate::entrance::Entrance;
 use crate::fault::ConfigFault;
 use crate::host_table::Hosts;
-use crate::hosts::read_hosts;
-use crate::limits::MAX_SHARDS;
 use crate::log::read_log;
 use crate::network::Network;
-use crate::networks::{read_denied, read_users};
-use crate::parent::read_parent;
+use crate::places::Places;
 use crate::point::ServicePoint;
 use crate::ports::{read_admin, read_metrics};
-use crate::services::read_point;
+use crate::sizes::Sizes;
+use crate::times::Times;
 use crate::unknown::check_keys;
 use crate::values::{read_address, read_number, read_truth};
-use adapt_bytes::{MAX_ALLOW_LIMIT, MAX_PREVIEW, MAX_WINDOW};
-use span_bank::{MAX_CAPACITY, MAX_ROWS};
 use std::alloc::Global;
 use std::net::SocketAddrV4;
 use toml::Table;
@@ -142,45 +139,62 @@ impl Config {
     ghost use Rattle.proxy_config.specs.Config.{IsConfig, IsFirstFault};
     ghost use Rattle.proxy_config.specs.Fault.{Names};
 
-    /// Reads a configuration out of its document, a line a key: its name, the range of a number, and its default.
+    /// Reads a configuration out of its document, a line a key or a group of keys.
     pub(crate) fn read(alloc: Global, table: &Table) -> Result<Config, ConfigFault>
         ensures ok { IfOk result (IsConfig (table_view table.now)) }
         ensures err { IfErr result (Names (IsFirstFault (table_view table.now))) }
     {
         let listen = read_address(alloc, table, "listen")?;
         let admin = read_admin(alloc, table, listen)?;
-        let config = Config {
+        let sizes = Sizes::read(alloc, table)?;
+        let retry = read_truth(alloc, table, "retry", true)?;
+        let wait = read_number(alloc, table, "wait", 0, 3_600, 0)?;
+        let log = read_log(alloc, table)?;
+        let log_query = read_truth(alloc, table, "log_query", true)?;
+        let metrics = read_metrics(alloc, table, listen, admin)?;
+        let Entrance {
+            users,
+            denied,
+            user_connections,
+        } = Entrance::read(alloc, table)?;
+        let times = Times::read(alloc, table)?;
+        let Places {
+            hosts,
+            reqmod,
+            respmod,
+            parent,
+        } = Places::read(alloc, table)?;
+        check_keys(alloc, table)?;
+        Ok(Config {
             listen,
             admin,
-            shards: read_number(alloc, table, "shards", 1, MAX_SHARDS, 2)?,
-            capacity: read_number(alloc, table, "capacity", 1, MAX_CAPACITY, 16_777_216)?,
-            rows: read_number(alloc, table, "rows", 1, MAX_ROWS, 256)?,
-            journal: read_number(alloc, table, "journal", 1, 65_536, 1_024)?,
-            deadline: read_number(alloc, table, "deadline", 1, 3_600, 60)?,
-            preview_limit: read_number(alloc, table, "preview_limit", 0, MAX_PREVIEW, 1_024)?,
-            allow_limit: read_number(alloc, table, "allow_limit", 0, MAX_ALLOW_LIMIT, 65_536)?,
-            window: read_number(alloc, table, "window", 1, MAX_WINDOW, 8_192)?,
-            retry: read_truth(alloc, table, "retry", true)?,
-            wait: read_number(alloc, table, "wait", 0, 3_600, 0)?,
-            log: read_log(alloc, table)?,
-            log_query: read_truth(alloc, table, "log_query", true)?,
-            metrics: read_metrics(alloc, table, listen, admin)?,
-            users: read_users(alloc, table)?,
-            denied: read_denied(alloc, table)?,
-            user_connections: read_number(alloc, table, "user_connections", 0, 4_096, 0)?,
-            keep_origins: read_number(alloc, table, "keep_origins", 0, 1_024, 0)?,
-            origin_idle: read_number(alloc, table, "origin_idle", 1, 3_600, 30)?,
-            dial: read_dial(alloc, table)?,
-            service_idle: read_number(alloc, table, "service_idle", 0, 3_600, 60)?,
-            options_ttl: read_number(alloc, table, "options_ttl", 0, 2_147_483_648, 0)?,
-            head_deadline: read_number(alloc, table, "head_deadline", 0, 3_600, 0)?,
-            connect_deadline: read_number(alloc, table, "connect_deadline", 0, 3_600, 0)?,
-            hosts: read_hosts(alloc, table)?,
-            reqmod: read_point(alloc, table, "reqmod")?,
-            respmod: read_point(alloc, table, "respmod")?,
-            parent: read_parent(alloc, table)?,
-        };
-        check_keys(alloc, table)?;
-        Ok(config)
+            shards: sizes.shards,
+            capacity: sizes.capacity,
+            rows: sizes.rows,
+            journal: sizes.journal,
+            deadline: sizes.deadline,
+            preview_limit: sizes.preview_limit,
+            allow_limit: sizes.allow_limit,
+            window: sizes.window,
+            retry,
+            wait,
+            log,
+            log_query,
+            metrics,
+            users,
+            denied,
+            user_connections,
+            keep_origins: times.keep_origins,
+            origin_idle: times.origin_idle,
+            dial: times.dial,
+            service_idle: times.service_idle,
+            options_ttl: times.options_ttl,
+            head_deadline: times.head_deadline,
+            connect_deadline: times.connect_deadline,
+            hosts,
+            reqmod,
+            respmod,
+            parent,
+        })
     }
 }

@@ -8,6 +8,7 @@
 
 mod config;
 mod dial;
+mod entrance;
 mod fault;
 mod host;
 mod host_table;
@@ -18,11 +19,14 @@ mod membership;
 mod network;
 mod networks;
 mod parent;
+mod places;
 mod point;
 mod ports;
 mod reach;
 mod reading;
 mod services;
+mod sizes;
+mod times;
 mod unknown;
 mod values;
 

@@ -1,0 +1,43 @@
+//! The keys that say who may use the proxy, and where requests may go.
+
+ghost use Rattle.proxy_config.specs.Values.{IsWithin};
+
+use crate::fault::ConfigFault;
+use crate::network::Network;
+use crate::networks::{read_denied, read_users};
+use crate::values::read_number;
+use std::alloc::Global;
+use toml::Table;
+
+/// Who may use the proxy, and where requests may go, as [`Config`](crate::Config) has it.
+#[derive(Drop)]
+pub(crate) struct Entrance {
+    pub users: Option<Vec<Network>>,
+    pub denied: Vec<Network>,
+    pub user_connections: u64,
+    ghost in_range: { IsWithin 0 4096 user_connections },
+}
+
+impl Entrance {
+    ghost use Rattle.std.specs.Prelude.{codes, IfOk, IfErr};
+    ghost use Rattle.toml.specs.View.{table_view};
+    ghost use Rattle.proxy_config.specs.Config.{IsFirstFault};
+    ghost use Rattle.proxy_config.specs.Fault.{Names};
+    ghost use Rattle.proxy_config.specs.Groups.{AreSaidOf, HasEntrance};
+    ghost use Rattle.proxy_config.specs.Keys.{entrance_rows};
+    ghost use Rattle.proxy_config.specs.Turns.{IsPast};
+
+    /// Reads it, a line a key.
+    pub(crate) fn read(alloc: Global, table: &Table) -> Result<Entrance, ConfigFault>
+        requires next { IsPast (codes "metrics") (table_view table.now) }
+        ensures ok { IfOk result (AreSaidOf HasEntrance entrance_rows (table_view table.now)) }
+        ensures past { IfOk result (λ _. IsPast (codes "user_connections") (table_view table.now)) }
+        ensures err { IfErr result (Names (IsFirstFault (table_view table.now))) }
+    {
+        Ok(Entrance {
+            users: read_users(alloc, table)?,
+            denied: read_denied(alloc, table)?,
+            user_connections: read_number(alloc, table, "user_connections", 0, 4_096, 0)?,
+        })
+    }
+}
