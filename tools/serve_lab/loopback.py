@@ -316,7 +316,7 @@ class Icap(Server):
         self.reply = reply or self.no_modification
         self.extra = b"".join(line + b"\r\n" for line in options)
         self.answer_options = answer_options
-        self.requests = []
+        self.requests, self.questions = [], []
         self.release = threading.Event()
         self.asked = 0
         super().__init__(self.session)
@@ -327,6 +327,7 @@ class Icap(Server):
             head = reader.head()
             if head.startswith(b"OPTIONS"):
                 self.asked += 1
+                self.questions.append(head)
                 if not self.answer_options:
                     self.release.wait(PATIENCE)
                     return

@@ -40,6 +40,7 @@ struct Echo {
 fn take_in(echo: &mut Echo, registry: &Registry, user: Handed) -> Result<usize, AllocError> {
     let Handed {
         stream,
+        from: _,
         number: _,
         permit,
         loops: _,

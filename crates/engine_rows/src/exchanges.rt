@@ -174,7 +174,8 @@ fn offer(alloc: Global, plan: &Plan, scene: Scene<'_>) -> Result<Option<ServiceS
     if req.len() > 65_536 || res.len() > 65_536 {
         return Ok(None);
     }
-    Ok(Some(ServiceSide::new(alloc, plan, b"127.0.0.1", 1344, path, req, res)?))
+    let from = scene.address(b"from");
+    Ok(Some(ServiceSide::new(alloc, plan, from, b"127.0.0.1", 1344, path, req, res)?))
 }
 
 /// The row's side with its wires; `None` where a head is too long.

@@ -2,6 +2,8 @@
 use Rattle.std.specs.Prelude.{◌≡◌, ◌⊎◌, List, Option, Some, None, ⊤}
 use Rattle.std.specs.declared.net.socket_addr.SocketAddr.{SocketAddr}
 use Rattle.std.specs.declared.net.socket_addr.SocketAddr.TheVariants.{V4, V6}
+use Rattle.std.specs.declared.net.ipv4_addr.Ipv4Addr.{Ipv4Addr}
+use Rattle.std.specs.Net.Addr.{IsUnspecifiedV4}
 use Rattle.std.specs.Net.Socket.{v4_ip}
 use Rattle.loop_parts.specs.declared.listening.Accepted.{Accepted}
 use Rattle.loop_parts.specs.declared.listening.Accepted.TheVariants.{One, Gone, None as NoOne, Rest}
@@ -14,6 +16,11 @@ abbrev pub MayConnect : Option (List Network) → SocketAddr → Type 0
 MayConnect networks (V4 from) = MayUse networks (v4_ip from)
 MayConnect None (V6 from) = ⊤
 MayConnect (Some networks) (V6 from) = ⊥
+
+-- the IPv4 address that a connection comes from: the unspecified one where it has none
+abbrev pub IsIpOf : SocketAddr → Ipv4Addr → Type 0
+IsIpOf (V4 from) ip = ip ≡ v4_ip from
+IsIpOf (V6 from) ip = IsUnspecifiedV4 ip
 
 -- a connection is handed on if a user may connect from where it comes, and is gone if none may; all else stays
 abbrev pub IsJudged : Option (List Network) → (was is : Accepted) → Type 0

@@ -1,7 +1,7 @@
 //! Who may connect as a user, by where the connection comes from.
 
 ghost use Rattle.std.specs.Prelude.{◌≡◌, ◌↔◌, IsTrue, option_map};
-ghost use Rattle.event_loop.specs.Admission.{IsJudged, MayConnect};
+ghost use Rattle.event_loop.specs.Admission.{IsIpOf, IsJudged, MayConnect};
 
 use loop_parts::{Accepted, Room};
 use proxy_config::{Network, may_use};
@@ -18,7 +18,9 @@ pub struct Admission {
 }
 
 /// The IPv4 address that a connection comes from. A listener at an IPv4 address has no others.
-pub(crate) fn ip_of(from: SocketAddr) -> Ipv4Addr {
+pub(crate) fn ip_of(from: SocketAddr) -> Ipv4Addr
+    ensures { IsIpOf from result }
+{
     match from {
         SocketAddr::V4(from) => *from.ip(),
         SocketAddr::V6(_) => Ipv4Addr::UNSPECIFIED,

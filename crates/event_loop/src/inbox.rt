@@ -7,13 +7,16 @@ use mio::net::TcpStream;
 use mio::{Registry, Waker};
 use std::alloc::{AllocError, Global};
 use std::mem;
+use std::net::Ipv4Addr;
 use std::sync::atomic::{AtomicBool, Ordering};
 use std::sync::{Mutex, Wait};
 
-/// A user's connection, with its number in the order of acceptance, from 1, and its permit among the users.
+/// A user's connection, with the address that it comes from, its number in the order of acceptance, from 1, and its permit among the
+/// users.
 #[derive(Drop)]
 pub struct Handed {
     pub stream: TcpStream,
+    pub from: Ipv4Addr,
     pub number: u64,
     pub permit: UserPermit,
     /// How many loops take users, and how often one of them was asked that has no seat for this one.

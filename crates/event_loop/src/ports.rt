@@ -228,11 +228,13 @@ impl Ports {
             return Turn::Waits;
         };
         let mut permit = permit;
-        permit.have(self.addresses.enter(ip_of(from)));
+        let from = ip_of(from);
+        permit.have(self.addresses.enter(from));
         self.accepted = self.accepted.saturating_add(1);
         let number = self.accepted;
         let user = Handed {
             stream,
+            from,
             number,
             permit,
             loops: self.loops,

@@ -1,22 +1,25 @@
 //! The text of a request before its chunks.
 
 ghost use Rattle.std.specs.Prelude.{◌≡◌, ◌+◌, ◌<◌, ◌++◌, length, OnOk, IfOk};
+ghost use Rattle.std.specs.Net.Addr.{ipv4_octets};
 ghost use Rattle.adapt_bytes.specs.declared.limits.TheConstants.{COUNT_LIMIT};
 ghost use Rattle.adapt_bytes.specs.Numeral.{numeral};
-ghost use Rattle.icap_client.specs.RequestHead.{joined, start_pieces, host_pieces, allow_pieces, preview_pieces, body_name, list_pieces, head_pieces, request_head};
+ghost use Rattle.icap_client.specs.RequestHead.{joined, start_pieces, host_pieces, address_text, user_pieces, allow_pieces, preview_pieces, body_name, list_pieces, head_pieces, request_head};
 ghost use Rattle.icap_client.specs.RequestText.{is_null};
 ghost use Rattle.icap_client.specs.Asking.{options_pieces, options_request};
 
 use adapt_bytes::{Small, put_decimal};
 use arrayvec::ArrayVec;
 use std::alloc::{AllocError, Global};
+use std::net::Ipv4Addr;
 use trace_core::{Kind, Plan, Point};
 
 /// The ICAP head that offers a message of this plan to the service there, followed by the encapsulated heads: at REQMOD
-/// the request's head alone.
+/// the request's head alone. It says the address of the user, where there is one.
 pub(crate) fn request_head(
     alloc: Global,
     plan: &Plan,
+    from: Option<Ipv4Addr>,
     host: &[u8],
     port: u16,
     path: &[u8],
@@ -24,11 +27,12 @@ pub(crate) fn request_head(
     res: &[u8],
 ) -> Result<Vec<u8>, AllocError>
     requires { length req.now + length res.now < COUNT_LIMIT }
-    ensures { IfOk result (λ text. text.items ≡ request_head plan.now host.now port path.now req.now res.now) }
+    ensures { IfOk result (λ text. text.items ≡ request_head plan.now from host.now port path.now req.now res.now) }
 {
     let mut out = Vec::new(alloc);
     put_start(&mut out, plan.point, host, port, path)?;
     put_host(&mut out, host, port)?;
+    put_user(&mut out, from)?;
     put_allow(&mut out, plan.allow)?;
     put_preview(&mut out, plan.kind)?;
     put_list(
@@ -112,6 +116,31 @@ fn put_host(out: &mut Vec<u8>, host: &[u8], port: u16) -> Result<(), AllocError>
     put(out, host)?;
     put(out, b":")?;
     put_number(out, u64::from(port))?;
+    put(out, b"\r\n")
+}
+
+/// Adds an address, as `192.0.2.1`.
+fn put_address(out: &mut Vec<u8>, address: Ipv4Addr) -> Result<(), AllocError>
+    ensures { OnOk result (out.new.items ≡ out.old.items ++ address_text (ipv4_octets address)) }
+{
+    let [first, second, third, fourth] = address.octets();
+    put_number(out, u64::from(first))?;
+    put(out, b".")?;
+    put_number(out, u64::from(second))?;
+    put(out, b".")?;
+    put_number(out, u64::from(third))?;
+    put(out, b".")?;
+    put_number(out, u64::from(fourth))
+}
+
+fn put_user(out: &mut Vec<u8>, from: Option<Ipv4Addr>) -> Result<(), AllocError>
+    ensures { OnOk result (out.new.items ≡ joined (user_pieces from) out.old.items) }
+{
+    let Some(address) = from else {
+        return Ok(());
+    };
+    put(out, b"X-Client-IP: ")?;
+    put_address(out, address)?;
     put(out, b"\r\n")
 }
 

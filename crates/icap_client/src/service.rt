@@ -27,6 +27,7 @@ use encapsulated::Layout;
 use span_tape::SpanTape;
 use std::alloc::{AllocError, Global};
 use std::marker::Model;
+use std::net::Ipv4Addr;
 use trace_core::{Event, Plan, Point, State};
 use wire_kit::{Put, Wire};
 
@@ -62,7 +63,7 @@ fn write_once<W: Wire>(
 /// let plan = Plan::new(Kind::Whole, true, false, Some(0), Point::Reqmod)?;
 /// let state = State::begin(plan);
 /// let head = b"GET / HTTP/1.1\r\nHost: h\r\n\r\n";
-/// let mut side = ServiceSide::new(alloc, &plan, b"s", 1344, b"/scan", head, &[])?;
+/// let mut side = ServiceSide::new(alloc, &plan, None, b"s", 1344, b"/scan", head, &[])?;
 /// let writes = vec![in alloc; WriteAnswer::Took(6)]?;
 /// let mut wire = MemoryWire::new(alloc, Vec::new(alloc), Vec::new(alloc), writes)?;
 /// let turn = side.write_turn(&state, &SpanTape::new(), &mut wire)?;
@@ -106,11 +107,12 @@ impl ServiceSide {
         }
     }
 
-    /// A request that offers a message of this plan to the service there. `req` and `res` are the encapsulated heads; at
-    /// REQMOD `res` has no place.
+    /// A request that offers a message of this plan to the service there, which is told the user's address `from`, where there is
+    /// one. `req` and `res` are the encapsulated heads; at REQMOD `res` has no place.
     pub fn new(
         alloc: Global,
         plan: &Plan,
+        from: Option<Ipv4Addr>,
         host: &[u8],
         port: u16,
         path: &[u8],
@@ -118,14 +120,14 @@ impl ServiceSide {
         res: &[u8],
     ) -> Result<ServiceSide, AllocError>
         requires { length req.now + length res.now < COUNT_LIMIT }
-        ensures writer { IfOk result (λ side. side.writer ≡ fresh (request_head plan.now host.now port path.now req.now res.now)) }
+        ensures writer { IfOk result (λ side. side.writer ≡ fresh (request_head plan.now from host.now port path.now req.now res.now)) }
         ensures reader { IfOk result (λ side. side.replies.reader ≡ first_reader plan.now.point) }
         ensures raw { IfOk result (λ side. side.replies.raw ≡ []) }
         ensures fault { IfOk result (λ side. side.replies.fault ≡ None) }
         ensures room { IfOk result (λ side. side.replies.room ≡ 0) }
         ensures marks { IfOk result (λ side. (side.last_stop ≡ false) × (side.answered ≡ false)) }
     {
-        let head = request_head(alloc, plan, host, port, path, req, res)?;
+        let head = request_head(alloc, plan, from, host, port, path, req, res)?;
         Ok(ServiceSide::of_head(alloc, plan.point, head))
     }
 

@@ -46,7 +46,16 @@ const PATH: &[u8] = b"/respmod/upper";
 
 /// The service's side, with a copy of the heads.
 pub fn service_side(alloc: Global) -> Result<ServiceSide, AllocError> {
-    ServiceSide::new(alloc, &the_plan(), HOST, PORT, PATH, REQUEST, RESPONSE)
+    ServiceSide::new(
+        alloc,
+        &the_plan(),
+        None,
+        HOST,
+        PORT,
+        PATH,
+        REQUEST,
+        RESPONSE,
+    )
 }
 
 /// What a transaction of it is of.

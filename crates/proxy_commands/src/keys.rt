@@ -4,7 +4,7 @@
 type Entry = (&'static str, &'static str);
 
 /// The keys of the document.
-const OF_THE_DOCUMENT: [Entry; 29] = [
+const OF_THE_DOCUMENT: [Entry; 30] = [
     (
         "listen",
         "an IPv4 address and a port, as \"127.0.0.1:3128\"",
@@ -44,6 +44,7 @@ const OF_THE_DOCUMENT: [Entry; 29] = [
         "user_connections",
         "0 to 4096 connections (default 0: no limit)",
     ),
+    ("client_ip", "true or false (default false)"),
     ("keep_origins", "0 to 1024 connections (default 0: none)"),
     ("origin_idle", "1 to 3600 seconds (default 30)"),
     ("dial", "\"first\" or \"late\" (default \"first\")"),

@@ -1,5 +1,5 @@
 -- The keys of a configuration: one row a key, in the order in which they are judged.
-use Rattle.std.specs.Prelude.{◌≡◌, ℕ, List, [], ◌∷◌, ◌++◌, map, Bool, true, Option, Some, codes, option_map, string_bytes}
+use Rattle.std.specs.Prelude.{◌≡◌, ℕ, List, [], ◌∷◌, ◌++◌, map, Bool, true, false, Option, Some, codes, option_map, string_bytes}
 use Rattle.std.specs.declared.net.socket_addr.SocketAddrV4.{SocketAddrV4}
 use Rattle.toml.specs.Data.{Members, get_member}
 use Rattle.adapt_bytes.specs.declared.limits.TheConstants.{MAX_ALLOW_LIMIT, MAX_PREVIEW, MAX_WINDOW}
@@ -120,6 +120,7 @@ entrance_rows =
     row (codes "users") user_networks (λ c. option_map (λ networks. networks.items) c.users)
     ∷ row (codes "denied") denied_networks (λ c. c.denied.items)
     ∷ row (codes "user_connections") (number 0 4096 0) (λ c. c.user_connections)
+    ∷ row (codes "client_ip") (truth false) (λ c. c.client_ip)
     ∷ []
 
 -- how long connections lie idle, and how long they may take to open

@@ -70,6 +70,8 @@ pub struct Config {
     pub denied: Vec<Network>,
     /// The most connections of one address of users at once: 0 to 4,096; 0 where there is no such limit.
     pub user_connections: u64,
+    /// Whether each message that is offered to a service says its user's address.
+    pub client_ip: bool,
     /// The most idle connections to origins that each thread keeps: 0 to 1,024; 0 where each is closed after its answer.
     pub keep_origins: u64,
     /// Seconds after which an idle connection to an origin is closed: 1 to 3,600.
@@ -101,7 +103,7 @@ pub struct Config {
 }
 
 /// The names of the keys.
-pub(crate) const KEYS: [&str; 29] = [
+pub(crate) const KEYS: [&str; 30] = [
     "listen",
     "admin",
     "shards",
@@ -120,6 +122,7 @@ pub(crate) const KEYS: [&str; 29] = [
     "users",
     "denied",
     "user_connections",
+    "client_ip",
     "keep_origins",
     "origin_idle",
     "dial",
@@ -156,6 +159,7 @@ impl Config {
             users,
             denied,
             user_connections,
+            client_ip,
         } = Entrance::read(alloc, table)?;
         let times = Times::read(alloc, table)?;
         let Places {
@@ -184,6 +188,7 @@ impl Config {
             users,
             denied,
             user_connections,
+            client_ip,
             keep_origins: times.keep_origins,
             origin_idle: times.origin_idle,
             dial: times.dial,

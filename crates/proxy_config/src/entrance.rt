@@ -5,7 +5,7 @@ ghost use Rattle.proxy_config.specs.Values.{IsWithin};
 use crate::fault::ConfigFault;
 use crate::network::Network;
 use crate::networks::{read_denied, read_users};
-use crate::values::read_number;
+use crate::values::{read_number, read_truth};
 use std::alloc::Global;
 use toml::Table;
 
@@ -15,6 +15,7 @@ pub(crate) struct Entrance {
     pub users: Option<Vec<Network>>,
     pub denied: Vec<Network>,
     pub user_connections: u64,
+    pub client_ip: bool,
     ghost in_range: { IsWithin 0 4096 user_connections },
 }
 
@@ -31,13 +32,14 @@ impl Entrance {
     pub(crate) fn read(alloc: Global, table: &Table) -> Result<Entrance, ConfigFault>
         requires next { IsPast (codes "metrics") (table_view table.now) }
         ensures ok { IfOk result (AreSaidOf HasEntrance entrance_rows (table_view table.now)) }
-        ensures past { IfOk result (λ _. IsPast (codes "user_connections") (table_view table.now)) }
+        ensures past { IfOk result (λ _. IsPast (codes "client_ip") (table_view table.now)) }
         ensures err { IfErr result (Names (IsFirstFault (table_view table.now))) }
     {
         Ok(Entrance {
             users: read_users(alloc, table)?,
             denied: read_denied(alloc, table)?,
             user_connections: read_number(alloc, table, "user_connections", 0, 4_096, 0)?,
+            client_ip: read_truth(alloc, table, "client_ip", false)?,
         })
     }
 }

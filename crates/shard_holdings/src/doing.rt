@@ -62,7 +62,7 @@ impl<P, O: Outside<P>> Effects<P> for Holdings<O> {
     ghost joins = { λ out at point joined. O.joins out at point joined };
 
     ghost plans = { λ old new out at asked result. IfSome old.message (λ message.
-        PlansBy (O.config_is out) (O.limits_are out) (O.book_is out) (O.now_is out at) asked message.value old.planned new.planned result) };
+        PlansBy (O.config_is out) (O.limits_are out) (O.book_is out) (O.now_is out at) (O.user_is_at out at) asked message.value old.planned new.planned result) };
 
     ghost learns = { λ old new at point answer. IsLearned (O.config_is old) (O.now_is old at) (O.keeps old new at point) point answer };
 

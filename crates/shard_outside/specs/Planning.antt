@@ -1,6 +1,7 @@
 -- How a message is planned, by what its point's service said of its options (RFC 3507, sections 4.5, 4.6 and 4.10).
-use Rattle.std.specs.Prelude.{◌≡◌, ℕ, Bool, true, false, List, [], ⊤, Option, Some, None, Result, Ok, Err, Box, is_some}
+use Rattle.std.specs.Prelude.{◌≡◌, ℕ, Bool, true, false, List, [], ⊤, Option, Some, None, Result, Ok, Err, Box, is_some, if◌then◌else◌}
 use Rattle.std.specs.declared.alloc.Global.{Global}
+use Rattle.std.specs.declared.net.ipv4_addr.Ipv4Addr.{Ipv4Addr}
 use Rattle.trace_core.specs.declared.history.Point.{Point}
 use Rattle.trace_core.specs.declared.history.Point.TheVariants.{Reqmod, Respmod}
 use Rattle.http_side.specs.Framings.{request_framing, response_framing}
@@ -39,9 +40,11 @@ pub record Grounds : Type 0 where
   pub now : ℕ
   -- whether the service was asked for this very message
   pub asked : Bool
+  -- where its user's connection comes from, as far as that is known
+  pub user : Option Ipv4Addr
 
-abbrev pub grounds : Config → Limits → PointBook → ℕ → Bool → Grounds
-grounds a b c d e = record { config = a; limits = b; book = c; now = d; asked = e }
+abbrev pub grounds : Config → Limits → PointBook → ℕ → Bool → Option Ipv4Addr → Grounds
+grounds a b c d e f = record { config = a; limits = b; book = c; now = d; asked = e; user = f }
 
 -- what was read of a message: the head of the user's request, and of a response to it
 pub data Heads : Type 0 where
@@ -62,21 +65,25 @@ abbrev pub service_of : Config → Point → Option ServicePoint
 service_of config Reqmod = config.reqmod
 service_of config Respmod = config.respmod
 
--- a request is offered by what this service says
-pub record IsRequestOffer (service : Option ServicePoint) (said : Option Options) (limits : Limits) (user : RequestParts) (offer : Offered) : Type 0 where
-  pub plan : IsPlanned (options_for service said) limits Reqmod (bare_path user.target) (known_length (request_framing user)) offer.plan
-  pub text : AsksFor service (offered_request user) [] offer
+-- the address that the services are told of the user at this one: none, unless they are to be told it
+abbrev pub told_of : Config → Option Ipv4Addr → Option Ipv4Addr
+told_of config user = if config.client_ip then user else None
 
--- a response is offered by what this service says
-pub record IsResponseOffer (service : Option ServicePoint) (said : Option Options) (limits : Limits) (user : RequestParts) (answer : ResponseParts) (offer : Offered) : Type 0 where
+-- a request is offered by what this service says; it is told the address `from`, where there is one
+pub record IsRequestOffer (service : Option ServicePoint) (said : Option Options) (limits : Limits) (from : Option Ipv4Addr) (user : RequestParts) (offer : Offered) : Type 0 where
+  pub plan : IsPlanned (options_for service said) limits Reqmod (bare_path user.target) (known_length (request_framing user)) offer.plan
+  pub text : AsksFor service from (offered_request user) [] offer
+
+-- so is a response
+pub record IsResponseOffer (service : Option ServicePoint) (said : Option Options) (limits : Limits) (from : Option Ipv4Addr) (user : RequestParts) (answer : ResponseParts) (offer : Offered) : Type 0 where
   pub plan : IsPlanned (options_for service said) limits Respmod (bare_path user.target) (known_length (response_framing answer)) offer.plan
-  pub text : AsksFor service (offered_request user) (offered_response answer) offer
+  pub text : AsksFor service from (offered_request user) (offered_response answer) offer
 
 -- a message is offered by what this service says
-abbrev pub IsOffer : Option ServicePoint → Option Options → Limits → Heads → Offered → Type 0
-IsOffer service said limits (request user) offer = IsRequestOffer service said limits user offer
-IsOffer service said limits (response user answer) offer = IsResponseOffer service said limits user answer offer
-IsOffer service said limits missing offer = ⊥
+abbrev pub IsOffer : Option ServicePoint → Option Options → Limits → (from : Option Ipv4Addr) → Heads → Offered → Type 0
+IsOffer service said limits from (request user) offer = IsRequestOffer service said limits from user offer
+IsOffer service said limits from (response user answer) offer = IsResponseOffer service said limits from user answer offer
+IsOffer service said limits from missing offer = ⊥
 
 -- where a message goes: a request straight to its origin, or to the parent; a response to its user
 abbrev pub GoesTo : Config → Heads → Option Route → Type 0
@@ -110,13 +117,13 @@ abbrev pub IsAskedFirst : Grounds → Arrival → Type 0
 IsAskedFirst by m = IsStale (service_of by.config (point_of m.user)) by.book by.now by.asked
 
 -- a message by what its point's service said: where there is a service, it did say something
-pub record IsOfferBy (service : Option ServicePoint) (said : Option Options) (limits : Limits) (heads : Heads) (offer : Offered) : Type 0 where
-  pub offer_is : IsOffer service said limits heads offer
+pub record IsOfferBy (service : Option ServicePoint) (said : Option Options) (limits : Limits) (from : Option Ipv4Addr) (heads : Heads) (offer : Offered) : Type 0 where
+  pub offer_is : IsOffer service said limits from heads offer
   pub heard : is_some service ≡ true → is_some said ≡ true
 
 -- the plan of a message
 pub record IsPlan (by : Grounds) (m : Arrival) (planned : Planned) : Type 0 where
-  pub offer : IsOfferBy (service_of by.config (point_of m.user)) by.book.said by.limits (heads_of m) planned.offer
+  pub offer : IsOfferBy (service_of by.config (point_of m.user)) by.book.said by.limits (told_of by.config by.user) (heads_of m) planned.offer
   pub goes : GoesTo by.config (heads_of m) planned.route
   pub current : IsAskedFirst by m → ⊥
 
@@ -150,8 +157,10 @@ abbrev pub Plans : Grounds → Arrival → (old new : Option (Box Planned Global
 Plans by m old new (Ok marks) = IsKept by m new marks
 Plans by m old new (Err unplanned) = (new ≡ old) × HasNoPlan by m unplanned
 
--- A message is planned by what its surroundings are said to have: their configuration, limits, books and moment.
+-- A message is planned by what its surroundings are said to have: their configuration, limits, books and moment, and the
+-- user's address.
 abbrev pub PlansBy : (config_is : Config → Type 0) → (limits_is : Limits → Type 0) → (book_is : Point → PointBook → Type 0) → (now_is : ℕ → Type 0)
-    → (asked : Bool) → Arrival → (old new : Option (Box Planned Global)) → Result Marks Unplanned → Type 0
-PlansBy config_is limits_is book_is now_is asked m old new result = (config : Config) × config_is config × (limits : Limits) × limits_is limits
-    × (book : PointBook) × book_is (point_of m.user) book × (now : ℕ) × now_is now × Plans (grounds config limits book now asked) m old new result
+    → (user_is : Option Ipv4Addr → Type 0) → (asked : Bool) → Arrival → (old new : Option (Box Planned Global)) → Result Marks Unplanned → Type 0
+PlansBy config_is limits_is book_is now_is user_is asked m old new result = (config : Config) × config_is config × (limits : Limits) × limits_is limits
+    × (book : PointBook) × book_is (point_of m.user) book × (now : ℕ) × now_is now
+    × (user : Option Ipv4Addr) × user_is user × Plans (grounds config limits book now asked user) m old new result

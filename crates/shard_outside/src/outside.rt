@@ -8,6 +8,7 @@ ghost use Rattle.service_lines.specs.declared.connector.LendFault.{LendFault as 
 ghost use Rattle.service_lines.specs.declared.book.PointBook.{PointBook as AnyBook};
 ghost use Rattle.shard_effects.specs.Reasons.{lies_elsewhere};
 ghost use Rattle.exchange_core.specs.declared.dialing.Dialing.TheVariants.{KeptFirst};
+ghost use Rattle.std.specs.declared.net.ipv4_addr.Ipv4Addr.{Ipv4Addr as AnyIp};
 ghost use Rattle.std.specs.declared.net.socket_addr.SocketAddrV4.{SocketAddrV4 as AnyAddress};
 ghost use Rattle.trace_core.specs.declared.history.Point.{Point as AnyPoint};
 ghost use Rattle.shard_outside.specs.Taking.{taken_of};
@@ -26,7 +27,7 @@ use service_lines::{LendFault, PointBook};
 use shard_effects::{Lingered, Reason};
 use span_bank::{Bank, Ledgers};
 use std::alloc::{AllocError, Global};
-use std::net::SocketAddrV4;
+use std::net::{Ipv4Addr, SocketAddrV4};
 use trace_core::{Point, Seen};
 use wire_kit::Wire;
 
@@ -141,6 +142,9 @@ pub trait Services<P>: Kinds {
     // what messages are planned by, where the surroundings say what that is
     ghost book_is: { Self → AnyPoint → AnyBook → Type 0 } = { λ _ _ _. ⊤ };
 
+    // the user's connection comes from this address, or nobody knows from where
+    ghost user_is_at: { Self → P → AnyOption AnyIp → Type 0 } = { λ _ _ _. ⊤ };
+
     // what the service of a point said is kept: before and after that
     ghost keeps: { Self → Self → P → AnyPoint → AnyOptions → Type 0 } = { λ _ _ _ _ _. ⊤ };
 
@@ -150,6 +154,10 @@ pub trait Services<P>: Kinds {
     /// What the service of a point said last.
     fn book(&self, point: Point) -> &PointBook
         ensures { book_is self.now point result.now };
+
+    /// The address that the user's connection comes from. `None` where nobody knows it.
+    fn user_address(&self, at: &P) -> Option<Ipv4Addr>
+        ensures { user_is_at self.now at.now result };
 
     /// Keeps what a service said, with the most connections that it allows. `Err` where no memory was found: then nothing has changed.
     fn keep(&mut self, at: &P, point: Point, said: Record) -> Result<(), AllocError>

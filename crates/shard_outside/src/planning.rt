@@ -5,7 +5,7 @@ ghost use Rattle.exchange_report.specs.declared.reason.Reason.TheVariants.{NoMem
 ghost use Rattle.shard_effects.specs.declared.answers.Unplanned.TheVariants.{Refused};
 ghost use Rattle.shard_effects.specs.Reasons.{lies_elsewhere, unplanned_reason};
 ghost use Rattle.proxy_rules.specs.Routes.{IsRoute};
-ghost use Rattle.shard_outside.specs.Planning.{missing, grounds, heads_of, service_of, waits, repeats, GoesTo, GoesNowhere, IsWithoutRoute, IsOfferBy, IsStale, IsPlan, HasNoPlan, PlansBy};
+ghost use Rattle.shard_outside.specs.Planning.{missing, grounds, heads_of, service_of, told_of, waits, repeats, GoesTo, GoesNowhere, IsWithoutRoute, IsOfferBy, IsStale, IsPlan, HasNoPlan, PlansBy};
 
 use crate::outside::Outside;
 use crate::slots::lay;
@@ -18,6 +18,7 @@ use service_lines::PointBook;
 use shard_effects::{Marks, Reason, Unplanned};
 use std::alloc::{AllocError, Global};
 use std::boxed::Box;
+use std::net::Ipv4Addr;
 use trace_core::Point;
 
 /// What a message was planned to be.
@@ -74,15 +75,23 @@ fn route_for(config: &Config, message: &Incoming) -> Result<Option<Route>, Reaso
     }
 }
 
-/// The offer of a message, by its service's record.
+/// The address that the services are told of the user at this one.
+fn told_of(config: &Config, user: Option<Ipv4Addr>) -> Option<Ipv4Addr>
+    ensures { result ≡ told_of config.now user }
+{
+    if config.client_ip { user } else { None }
+}
+
+/// The offer of a message, by its service's record. The service is told the user's address `from`, where there is one.
 fn offer_of(
     alloc: Global,
     service: Option<&ServicePoint>,
     said: Option<&Record>,
     limits: &Limits,
+    from: Option<Ipv4Addr>,
     message: &Incoming,
 ) -> Result<Offer, Reason>
-    ensures offer { IfOk result (IsOfferBy (option_copied service.entry) (option_copied said.entry) limits.now (heads_of message.now)) }
+    ensures offer { IfOk result (IsOfferBy (option_copied service.entry) (option_copied said.entry) limits.now from (heads_of message.now)) }
     ensures refused { IfErr result (λ reason. (reason ≡ Reason.NoMemory) ⊎ (heads_of message.now ≡ missing)) }
     ensures suits { IfErr result (λ reason. lies_elsewhere reason ≡ true) }
 {
@@ -93,9 +102,9 @@ fn offer_of(
         return Err(Reason::NoMemory);
     }
     let offer = match (message.point(), message.response_head()) {
-        (Point::Reqmod, _) => Offer::of_request(alloc, service, said, limits, user),
+        (Point::Reqmod, _) => Offer::of_request(alloc, service, said, limits, from, user),
         (Point::Respmod, Some(response)) => {
-            Offer::of_response(alloc, service, said, limits, user, response)
+            Offer::of_response(alloc, service, said, limits, from, user, response)
         }
         (Point::Respmod, None) => return Err(Reason::OriginRefused),
     };
@@ -123,7 +132,7 @@ fn is_stale(service: Option<&ServicePoint>, book: &PointBook, now: u64, asked: b
     service.is_some() && !asked && !book.is_fresh(now)
 }
 
-/// Plans a message by what its service said.
+/// Plans a message of the user at this address by what its service said.
 fn make_plan(
     alloc: Global,
     config: &Config,
@@ -131,10 +140,11 @@ fn make_plan(
     book: &PointBook,
     now: u64,
     asked: bool,
+    user: Option<Ipv4Addr>,
     message: &Incoming,
 ) -> Result<Box<Planned>, Unplanned>
-    ensures planned { IfOk result (λ planned. IsPlan (grounds config.now limits.now book.now now asked) message.now planned.value) }
-    ensures unplanned { IfErr result (HasNoPlan (grounds config.now limits.now book.now now asked) message.now) }
+    ensures planned { IfOk result (λ planned. IsPlan (grounds config.now limits.now book.now now asked user) message.now planned.value) }
+    ensures unplanned { IfErr result (HasNoPlan (grounds config.now limits.now book.now now asked user) message.now) }
     ensures suits { IfErr result (λ unplanned. lies_elsewhere (unplanned_reason unplanned) ≡ true) }
 {
     let route = match route_for(config, message) {
@@ -145,7 +155,8 @@ fn make_plan(
     if is_stale(service, book, now, asked) {
         return Err(Unplanned::Stale);
     }
-    match offer_of(alloc, service, book.record(), limits, message) {
+    let from = told_of(config, user);
+    match offer_of(alloc, service, book.record(), limits, from, message) {
         Ok(offer) => match placed(alloc, offer, route) {
             Ok(planned) => Ok(planned),
             Err(AllocError) => Err(Unplanned::Refused(Reason::NoMemory)),
@@ -201,7 +212,7 @@ pub fn keep_plan<P, O: Outside<P>>(
     plan: &mut Option<Box<Planned>>,
 ) -> Result<Marks, Unplanned>
     ensures planned { IfSome message.now (λ m. PlansBy (O.config_is out.now) (O.limits_are out.now) (O.book_is out.now) (O.now_is out.now at.now)
-        asked m.value plan.old plan.new result) }
+        (O.user_is_at out.now at.now) asked m.value plan.old plan.new result) }
     ensures none { message.now ≡ None → (result ≡ Err (Refused NoMemory)) × (plan.new ≡ plan.old) }
     ensures suits { IfErr result (λ unplanned. lies_elsewhere (unplanned_reason unplanned) ≡ true) }
 {
@@ -218,6 +229,7 @@ pub fn keep_plan<P, O: Outside<P>>(
         book,
         now,
         asked,
+        out.user_address(at),
         message,
     ) {
         Ok(planned) => Ok(keep_planned(message, planned, plan)),

@@ -1,5 +1,6 @@
 -- When the connections of an exchange last moved.
 use Rattle.std.specs.Prelude.{◌≡◌, ◌≢◌, ℕ, ◌<◌, ◌-◌, Bool, true, false, nat_lt, Option, Some, None, IsSomeAnd}
+use Rattle.std.specs.declared.net.ipv4_addr.Ipv4Addr.{Ipv4Addr}
 use Rattle.slab.specs.Slab.{get, slab_len}
 use Rattle.socket_wire.specs.declared.token.Peer.{Peer}
 use Rattle.socket_wire.specs.declared.token.Peer.TheVariants.{User, Origin, Service}
@@ -67,13 +68,24 @@ abbrev pub IsFor : (over : Bool) → Seats → Purpose → Type 0
 IsFor over seats Requests = (over ≡ false) × HasRoom seats
 IsFor over seats Refusal = (over ≡ false → HasRoom seats → ⊥) × MayRefuse seats
 
--- the seat under a key was taken for this at this moment
-pub record IsTaken (over : Bool) (old new : Seats) (key : ℕ) (purpose : Purpose) (now : ℕ) : Type 0 where
+-- the address that the connection of a seat's user comes from
+abbrev pub address_in : Option Seat → Option Ipv4Addr
+address_in None = None
+address_in (Some seat) = Some seat.from
+
+-- so for the seat under a key
+abbrev pub user_address : Seats → (key : ℕ) → Option Ipv4Addr
+user_address seats key = address_in (get seats.all key)
+
+-- the seat under a key was taken for this at this moment, for a user from that address
+pub record IsTaken (over : Bool) (from : Ipv4Addr) (old new : Seats) (key : ℕ) (purpose : Purpose) (now : ℕ) : Type 0 where
   -- nobody had it
   pub free : get old.all key ≡ None
   -- it is for that
   pub is_for : IsFor over old purpose
   pub purpose_is : IsSomeAnd (get new.all key) (λ seat. seat.purpose ≡ purpose)
+  -- it is that user's
+  pub address : user_address new key ≡ Some from
   -- its seconds count from now on
   pub moved : IsSomeAnd (get new.all key) (λ seat. seat.moved ≡ now)
   -- all other seats stay

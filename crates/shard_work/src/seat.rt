@@ -10,6 +10,7 @@ use crate::terms::Awaited;
 use event_loop::{Spared, Stay, Told, UserPermit, spared_of};
 use socket_wire::{Peer, Readiness};
 use std::mem;
+use std::net::Ipv4Addr;
 use std::sync::Arc;
 use trace_core::Point;
 
@@ -27,6 +28,8 @@ pub enum Purpose {
 pub(crate) struct Seat {
     pub(crate) purpose: Purpose,
     pub(crate) number: u64,
+    /// The address that the user's connection comes from.
+    pub(crate) from: Ipv4Addr,
     pub(crate) permit: UserPermit,
     /// When the user was taken in, in milliseconds.
     pub(crate) came: u64,
@@ -61,19 +64,22 @@ fn awaited_since(lines: &Lines, line: Option<usize>, since: Option<u64>, now: u6
 impl Seat {
     ghost use Rattle.shard_work.specs.Seats.{line_in};
 
-    /// A seat for a user's connection of this number at this moment, in milliseconds, whose stay is the one of this number.
+    /// A seat for a user's connection of this number, from this address, at this moment, in milliseconds, whose stay is the one of this
+    /// number.
     pub(crate) fn new(
         purpose: Purpose,
         number: u64,
+        from: Ipv4Addr,
         permit: UserPermit,
         millis: u64,
         since: u64,
     ) -> Seat
-        ensures { (result.purpose ≡ purpose) × (result.moved ≡ millis / SECOND) }
+        ensures { (result.purpose ≡ purpose) × (result.from ≡ from) × (result.moved ≡ millis / SECOND) }
     {
         Seat {
             purpose,
             number,
+            from,
             permit,
             came: millis,
             moved: millis / SECOND,

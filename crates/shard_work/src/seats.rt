@@ -12,6 +12,7 @@ use event_loop::{Spared, Stay, UserPermit, is_young, youth_of};
 use slab::Slab;
 use std::alloc::{AllocError, Global};
 use std::mem;
+use std::net::Ipv4Addr;
 use trace_core::Point;
 
 /// The milliseconds of a second.
@@ -40,7 +41,7 @@ pub struct Seats {
 
 impl Seats {
     ghost use Rattle.loop_parts.specs.Shares.{is_over};
-    ghost use Rattle.shard_work.specs.Seats.{heard_of, HasRoom, IsFor, MayRefuse, has_waited, is_late, is_overdue, moved_at, IsTaken};
+    ghost use Rattle.shard_work.specs.Seats.{heard_of, HasRoom, IsFor, MayRefuse, has_waited, is_late, is_overdue, moved_at, IsTaken, user_address};
     ghost use Rattle.slab.specs.Slab.{get, Updates};
 
     /// No seat is taken, and at most `most` users may be served at once. `Err` if no memory was found for their seats.
@@ -116,10 +117,16 @@ impl Seats {
         self.all.is_empty()
     }
 
-    /// Takes a seat for a user's connection of this number at this moment, in milliseconds, and says what it is for. `None` if no
-    /// seat is free.
-    pub fn take(&mut self, number: u64, permit: UserPermit, millis: u64) -> Option<(usize, Purpose)>
-        ensures taken { IfSome result (λ taken. IsTaken (is_over permit) self.old self.new taken.0 taken.1 (millis / SECOND)) }
+    /// Takes a seat for a user's connection of this number, from this address, at this moment, in milliseconds, and says what it is for.
+    /// `None` if no seat is free.
+    pub fn take(
+        &mut self,
+        number: u64,
+        from: Ipv4Addr,
+        permit: UserPermit,
+        millis: u64,
+    ) -> Option<(usize, Purpose)>
+        ensures taken { IfSome result (λ taken. IsTaken (is_over permit) from self.old self.new taken.0 taken.1 (millis / SECOND)) }
     {
         let purpose = self.next_purpose(permit.is_over())?;
         let since = self.next_stay();
@@ -128,7 +135,7 @@ impl Seats {
         }
         let key = self
             .all
-            .insert_reserved(Seat::new(purpose, number, permit, millis, since));
+            .insert_reserved(Seat::new(purpose, number, from, permit, millis, since));
         if purpose == Purpose::Refusal {
             self.refused = self.refused.saturating_add(1);
         }
@@ -154,6 +161,16 @@ impl Seats {
         match self.all.get(key) {
             Some(seat) => seat.number,
             None => 0,
+        }
+    }
+
+    /// The address that a user's connection comes from.
+    pub fn user_address(&self, key: usize) -> Option<Ipv4Addr>
+        ensures { result ≡ user_address self.now key }
+    {
+        match self.all.get(key) {
+            Some(seat) => Some(seat.from),
+            None => None,
         }
     }
 

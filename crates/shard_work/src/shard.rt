@@ -288,6 +288,7 @@ impl<'a, E: Exchanges + Drop, G: Gate> Work for Shard<'a, E, G> {
         }
         let Handed {
             stream,
+            from,
             number,
             permit,
             loops: _,
@@ -297,7 +298,7 @@ impl<'a, E: Exchanges + Drop, G: Gate> Work for Shard<'a, E, G> {
             .exchanges
             .users_mut()
             .seats_mut()
-            .take(number, permit, millis)
+            .take(number, from, permit, millis)
         else {
             turn_away(Stream::accepted(stream));
             return Admitted::Closed;

@@ -96,6 +96,7 @@ impl Offering for Offer {
         Offer::new(
             alloc,
             subject.plan,
+            None,
             HOST,
             PORT,
             subject.path,

@@ -1,5 +1,6 @@
 //! A row with its table.
 use crate::values::{Values, number};
+use std::net::Ipv4Addr;
 use test_rows::Row;
 
 /// A row, and the table's head, which says what the row doesn't.
@@ -35,6 +36,14 @@ impl<'a> Scene<'a> {
     /// Whether a key says just this.
     pub fn is(self, key: &[u8], text: &[u8]) -> bool {
         self.get(key) == text
+    }
+
+    /// The IPv4 address that a key says, or none.
+    pub fn address(self, key: &[u8]) -> Option<Ipv4Addr> {
+        match Ipv4Addr::parse_ascii(self.get(key)) {
+            Ok(address) => Some(address),
+            Err(_) => None,
+        }
     }
 
     /// The number that a key says, or another one.

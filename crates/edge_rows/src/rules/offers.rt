@@ -67,9 +67,12 @@ fn offer_of(
     record: Option<&Record>,
     scene: Scene<'_>,
 ) -> Result<Offer, NoMemory> {
+    let from = scene.address(b"from");
     match response(alloc, scene) {
-        Some(response) => Offer::of_response(alloc, service, record, limits, user, &response),
-        None => Offer::of_request(alloc, service, record, limits, user),
+        Some(response) => {
+            Offer::of_response(alloc, service, record, limits, from, user, &response)
+        }
+        None => Offer::of_request(alloc, service, record, limits, from, user),
     }
 }
 
@@ -110,7 +113,7 @@ fn put_new(alloc: Global, scene: Scene<'_>, out: &mut Vec<u8>) -> Result<(), NoM
         return put_line(out, b"no plan");
     };
     let request = scene.get(b"request");
-    match Offer::new(alloc, plan, b"127.0.0.1", 1344, b"/", request, &[])? {
+    match Offer::new(alloc, plan, None, b"127.0.0.1", 1344, b"/", request, &[])? {
         Some(offer) => put_flag(out, b"offered", offer.is_offered()),
         None => put_line(out, b"no offer"),
     }

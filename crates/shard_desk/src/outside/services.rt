@@ -8,6 +8,7 @@ ghost use Rattle.shard_outside.specs.Planning.{service_of as service_at};
 ghost use Rattle.shard_desk.specs.Asked.{LendsBy, FailsBy, PutsBy};
 ghost use Rattle.shard_desk.specs.Books.{book_at, KeepsAt};
 ghost use Rattle.shard_desk.specs.Places.{place_at};
+ghost use Rattle.shard_work.specs.Seats.{user_address};
 
 use crate::connections::{keep_record, lend_anew, lend_now, lend_waiting, put_back, waiter_of};
 use crate::desk::{Desk, heed_refresh, note_lease};
@@ -19,6 +20,7 @@ use shard_outside::{Reusable, Services};
 use shard_work::Spot;
 use socket_wire::{Dial, ServiceWire};
 use std::alloc::AllocError;
+use std::net::Ipv4Addr;
 use std::sync::Wait;
 use std::time::Clock;
 use trace_core::Point;
@@ -35,6 +37,8 @@ impl<'r, S: Shares, R: Wait + Dial + Clock, G: Gate> Services<Spot<'r, R, G>> fo
 
     ghost book_is = { λ desk point book. book ≡ book_at desk.request_book desk.response_book point };
 
+    ghost user_is_at = { λ desk at address. address ≡ user_address desk.seats at.key };
+
     ghost keeps = { λ old new at point said. (config : AnyConfig) × S.config_is old.shared config
         × KeepsAt point (service_at config point) said (book_at old.request_book old.response_book) (book_at new.request_book new.response_book) };
 
@@ -45,6 +49,10 @@ impl<'r, S: Shares, R: Wait + Dial + Clock, G: Gate> Services<Spot<'r, R, G>> fo
             Point::Reqmod => &self.request_book,
             Point::Respmod => &self.response_book,
         }
+    }
+
+    fn user_address(&self, at: &Spot<'r, R, G>) -> Option<Ipv4Addr> {
+        self.seats.user_address(at.key)
     }
 
     fn keep(

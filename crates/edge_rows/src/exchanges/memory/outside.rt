@@ -24,7 +24,7 @@ use shard_outside::{
 use shard_report::{request_line, what_was_found};
 use span_bank::{Bank, Ledgers};
 use std::alloc::{AllocError, Global};
-use std::net::SocketAddrV4;
+use std::net::{Ipv4Addr, SocketAddrV4};
 use trace_core::Point;
 use wire_kit::{Got, Wire};
 
@@ -80,6 +80,10 @@ impl<'a, W: StageWire<'a>, B: Ledgers> Services<Moment> for Memory<'a, W, B> {
             Point::Reqmod => &self.request,
             Point::Respmod => &self.response,
         }
+    }
+
+    fn user_address(&self, _at: &Moment) -> Option<Ipv4Addr> {
+        self.scene.address(b"from")
     }
 
     fn keep(&mut self, _at: &Moment, point: Point, record: Record) -> Result<(), AllocError> {

@@ -10,4 +10,5 @@ returns-clause-ok c config has =
     (c.in_ok-read_users.ensures.ok
     & c.in_ok-read_denied.ensures.ok
     & c.in_ok-read_number.ensures.ok ∙ ap Some (sym has.2)
+    & c.in_ok-read_truth.ensures.ok ∙ ap Some (sym has.3)
     & tt)

@@ -7,6 +7,7 @@ pub invariant_of-offer : goal.invariant_of-offer
 invariant_of-offer c =
     let reader = c.in_ok-side.ensures.reader in
     record {
+      from = c.args.from;
       host = c.args.host.now;
       port = c.args.port;
       path = c.args.path.now;
