@@ -5,8 +5,16 @@ _adaptproxy() {
     # shellcheck disable=SC2207
     COMPREPLY=($(compgen -W "$words" -- "$2"))
   fi
+  if [ "$COMP_CWORD" -ge 2 ] && [ "${COMP_WORDS[1]}" = probe ]; then
+    words="--only --count"
+    [ "${COMP_WORDS[COMP_CWORD - 1]}" != --count ] || words=
+    [ "${COMP_WORDS[COMP_CWORD - 1]}" != --only ] ||
+      words="no-body below below-allow preview preview-allow above above-allow million million-allow chunked eicar"
+    # shellcheck disable=SC2207
+    COMPREPLY=($(compgen -W "$words" -- "$2"))
+  fi
   [ "$COMP_CWORD" -eq 1 ] || return 0
-  words="serve check tell trace chunks --help --version"
+  words="serve check tell probe trace chunks --help --version"
   [ "${1##*/}" != icapd ] || words="serve check once --help --version"
   # shellcheck disable=SC2207
   COMPREPLY=($(compgen -W "$words" -- "$2"))

@@ -3,6 +3,7 @@
 mod arguments;
 mod configurations;
 mod devices;
+mod probes;
 mod runs;
 mod servers;
 
@@ -17,6 +18,7 @@ pub fn put_answer(
     out: &mut Vec<u8>,
 ) -> Result<(), NoMemory> {
     arguments::put_answer(alloc, call, row, out)?;
+    probes::put_answer(alloc, call, row, out)?;
     runs::put_answer(alloc, call, row, out)?;
     configurations::put_answer(alloc, call, row, out)?;
     servers::put_answer(alloc, call, row, out)

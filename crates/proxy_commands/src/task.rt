@@ -2,7 +2,7 @@
 
 ghost use Rattle.std.specs.Prelude.{◌≡◌, map, string_bytes, IfSome, IfNone};
 ghost use Rattle.proxy_commands.specs.declared.task.Task.{Task as AnyTask};
-ghost use Rattle.proxy_commands.specs.Task.{IsTask, IsTaskAlone};
+ghost use Rattle.proxy_commands.specs.Task.{IsTask, IsTaskAlone, IsTaskBefore};
 
 /// What the program is asked to do with a configuration, or to say of itself.
 #[derive(Clone, Copy, Debug, PartialEq, Eq)]
@@ -13,6 +13,8 @@ pub enum Task {
     Check,
     /// `tell WORD..`: says a line to the administrator's port that a configuration names, and prints the answer.
     Tell,
+    /// `probe [--only NAME] [--count N]`: tries the services that a configuration names.
+    Probe,
     /// `--help`: prints the commands.
     Help,
     /// `--version`: prints the version, and the kit.
@@ -26,13 +28,7 @@ pub fn read_task(args: &[String]) -> Option<Task>
 {
     match args {
         [word] => task_of(word.as_str()),
-        [word, _, ..] => {
-            if word.as_str() == "tell" {
-                Some(Task::Tell)
-            } else {
-                None
-            }
-        }
+        [word, _, ..] => task_before(word.as_str()),
         [] => None,
     }
 }
@@ -46,10 +42,26 @@ fn task_of(word: &str) -> Option<Task>
         Some(Task::Serve)
     } else if word == "check" {
         Some(Task::Check)
+    } else if word == "probe" {
+        Some(Task::Probe)
     } else if word == "--help" {
         Some(Task::Help)
     } else if word == "--version" {
         Some(Task::Version)
+    } else {
+        None
+    }
+}
+
+/// The task of a word before others.
+fn task_before(word: &str) -> Option<Task>
+    ensures found { IfSome result (IsTaskBefore word.now) }
+    ensures none { IfNone result ((task : AnyTask) → IsTaskBefore word.now task → ⊥) }
+{
+    if word == "tell" {
+        Some(Task::Tell)
+    } else if word == "probe" {
+        Some(Task::Probe)
     } else {
         None
     }

@@ -7,6 +7,7 @@ adaptproxy chunks N     reads a chunked body in pieces of N bytes, N from 1 to 6
 adaptproxy serve        is the proxy: reads its configuration, listens, and serves until it is stopped
 adaptproxy check        reads a configuration as serve does, and says ok, or its fault
 adaptproxy tell WORD..  says a line to the admin port that a configuration names, and prints the answer
+adaptproxy probe        tries the services that a configuration names, and says what they answer
 adaptproxy --help       prints these lines
 adaptproxy --version    prints the version, and the kit that it is proved with
 ";

@@ -1,0 +1,263 @@
+//! All that a configuration's services are tried with.
+
+ghost use Rattle.std.specs.Prelude.{◌≡◌, ◌≤◌, ◌++◌, ◌&&◌, ◌==◌, nat_lt, IfSome, OnOk};
+ghost use Rattle.std.specs.Option.{ForSome};
+ghost use Rattle.adapt_bytes.specs.declared.limits.TheConstants.{MAX_PREVIEW};
+ghost use Rattle.service_probe.specs.Came.{counted_text, tally_text};
+
+use crate::attempt::{Attempt, try_sample};
+use crate::choice::Choice;
+use crate::line::Connection;
+use crate::options::{ask, put_record};
+use crate::report::{Way, put_attempt, put_spread};
+use crate::samples::{SAMPLES, Sample};
+use crate::text::put_number;
+use options_book::Record;
+use plan_rules::Limits;
+use proxy_config::{Config, ServicePoint};
+use proxy_rules::limits_of;
+use socket_wire::Dial;
+use span_bank::{Bank, Ledgers};
+use std::alloc::{AllocError, Global};
+use std::io::{self, Write};
+use std::net::Net;
+use std::sync::Wait;
+use std::time::Clock;
+use trace_core::{Plan, Point};
+
+/// The size that stands for a preview's where a service wants none.
+const NO_PREVIEW: u64 = 1_024;
+
+/// What services are tried with.
+#[derive(Drop)]
+pub struct Bench<'a, B: Ledgers, R> {
+    pub rt: &'a R,
+    pub alloc: Global,
+    /// A budget that has room for one message.
+    pub bank: &'a Bank<B>,
+    pub config: &'a Config,
+    /// Which samples, and how often.
+    pub choice: Choice,
+}
+
+/// How many answers came, and how many of them broke a rule.
+#[derive(Clone, Copy)]
+struct Tally {
+    all: u64,
+    broken: u64,
+}
+
+impl Tally {
+    /// Counts an attempt.
+    fn count(&mut self, attempt: &Attempt) {
+        self.all = self.all.saturating_add(1);
+        if !attempt.came.is_good() {
+            self.broken = self.broken.saturating_add(1);
+        }
+    }
+
+    /// Whether answers came, and all of them were by the rules.
+    fn is_good(self) -> bool
+        ensures { result ≡ (nat_lt 0 self.all && self.broken == 0) }
+    {
+        self.all > 0 && self.broken == 0
+    }
+}
+
+/// Adds a number, and words.
+#[tactic(auto, unfolding(crate::specs::Came::counted_text))]
+fn put_counted(out: &mut Vec<u8>, number: u64, words: &[u8]) -> Result<(), AllocError>
+    ensures { OnOk result (out.new.items ≡ out.old.items ++ counted_text number words.now) }
+{
+    put_number(out, number)?;
+    out.extend_from_slice(words)
+}
+
+/// Adds the last line: how many answers came, and how many of them broke a rule.
+fn put_tally(out: &mut Vec<u8>, all: u64, broken: u64) -> Result<(), AllocError>
+    ensures { OnOk result (out.new.items ≡ out.old.items ++ tally_text all broken) }
+{
+    put_counted(out, all, b" answers, of which ")?;
+    put_counted(out, broken, b" broke a rule\n")
+}
+
+/// A service of a point, and the size of the previews that it wants, if it wants some.
+#[derive(Clone, Copy)]
+struct Target<'a> {
+    service: &'a ServicePoint,
+    point: Point,
+    preview: Option<u64>,
+    ghost small: { ForSome preview (λ most. most ≤ MAX_PREVIEW) },
+}
+
+/// A sample for a service.
+#[derive(Clone, Copy)]
+struct Trial {
+    sample: Sample,
+    plan: Plan,
+    size: u64,
+}
+
+impl Target<'_> {
+    /// A sample's message for this service. `None` where it has none.
+    fn trial(&self, sample: Sample) -> Option<Trial> {
+        let most = match self.preview {
+            Some(most) => most,
+            None => NO_PREVIEW,
+        };
+        let size = sample.size(most)?;
+        Some(Trial {
+            sample,
+            plan: sample.plan(self.point, self.preview, size),
+            size,
+        })
+    }
+}
+
+/// The size of the previews that the proxy sends to a service of this record.
+fn preview_of(record: &Record, limits: &Limits) -> Option<u64>
+    ensures { IfSome result (λ most. most ≤ MAX_PREVIEW) }
+{
+    match record.preview() {
+        Some(size) => Some(size.min(limits.preview_limit)),
+        None => None,
+    }
+}
+
+/// Tries a service with a sample as often as is chosen over connections of one kind, and prints a line of the first answer and of each
+/// other one that broke a rule. The connection where it may carry another request.
+fn try_over<B: Ledgers, R: Wait + Net + Dial + Clock, O: Write>(
+    bench: &Bench<'_, B, R>,
+    service: &ServicePoint,
+    trial: Trial,
+    way: Way,
+    kept: Option<Connection>,
+    tally: &mut Tally,
+    output: &mut O,
+) -> io::Result<Option<Connection>> {
+    let mut kept = kept;
+    let mut times = Vec::new(bench.alloc);
+    let Trial { sample, plan, size } = trial;
+    for number in 0..bench.choice.count {
+        let before = match way {
+            Way::Kept => kept.take(),
+            Way::Fresh => None,
+        };
+        let (attempt, after) = try_sample(bench, service, plan, sample, size, before)?;
+        tally.count(&attempt);
+        times.push(attempt.micros)?;
+        if way == Way::Kept {
+            kept = after;
+        }
+        if number == 0 || !attempt.came.is_good() {
+            let mut line = Vec::new(bench.alloc);
+            put_attempt(&mut line, way, sample.name(), Some(size), &attempt)?;
+            output.write_all(&line)?;
+        }
+    }
+    if bench.choice.count > 1 {
+        let mut line = Vec::new(bench.alloc);
+        times.sort_unstable();
+        put_spread(&mut line, &times)?;
+        output.write_all(&line)?;
+    }
+    output.flush()?;
+    Ok(kept)
+}
+
+/// Tries a service with all samples that are chosen, over connections of one kind.
+fn try_samples<B: Ledgers, R: Wait + Net + Dial + Clock, O: Write>(
+    bench: &Bench<'_, B, R>,
+    target: &Target<'_>,
+    way: Way,
+    kept: Option<Connection>,
+    tally: &mut Tally,
+    output: &mut O,
+) -> io::Result<()> {
+    let mut kept = kept;
+    for sample in SAMPLES.iter() {
+        if bench.choice.has(*sample)
+            && let Some(trial) = target.trial(*sample)
+        {
+            kept = try_over(bench, target.service, trial, way, kept, tally, output)?;
+        }
+    }
+    Ok(())
+}
+
+/// Adds the line of a service: its point, and where it is.
+fn put_service(out: &mut Vec<u8>, point: Point, place: &str, path: &str) -> Result<(), AllocError> {
+    out.extend_from_slice(match point {
+        Point::Reqmod => b"reqmod icap://",
+        Point::Respmod => b"respmod icap://",
+    })?;
+    out.extend_from_slice(place.as_bytes())?;
+    out.extend_from_slice(path.as_bytes())?;
+    out.extend_from_slice(b"\n")
+}
+
+/// Tries the service of a point.
+fn try_service<B: Ledgers, R: Wait + Net + Dial + Clock, O: Write>(
+    bench: &Bench<'_, B, R>,
+    service: &ServicePoint,
+    point: Point,
+    tally: &mut Tally,
+    output: &mut O,
+) -> io::Result<()> {
+    let mut text = Vec::new(bench.alloc);
+    let place = format!(in bench.alloc; "{}", service.address)?;
+    put_service(&mut text, point, place.as_str(), service.path.as_str())?;
+    let told = ask(bench, service, point)?;
+    tally.count(&told.attempt);
+    put_attempt(&mut text, Way::Fresh, b"options", None, &told.attempt)?;
+    let mut preview = None;
+    let serves = told.record.is_some();
+    if let Some((answer, record)) = &told.record {
+        put_record(&mut text, answer, record)?;
+        preview = preview_of(record, &limits_of(bench.config));
+    }
+    output.write_all(&text)?;
+    output.flush()?;
+    if !serves {
+        return Ok(());
+    }
+    let target = Target {
+        service,
+        point,
+        preview,
+    };
+    try_samples(bench, &target, Way::Kept, told.kept, tally, output)?;
+    try_samples(bench, &target, Way::Fresh, None, tally, output)
+}
+
+/// Tries the service of a point, if there is one.
+fn try_point<B: Ledgers, R: Wait + Net + Dial + Clock, O: Write>(
+    bench: &Bench<'_, B, R>,
+    service: &Option<ServicePoint>,
+    point: Point,
+    tally: &mut Tally,
+    output: &mut O,
+) -> io::Result<()> {
+    match service {
+        Some(service) => try_service(bench, service, point, tally, output),
+        None => Ok(()),
+    }
+}
+
+/// Tries each configured service, and prints what came. Whether answers came, and all of them were by the rules.
+///
+/// An error where the output can't be written, or no memory was found for a line or a message.
+pub fn probe<B: Ledgers, R: Wait + Net + Dial + Clock, O: Write>(
+    bench: &Bench<'_, B, R>,
+    output: &mut O,
+) -> io::Result<bool> {
+    let mut tally = Tally { all: 0, broken: 0 };
+    let config = bench.config;
+    try_point(bench, &config.reqmod, Point::Reqmod, &mut tally, output)?;
+    try_point(bench, &config.respmod, Point::Respmod, &mut tally, output)?;
+    let mut line = Vec::new(bench.alloc);
+    put_tally(&mut line, tally.all, tally.broken)?;
+    output.write_all(&line)?;
+    output.flush()?;
+    Ok(tally.is_good())
+}

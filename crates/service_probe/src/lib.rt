@@ -1,0 +1,27 @@
+//! Tries a service: its options in words, and what it answers to messages of each kind, through the proxy's own client (RFC 3507).
+//!
+//! What is sent, what is said of an answer and the status are functions of values. What a service answers is behind a socket, and no
+//! contract says it.
+#![tactic(auto)]
+
+mod attempt;
+mod bench;
+mod choice;
+mod excerpt;
+mod finding;
+mod line;
+mod message;
+mod options;
+mod report;
+mod samples;
+mod stage;
+mod tap;
+mod text;
+mod text_stream;
+
+pub use attempt::Attempt;
+pub use bench::{Bench, probe};
+pub use choice::{Choice, MAX_COUNT, read_choice};
+pub use finding::{Came, Fault, Finding};
+pub use report::{Way, put_attempt};
+pub use samples::{SAMPLES, Sample};

@@ -1,0 +1,103 @@
+//! A connection to a service, and the poll that reports it.
+
+use mio::{Events, Poll, Token};
+use socket_wire::{Dial, Readiness, Service, ServiceWire, SocketWire, Unread};
+use std::alloc::Global;
+use std::io::{self, ErrorKind};
+use std::net::{Net, SocketAddrV4};
+use std::sync::Arc;
+use std::time::{Clock, Duration, Instant};
+
+/// How many milliseconds a wait has at most before the clock is read again.
+const PAUSE: u64 = 200;
+
+/// What reports a connection.
+#[derive(Drop)]
+pub struct Line {
+    poll: Poll,
+    events: Events,
+    ready: Arc<Readiness>,
+}
+
+impl Line {
+    /// Waits for news of the connection, for a while.
+    pub fn wait(&mut self) -> io::Result<()> {
+        self.wait_for(Duration::from_millis(PAUSE))
+    }
+
+    fn wait_for(&mut self, most: Duration) -> io::Result<()> {
+        match self.poll.poll(&mut self.events, Some(most)) {
+            Ok(()) => {}
+            Err(error) if error.kind() == ErrorKind::Interrupted => return Ok(()),
+            Err(error) => return Err(error),
+        }
+        for event in self.events.iter() {
+            let closed = event.is_read_closed() || event.is_error();
+            self.ready
+                .note(event.is_readable(), event.is_writable(), closed);
+            if event.is_write_closed() || event.is_error() {
+                self.ready.fail();
+            }
+        }
+        Ok(())
+    }
+
+    /// Waits until the other side has taken the connection, for so many seconds since a start.
+    fn arrive<R: Clock>(&mut self, rt: &R, start: Instant, seconds: u64) -> io::Result<()> {
+        for _ in 0..u64::MAX {
+            if self.ready.has_failed() {
+                return Err(io::Error::from(ErrorKind::ConnectionRefused));
+            }
+            if !self.ready.is_on_its_way() {
+                return Ok(());
+            }
+            if start.elapsed(rt)?.as_secs() >= seconds {
+                break;
+            }
+            self.wait()?;
+        }
+        Err(io::Error::from(ErrorKind::TimedOut))
+    }
+
+    /// What lies unread on the connection, as far as it came by now.
+    pub fn unread(&mut self, wire: &ServiceWire) -> Unread {
+        if self.wait_for(Duration::from_millis(0)).is_err() {
+            return Unread::End;
+        }
+        wire.unread()
+    }
+}
+
+/// A connection that may carry a request.
+#[derive(Drop)]
+pub struct Connection {
+    pub line: Line,
+    pub wire: ServiceWire,
+    /// Whether it carried one before.
+    pub is_used: bool,
+}
+
+/// Dials an address, and waits for so many seconds for the connection. An error where none can be had.
+pub fn connect<R: Net + Dial + Clock>(
+    rt: &R,
+    alloc: Global,
+    address: SocketAddrV4,
+    seconds: u64,
+) -> io::Result<Connection> {
+    let start = Instant::now(rt)?;
+    let ready = Arc::new(alloc, Readiness::dialled())?;
+    let mut line = Line {
+        poll: Poll::new(rt)?,
+        events: Events::with_capacity(alloc, 4)?,
+        ready: ready.clone()?,
+    };
+    let stream = rt.dial::<Service>(address)?;
+    let mut wire: ServiceWire = SocketWire::new(stream, ready);
+    wire.register(line.poll.registry(), Token(0))?;
+    line.arrive(rt, start, seconds)?;
+    Ok(Connection {
+        line,
+        wire,
+        is_used: false,
+    })
+}
