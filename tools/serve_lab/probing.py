@@ -1,13 +1,11 @@
 """`adaptproxy probe`: what it says of icapd, of other servers, and of services that break a rule."""
-import os
 import re
 import subprocess
 import time
 
-from serve_lab.cases import ADAPTPROXY, case, needs, needs_tools, same
+from serve_lab.cases import ADAPTPROXY, case, same
 from serve_lab.loopback import Reader, Server, fields_of, free_port
-from serve_lab.scanners import EICAR, Scanner
-from serve_lab.servers import Servers
+from serve_lab.scanners import EICAR, Scanner, c_icap_echo
 
 NAMES = ("no-body", "below", "below-allow", "preview", "preview-allow", "above", "above-allow", "million", "million-allow", "chunked",
          "eicar")
@@ -179,31 +177,9 @@ def a_probe_names_the_rule_that_a_service_breaks(bench):
         same(rule, (lines[-1], errors, status), ("%d answers, of which %d broke a rule" % (2 * broken - 1, broken), "", 1))
 
 
-C_ICAP = """Port 127.0.0.1:%(port)d
-PidFile %(dir)s/c-icap.pid
-CommandsSocket %(dir)s/c-icap.ctl
-ServerLog %(dir)s/c-icap.log
-TmpDir %(dir)s
-StartServers 1
-MaxServers 2
-ThreadsPerChild 8
-MinSpareThreads 2
-MaxSpareThreads 8
-ModulesDir %(modules)s
-ServicesDir %(modules)s
-LoadMagicFile /etc/c-icap/c-icap.magic
-Service echo srv_echo.so
-"""
-
-
 @case
 def a_probe_of_c_icap_finds_nothing(bench):
-    needs_tools("c-icap")
-    modules = [folder for folder in ("/usr/lib/x86_64-linux-gnu/c_icap", "/usr/lib/aarch64-linux-gnu/c_icap") if os.path.exists(folder)]
-    needs("c-icap's modules", modules and os.path.exists("/etc/c-icap/c-icap.magic"))
-    servers, port = bench.keep(Servers("c-icap", {})), free_port()
-    settings = servers.write("c-icap.conf", C_ICAP, port=port, modules=modules[0])
-    servers.start(["c-icap", "-N", "-f", settings], port)
+    _, port = c_icap_echo(bench)
     lines, errors, status = probe(configuration(("reqmod", port, "/echo"), ("respmod", port, "/echo")))
     print("      " + "\n      ".join(line for line in lines if "fault" in line or line.startswith("  kept")))
     same("c-icap's echo", (lines[-1], errors, status), ("46 answers, of which 0 broke a rule", "", 0))

@@ -11,6 +11,7 @@ import zipfile
 from serve_lab.cases import IDLE, case, comes, get, needs, needs_tools, post, post_chunked, same
 from serve_lab.loopback import Reader, Server, User, body_of, fields_of, free_port, read_body
 from serve_lab.operators import Log
+from serve_lab.servers import Servers
 
 # The test file that every scanner takes for a virus, in two halves: so this file isn't one.
 EICAR = rb"X5O!P%@AP[4\PZX54(P^)7CC)7}$EICAR" + rb"-STANDARD-ANTIVIRUS-TEST-FILE!$H+H*"
@@ -47,6 +48,34 @@ virus_scan.StartSendPercentDataAfter 100M
 virus_scan.MaxObjectSize 100M
 {more}
 """
+
+
+C_ICAP_ECHO = """Port 127.0.0.1:%(port)d
+PidFile %(dir)s/c-icap.pid
+CommandsSocket %(dir)s/c-icap.ctl
+ServerLog %(dir)s/c-icap.log
+TmpDir %(dir)s
+StartServers 1
+MaxServers 2
+ThreadsPerChild 8
+MinSpareThreads 2
+MaxSpareThreads 8
+ModulesDir %(modules)s
+ServicesDir %(modules)s
+LoadMagicFile /etc/c-icap/c-icap.magic
+Service echo srv_echo.so
+"""
+
+
+def c_icap_echo(bench, more=""):
+    """A c-icap with its echo service at /echo, in a folder of its own, and its port. `more` are further lines of its configuration."""
+    needs_tools("c-icap")
+    modules = glob.glob("/usr/lib/*/c_icap/srv_echo.so")
+    needs("c-icap's modules", modules and os.path.exists("/etc/c-icap/c-icap.magic"))
+    servers, port = bench.keep(Servers("c-icap", {})), free_port()
+    settings = servers.write("c-icap.conf", C_ICAP_ECHO + more, port=port, modules=os.path.dirname(modules[0]))
+    servers.start(["c-icap", "-N", "-f", settings], port)
+    return servers, port
 
 
 class Scanner:

@@ -63,9 +63,14 @@ class Servers:
             raise AssertionError("nothing listens: %s" % command)
         return process.pid
 
-    def close(self):
+    def end(self):
+        """Ends the servers. Their files stay."""
         for process in self.running:
             process.terminate()
         for process in self.running:
             process.wait()
+        self.running = []
+
+    def close(self):
+        self.end()
         shutil.rmtree(self.dir, ignore_errors=True)

@@ -1,31 +1,13 @@
 """What a service is told of the user whose message it gets."""
-import os
-import socket
-import subprocess
-import tempfile
 
-from serve_lab.cases import IDLE, at_once, case, comes, get, needs, needs_tools, post, same
-from serve_lab.loopback import Icap, User, body_of, fields_of, free_port
+from serve_lab.cases import IDLE, at_once, case, get, post, same
+from serve_lab.loopback import Icap, User, body_of, fields_of
+from serve_lab.scanners import c_icap_echo
 
 SOURCES = ["127.0.0.1", "127.0.0.2", "127.1.2.3", "127.10.200.30", "127.255.255.254"]
-ECHO = """Port 127.0.0.1:{port}
-PidFile {0}/c-icap.pid
-CommandsSocket {0}/c-icap.ctl
-ServerLog {0}/server.log
-TmpDir {0}
-ServerName echo.test
-StartServers 1
-MaxServers 1
-ThreadsPerChild 16
-MinSpareThreads 4
-MaxSpareThreads 16
-ModulesDir {modules}
-ServicesDir {modules}
-TemplateDir /usr/share/c_icap/templates/
-LoadMagicFile /etc/c-icap/c-icap.magic
-Service echo srv_echo.so
-LogFormat told "%im %>a %huo"
-AccessLog {0}/access.log told
+# c-icap's log: the method, and the address of the HTTP client.
+TOLD = """LogFormat told "%%im %%>a %%huo"
+AccessLog %(dir)s/access.log told
 """
 
 
@@ -114,31 +96,15 @@ def no_service_is_told_who_asked_unless_it_is_to_be(bench):
 @case
 def c_icap_knows_who_asked(bench):
     """c-icap's log has the user's address where its format asks for that of the HTTP client."""
-    needs_tools("c-icap")
-    found = subprocess.run(["sh", "-c", "ls /usr/lib/*/c_icap/srv_echo.so"], stdout=subprocess.PIPE, stderr=subprocess.DEVNULL).stdout
-    needs("c-icap's echo service", found and os.path.exists("/etc/c-icap/c-icap.magic"))
-    with tempfile.TemporaryDirectory() as folder:
-        port = free_port()
-        text = ECHO.format(folder, port=port, modules=os.path.dirname(found.decode().split()[0]))
-        with open(folder + "/c-icap.conf", "w") as file:
-            file.write(text)
-        program = subprocess.Popen(["c-icap", "-N", "-f", folder + "/c-icap.conf"], stdin=subprocess.DEVNULL, stdout=subprocess.DEVNULL,
-                                   stderr=subprocess.DEVNULL)
-        try:
-            def listens():
-                with socket.socket() as sock:
-                    return sock.connect_ex(("127.0.0.1", port)) == 0
-            comes("c-icap", listens)
-            proxy = bench.proxy(bench.origin(), "client_ip = true\n", [("reqmod", port, "/echo"), ("respmod", port, "/echo")])
-            for number, source in enumerate(SOURCES):
-                user = User(proxy.port, source=source)
-                same(source, user.ask(get("/bytes/%d" % number)).body, body_of(number))
-                user.close()
-            same("audit", proxy.stop(), IDLE)
-        finally:
-            program.terminate()
-            program.wait(10)
-        with open(folder + "/access.log") as file:
-            lines = [line.split() for line in file if "MOD" in line.split()[0]]
-        same("in its log", {(words[0], words[1]) for words in lines},
+    servers, port = c_icap_echo(bench, TOLD)
+    proxy = bench.proxy(bench.origin(), "client_ip = true\n", [("reqmod", port, "/echo"), ("respmod", port, "/echo")])
+    for number, source in enumerate(SOURCES):
+        user = User(proxy.port, source=source)
+        same(source, user.ask(get("/bytes/%d" % number)).body, body_of(number))
+        user.close()
+    same("audit", proxy.stop(), IDLE)
+    servers.end()
+    with open(servers.dir + "/access.log") as file:
+        lines = [line.split() for line in file if "MOD" in line.split()[0]]
+    same("in its log", {(words[0], words[1]) for words in lines},
              {(method, source) for method in ("REQMOD", "RESPMOD") for source in SOURCES})
