@@ -36,10 +36,14 @@ tag_text refused = if refused then codes " TCP_DENIED/" else codes " TCP_MISS/"
 abbrev pub status_text : ℕ → List ℕ
 status_text status = if nat_lt status 1000 then three_digits status else numeral 10 status
 
--- the moment in seconds with three decimals, the milliseconds that it took, the user, whose answer and its status, and the bytes
+-- a moment in seconds, with three decimals
+abbrev pub moment_text : ℕ → List ℕ
+moment_text milliseconds = numeral 10 (milliseconds / 1000) ++ codes "." ++ three_digits (milliseconds % 1000)
+
+-- the moment of the end, the milliseconds that it took, the user, whose answer and its status, and the bytes
 -- that went to the user
 abbrev pub head_text : Entry → List ℕ
-head_text e = numeral 10 (e.ended / 1000) ++ codes "." ++ three_digits (e.ended % 1000) ++ codes " " ++ numeral 10 e.elapsed ++ codes " "
+head_text e = moment_text e.ended ++ codes " " ++ numeral 10 e.elapsed ++ codes " "
     ++ user_text e.user ++ tag_text e.refused ++ status_text e.status ++ codes " " ++ numeral 10 e.sent
 
 -- the method, the target, no login, where the request went, and the media type of the answer

@@ -20,8 +20,14 @@ ending Counter = codes "_total"
 ending Gauge = []
 ending Histogram = []
 
+abbrev pub type_text : AnyFamily → List ℕ
+type_text f = codes "# TYPE " ++ f.name.now ++ kind_word f.kind
+
+abbrev pub help_text : AnyFamily → List ℕ
+help_text f = codes "# HELP " ++ f.name.now ++ codes " " ++ f.help.now ++ codes "\n"
+
 abbrev pub family_text : AnyFamily → List ℕ
-family_text f = codes "# TYPE " ++ f.name.now ++ kind_word f.kind ++ codes "# HELP " ++ f.name.now ++ codes " " ++ f.help.now ++ codes "\n"
+family_text f = type_text f ++ help_text f
 
 -- a number's line, by what stands after its family's name, and its labels
 abbrev pub sample_text : AnyFamily → List ℕ → List ℕ → ℕ → List ℕ

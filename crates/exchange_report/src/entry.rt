@@ -1,7 +1,8 @@
 //! The log's line of an exchange, in the native format of Squid's `access.log`, with five fields after it.
 
-ghost use Rattle.std.specs.Prelude.{◌≡◌, ◌++◌, ◌<◌, OnOk};
-ghost use Rattle.exchange_report.specs.Entry.{address_text, user_text, destination_text, tag_text, status_text, head_text, request_text, end_text, line_text};
+ghost use Rattle.std.specs.Prelude.{◌≡◌, ◌++◌, ◌<◌, OnOk, codes, take};
+ghost use Rattle.exchange_report.specs.Words.{word_of};
+ghost use Rattle.exchange_report.specs.Entry.{address_text, moment_text, user_text, destination_text, tag_text, status_text, head_text, request_text, end_text, line_text};
 
 use crate::verdict::{Verdict, write_verdict};
 use crate::why::Why;
@@ -142,13 +143,20 @@ fn write_status(out: &mut Vec<u8>, status: u16) -> Result<(), AllocError>
     }
 }
 
+/// Adds a moment in seconds, with three decimals.
+fn write_moment(out: &mut Vec<u8>, milliseconds: u64) -> Result<(), AllocError>
+    ensures { OnOk result (out.new.items ≡ out.old.items ++ moment_text milliseconds) }
+{
+    write_number(out, milliseconds / 1000)?;
+    out.extend_from_slice(b".")?;
+    out.extend_from_slice(&three_digits((milliseconds % 1000) as u16))
+}
+
 /// Adds the fields up to the bytes that went to the user.
 fn write_head(out: &mut Vec<u8>, entry: &Entry<'_>) -> Result<(), AllocError>
     ensures { OnOk result (out.new.items ≡ out.old.items ++ head_text entry.now) }
 {
-    write_number(out, entry.ended / 1000)?;
-    out.extend_from_slice(b".")?;
-    out.extend_from_slice(&three_digits((entry.ended % 1000) as u16))?;
+    write_moment(out, entry.ended)?;
     out.extend_from_slice(b" ")?;
     write_number(out, entry.elapsed)?;
     out.extend_from_slice(b" ")?;
@@ -159,18 +167,23 @@ fn write_head(out: &mut Vec<u8>, entry: &Entry<'_>) -> Result<(), AllocError>
     write_number(out, entry.sent)
 }
 
+/// Adds a field after a space.
+fn write_field(out: &mut Vec<u8>, most: usize, value: &[u8]) -> Result<(), AllocError>
+    ensures { OnOk result (out.new.items ≡ out.old.items ++ codes " " ++ word_of (take most value.now)) }
+{
+    out.extend_from_slice(b" ")?;
+    write_word(out, most, value)
+}
+
 /// Adds the fields of the request, and the one for a login, which is always `-`.
 fn write_request(out: &mut Vec<u8>, entry: &Entry<'_>) -> Result<(), AllocError>
     ensures { OnOk result (out.new.items ≡ out.old.items ++ request_text entry.now) }
 {
-    out.extend_from_slice(b" ")?;
-    write_word(out, MAX_METHOD, entry.method)?;
-    out.extend_from_slice(b" ")?;
-    write_word(out, MAX_TARGET, entry.target)?;
+    write_field(out, MAX_METHOD, entry.method)?;
+    write_field(out, MAX_TARGET, entry.target)?;
     out.extend_from_slice(b" - ")?;
     write_destination(out, entry.destination)?;
-    out.extend_from_slice(b" ")?;
-    write_word(out, MAX_KIND, entry.kind)
+    write_field(out, MAX_KIND, entry.kind)
 }
 
 /// Adds the fields that Squid's format hasn't, and the line's end.

@@ -1,7 +1,7 @@
 //! Counters as OpenMetrics text.
 
 ghost use Rattle.std.specs.Prelude.{◌≡◌, ◌++◌, OnOk, IfOk, codes};
-ghost use Rattle.exchange_report.specs.Metrics.{kind_word, ending, family_text, sample_text, reason_labels, reason_text, sum_text, metric_text, metrics_text};
+ghost use Rattle.exchange_report.specs.Metrics.{kind_word, ending, type_text, help_text, family_text, sample_text, reason_labels, reason_text, sum_text, metric_text, metrics_text};
 
 use crate::why::Why;
 use crate::words::write_number;
@@ -66,18 +66,32 @@ fn ending(kind: Kind) -> &'static [u8]
     }
 }
 
-/// Adds the lines with which a family begins.
-fn write_family(out: &mut Vec<u8>, family: &Family) -> Result<(), AllocError>
-    ensures { OnOk result (out.new.items ≡ out.old.items ++ family_text family.now) }
+/// Adds the line that says the kind of a family.
+fn write_type(out: &mut Vec<u8>, family: &Family) -> Result<(), AllocError>
+    ensures { OnOk result (out.new.items ≡ out.old.items ++ type_text family.now) }
 {
     out.extend_from_slice(b"# TYPE ")?;
     out.extend_from_slice(family.name)?;
-    out.extend_from_slice(kind_word(family.kind))?;
+    out.extend_from_slice(kind_word(family.kind))
+}
+
+/// Adds the line that says what a family is.
+fn write_help(out: &mut Vec<u8>, family: &Family) -> Result<(), AllocError>
+    ensures { OnOk result (out.new.items ≡ out.old.items ++ help_text family.now) }
+{
     out.extend_from_slice(b"# HELP ")?;
     out.extend_from_slice(family.name)?;
     out.extend_from_slice(b" ")?;
     out.extend_from_slice(family.help)?;
     out.extend_from_slice(b"\n")
+}
+
+/// Adds the lines with which a family begins.
+fn write_family(out: &mut Vec<u8>, family: &Family) -> Result<(), AllocError>
+    ensures { OnOk result (out.new.items ≡ out.old.items ++ family_text family.now) }
+{
+    write_type(out, family)?;
+    write_help(out, family)
 }
 
 /// Adds the line of a number, by what stands after its family's name, and its labels.

@@ -9,6 +9,7 @@ mod audit;
 mod capacity;
 mod clock;
 mod heads;
+mod labels;
 pub mod laws;
 mod lines;
 mod log;

@@ -1,7 +1,10 @@
 //! The answer to `stats`: the sums of what the loops count, and the numbers of what they share.
 
-use crate::tally::{Bound, Class, Count, Dealing, LoopTally};
-use exchange_report::{Family, Kind, Metric, REASONS, Reason, Reply, Why, metrics_text};
+use crate::labels::{
+    BOUNDS, CLASSES, FAILURES, POINTS, REQMOD_REPLIES, RESPMOD_REPLIES, counter, gauge,
+};
+use crate::tally::{Count, Dealing, LoopTally};
+use exchange_report::{Family, Kind, Metric, REASONS, Why, metrics_text};
 use service_pool::Numbers;
 use span_bank::Book;
 use std::alloc::{AllocError, Global};
@@ -29,84 +32,6 @@ pub struct Figures {
     /// Seconds since the start.
     pub uptime: u64,
 }
-
-/// A family of counters.
-const fn counter(name: &'static [u8], help: &'static [u8]) -> Family {
-    Family {
-        name,
-        kind: Kind::Counter,
-        help,
-    }
-}
-
-/// A family of numbers that rise and fall.
-const fn gauge(name: &'static [u8], help: &'static [u8]) -> Family {
-    Family {
-        name,
-        kind: Kind::Gauge,
-        help,
-    }
-}
-
-/// The labels of answers, by the class of their status.
-const CLASSES: [(Class, &[u8]); 6] = [
-    (Class::Informational, b"{class=\"1xx\"}"),
-    (Class::Successful, b"{class=\"2xx\"}"),
-    (Class::Redirection, b"{class=\"3xx\"}"),
-    (Class::ClientError, b"{class=\"4xx\"}"),
-    (Class::ServerError, b"{class=\"5xx\"}"),
-    (Class::Other, b"{class=\"other\"}"),
-];
-
-/// The labels of requests, by the final reply of the service.
-const REQMOD_REPLIES: [(Reply, &[u8]); 4] = [
-    (Reply::Plain, b"{point=\"reqmod\",outcome=\"plain\"}"),
-    (Reply::Unchanged, b"{point=\"reqmod\",outcome=\"204\"}"),
-    (Reply::Changed, b"{point=\"reqmod\",outcome=\"200\"}"),
-    (Reply::Missing, b"{point=\"reqmod\",outcome=\"failed\"}"),
-];
-
-/// The labels of responses, by the final reply of the service.
-const RESPMOD_REPLIES: [(Reply, &[u8]); 4] = [
-    (Reply::Plain, b"{point=\"respmod\",outcome=\"plain\"}"),
-    (Reply::Unchanged, b"{point=\"respmod\",outcome=\"204\"}"),
-    (Reply::Changed, b"{point=\"respmod\",outcome=\"200\"}"),
-    (Reply::Missing, b"{point=\"respmod\",outcome=\"failed\"}"),
-];
-
-/// The reasons why an answer is cut, or a user without one.
-const FAILURES: [Why; 11] = [
-    Why::Failed(Reason::RequestBroken),
-    Why::Failed(Reason::OriginBroken),
-    Why::Failed(Reason::OriginDeadline),
-    Why::Failed(Reason::ServiceRefused),
-    Why::Failed(Reason::ServiceStatus),
-    Why::Failed(Reason::ServiceBroken),
-    Why::Failed(Reason::ServiceDeadline),
-    Why::Failed(Reason::NoMemory),
-    Why::Failed(Reason::UserDeadline),
-    Why::UserGone,
-    Why::Failed(Reason::Stopping),
-];
-
-/// The points, with their names.
-const POINTS: [(Point, &[u8]); 2] = [(Point::Reqmod, b"reqmod"), (Point::Respmod, b"respmod")];
-
-/// The labels of a histogram's bounds, in seconds.
-const BOUNDS: [(Bound, &[u8]); 12] = [
-    (Bound::Milliseconds5, b"{le=\"0.005\"}"),
-    (Bound::Milliseconds10, b"{le=\"0.01\"}"),
-    (Bound::Milliseconds25, b"{le=\"0.025\"}"),
-    (Bound::Milliseconds50, b"{le=\"0.05\"}"),
-    (Bound::Milliseconds100, b"{le=\"0.1\"}"),
-    (Bound::Milliseconds250, b"{le=\"0.25\"}"),
-    (Bound::Milliseconds500, b"{le=\"0.5\"}"),
-    (Bound::Seconds1, b"{le=\"1.0\"}"),
-    (Bound::Milliseconds2500, b"{le=\"2.5\"}"),
-    (Bound::Seconds5, b"{le=\"5.0\"}"),
-    (Bound::Seconds10, b"{le=\"10.0\"}"),
-    (Bound::None, b"{le=\"+Inf\"}"),
-];
 
 /// The numbers, in the order of the text.
 #[derive(Drop)]
@@ -367,6 +292,40 @@ impl<'a> Sheet<'a> {
             figures.over,
         )
     }
+
+    /// What the loops count.
+    fn put_loops(&mut self) -> Result<(), AllocError> {
+        self.put_counts()?;
+        self.put_refusals()?;
+        self.put_failures()?;
+        self.put_times()?;
+        self.put_messages()
+    }
+
+    /// The lines of the log that are lost, and the seconds since the start.
+    fn put_log(&mut self, lost: u64, uptime: u64) -> Result<(), AllocError> {
+        self.one(
+            counter(
+                b"adaptproxy_log_lines_lost",
+                b"Lines of the log that could not be written.",
+            ),
+            lost,
+        )?;
+        self.one(
+            gauge(b"adaptproxy_uptime_seconds", b"Seconds since the start."),
+            uptime,
+        )
+    }
+
+    /// The numbers of what they share.
+    fn put_shared(&mut self, figures: &Figures) -> Result<(), AllocError> {
+        self.put_users(figures)?;
+        self.put_pools(figures.reqmod, figures.respmod)?;
+        self.put_waiting(figures.reqmod_waiting, figures.respmod_waiting)?;
+        self.put_origins()?;
+        self.put_book(figures.book)?;
+        self.put_log(figures.lost, figures.uptime)
+    }
 }
 
 /// The counters of all loops, and the numbers of what they share, as OpenMetrics text.
@@ -379,26 +338,7 @@ pub fn stats_text(
         metrics: Vec::new(alloc),
         tallies,
     };
-    sheet.put_counts()?;
-    sheet.put_refusals()?;
-    sheet.put_failures()?;
-    sheet.put_times()?;
-    sheet.put_messages()?;
-    sheet.put_users(figures)?;
-    sheet.put_pools(figures.reqmod, figures.respmod)?;
-    sheet.put_waiting(figures.reqmod_waiting, figures.respmod_waiting)?;
-    sheet.put_origins()?;
-    sheet.put_book(figures.book)?;
-    sheet.one(
-        counter(
-            b"adaptproxy_log_lines_lost",
-            b"Lines of the log that could not be written.",
-        ),
-        figures.lost,
-    )?;
-    sheet.one(
-        gauge(b"adaptproxy_uptime_seconds", b"Seconds since the start."),
-        figures.uptime,
-    )?;
+    sheet.put_loops()?;
+    sheet.put_shared(figures)?;
     metrics_text(alloc, sheet.metrics.as_slice())
 }

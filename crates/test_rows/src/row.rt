@@ -19,16 +19,21 @@ pub struct Row<'a> {
     pub(crate) said: &'a [u8],
 }
 
+/// A number with one decimal digit more. `None` for another byte, and for a number above `2^64 - 1`.
+pub(crate) fn counted(count: u64, byte: u8) -> Option<u64> {
+    if !byte.is_ascii_digit() {
+        return None;
+    }
+    count.checked_mul(10)?.checked_add(u64::from(byte - b'0'))
+}
+
 /// The number that decimal digits write. `None` for other bytes, for none and for a number above `2^64 - 1`.
 pub fn number(digits: &[u8]) -> Option<u64> {
-    let mut sum: u64 = 0;
+    let mut sum = if digits.is_empty() { None } else { Some(0) };
     for byte in digits {
-        if !byte.is_ascii_digit() {
-            return None;
-        }
-        sum = sum.checked_mul(10)?.checked_add(u64::from(*byte - b'0'))?;
+        sum = counted(sum?, *byte);
     }
-    if digits.is_empty() { None } else { Some(sum) }
+    sum
 }
 
 /// Whether a text is this one.

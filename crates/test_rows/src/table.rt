@@ -17,6 +17,18 @@ struct Mark {
     is_readable: bool,
 }
 
+impl Mark {
+    /// A row with no entry yet.
+    fn empty(line: u64, at: usize) -> Mark {
+        Mark {
+            line,
+            from: at,
+            to: at,
+            is_readable: true,
+        }
+    }
+}
+
 /// The rows of a file, its head among them.
 #[derive(Drop)]
 pub struct Table {
@@ -84,13 +96,7 @@ impl Table {
     /// Begins a row.
     fn open(&mut self, line: u64) -> Result<(), NoMemory> {
         self.is_open = true;
-        let at = self.entries.len();
-        self.rows.push(Mark {
-            line,
-            from: at,
-            to: at,
-            is_readable: true,
-        })?;
+        self.rows.push(Mark::empty(line, self.entries.len()))?;
         Ok(())
     }
 

@@ -1,4 +1,5 @@
 //! Texts with escapes and repeated parts.
+use crate::row::counted;
 use std::alloc::AllocError as NoMemory;
 
 /// Where the reading of a text is.
@@ -12,7 +13,7 @@ enum Mode {
     /// After `\x` and one digit.
     SecondHex(u8),
     /// After `\{` and some digits.
-    Count(usize),
+    Count(u64),
     /// After an escape that there isn't.
     Bad,
 }
@@ -23,7 +24,7 @@ struct Reading<'a> {
     place: Mode,
     said: &'a mut Vec<u8>,
     /// Where the part begins that is to be repeated, and how often.
-    part: Option<(usize, usize)>,
+    part: Option<(usize, u64)>,
 }
 
 /// The value of a hexadecimal digit.
@@ -48,23 +49,20 @@ fn escaped(byte: u8) -> Option<u8> {
     }
 }
 
-/// The count with one digit more.
-fn counted(count: usize, byte: u8) -> Option<usize> {
-    if !byte.is_ascii_digit() {
-        return None;
+/// Adds the bytes of these places anew.
+fn add_again(said: &mut Vec<u8>, from: usize, to: usize) -> Result<(), NoMemory> {
+    for at in from..to {
+        let byte = said.get(at).copied().unwrap_or_default();
+        said.push(byte)?;
     }
-    count.checked_mul(10)?.checked_add(usize::from(byte - b'0'))
+    Ok(())
 }
 
 /// Repeats the part from `from` on, so that it stands there `count` times.
-fn repeat(said: &mut Vec<u8>, from: usize, count: usize) -> Result<(), NoMemory> {
-    let end = said.len();
+fn repeat(said: &mut Vec<u8>, from: usize, count: u64) -> Result<(), NoMemory> {
+    let to = said.len();
     for _ in 1..count {
-        for at in from..end {
-            if let Some(byte) = said.get(at).copied() {
-                said.push(byte)?;
-            }
-        }
+        add_again(said, from, to)?;
     }
     Ok(())
 }
@@ -102,7 +100,7 @@ impl Reading<'_> {
         Ok(())
     }
 
-    fn step_count(&mut self, count: usize, byte: u8) {
+    fn step_count(&mut self, count: u64, byte: u8) {
         self.place = if byte == b'*' && count != 0 {
             self.part = Some((self.said.len(), count));
             Mode::Plain
