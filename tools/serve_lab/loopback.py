@@ -186,7 +186,7 @@ def ask(port, request, to_head=False):
 class Server:
     """A server of threads: `serve(connection, number)` for each connection."""
 
-    def __init__(self, serve, address="127.0.0.1"):
+    def __init__(self, serve, address="127.0.0.1", port=0):
         self.serve = serve
         self.count = 0
         self.inside = set()
@@ -194,7 +194,7 @@ class Server:
         self.lock = threading.Lock()
         self.sock = socket.socket()
         self.sock.setsockopt(socket.SOL_SOCKET, socket.SO_REUSEADDR, 1)
-        self.sock.bind((address, 0))
+        self.sock.bind((address, port))
         self.sock.listen(1024)
         self.port = self.sock.getsockname()[1]
         threading.Thread(target=self.run, daemon=True).start()
@@ -312,14 +312,14 @@ class Icap(Server):
     """An ICAP service of RESPMOD and REQMOD. `options` is its OPTIONS head without the empty line; `reply(conn, reader,
     head, count)` answers the request of this number, from 1, whose head was read."""
 
-    def __init__(self, reply=None, options=(), answer_options=True):
+    def __init__(self, reply=None, options=(), answer_options=True, port=0):
         self.reply = reply or self.no_modification
         self.extra = b"".join(line + b"\r\n" for line in options)
         self.answer_options = answer_options
         self.requests, self.questions = [], []
         self.release = threading.Event()
         self.asked = 0
-        super().__init__(self.session)
+        super().__init__(self.session, port=port)
 
     def session(self, conn, number):
         reader = Reader(conn)

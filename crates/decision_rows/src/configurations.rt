@@ -129,7 +129,8 @@ fn put_parent(out: &mut Vec<u8>, parent: &Option<SocketAddrV4>) -> Result<(), No
 }
 
 /// The names of the times, in the order of `put_times`.
-const TIMES: &[u8] = b"service_idle |\noptions_ttl |\nhead_deadline |\nconnect_deadline ";
+const TIMES: &[u8] =
+    b"service_idle |\noptions_ttl |\nhead_deadline |\nconnect_deadline |\nservice_failures |\nservice_pause ";
 
 /// Adds each time but `deadline` and `wait`.
 fn put_times(out: &mut Vec<u8>, config: &Config) -> Result<(), NoMemory> {
@@ -138,6 +139,8 @@ fn put_times(out: &mut Vec<u8>, config: &Config) -> Result<(), NoMemory> {
         config.options_ttl,
         config.head_deadline,
         config.connect_deadline,
+        config.service_failures,
+        config.service_pause,
     ];
     put_counted(out, TIMES, &times)?;
     put_line(out, b"")

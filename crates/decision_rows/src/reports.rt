@@ -9,7 +9,7 @@ use std::alloc::Global;
 use test_rows::{NoMemory, Row, number};
 
 /// The reasons, in the order of the table that says what each is.
-const WHYS: [Why; 21] = [
+const WHYS: [Why; 22] = [
     Why::Served,
     Why::Failed(Reason::BadRequest),
     Why::Failed(Reason::NotServed),
@@ -23,6 +23,7 @@ const WHYS: [Why; 21] = [
     Why::Failed(Reason::ServiceStatus),
     Why::Failed(Reason::ServiceBroken),
     Why::Failed(Reason::ServiceDeadline),
+    Why::Failed(Reason::ServicePaused),
     Why::Failed(Reason::Busy),
     Why::Failed(Reason::Full),
     Why::Failed(Reason::NoRow),

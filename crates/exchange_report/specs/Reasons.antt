@@ -29,13 +29,14 @@ row_of reasons.ServiceRefused = row 8 (codes "service-refused") Elsewhere
 row_of reasons.ServiceStatus = row 9 (codes "service-status") Elsewhere
 row_of reasons.ServiceBroken = row 10 (codes "service-broken") Elsewhere
 row_of reasons.ServiceDeadline = row 11 (codes "service-deadline") Deadline
-row_of reasons.Busy = row 12 (codes "busy") Scarce
-row_of reasons.Full = row 13 (codes "full") Scarce
-row_of reasons.NoRow = row 14 (codes "no-row") Scarce
-row_of reasons.NoSeat = row 15 (codes "no-seat") Scarce
-row_of reasons.NoMemory = row 16 (codes "no-memory") Scarce
-row_of reasons.UserDeadline = row 17 (codes "user-deadline") Deadline
-row_of reasons.Stopping = row 18 (codes "stopping") causes.Stopping
+row_of reasons.ServicePaused = row 12 (codes "service-paused") Elsewhere
+row_of reasons.Busy = row 13 (codes "busy") Scarce
+row_of reasons.Full = row 14 (codes "full") Scarce
+row_of reasons.NoRow = row 15 (codes "no-row") Scarce
+row_of reasons.NoSeat = row 16 (codes "no-seat") Scarce
+row_of reasons.NoMemory = row 17 (codes "no-memory") Scarce
+row_of reasons.UserDeadline = row 18 (codes "user-deadline") Deadline
+row_of reasons.Stopping = row 19 (codes "stopping") causes.Stopping
 
 abbrev pub number_of : Reason → ℕ
 number_of reason = (row_of reason).number

@@ -33,6 +33,8 @@ pub enum Reason {
     ServiceBroken,
     /// The service moved no byte for too long.
     ServiceDeadline,
+    /// The service failed so often in a row that nothing goes to it for a while.
+    ServicePaused,
     /// All connections to the service are leased.
     Busy,
     /// The reservations would pass the buffer budget's capacity.
@@ -50,7 +52,7 @@ pub enum Reason {
 }
 
 /// All reasons, in the order of their numbers.
-pub const REASONS: [Reason; 19] = [
+pub const REASONS: [Reason; 20] = [
     Reason::BadRequest,
     Reason::NotServed,
     Reason::RequestBroken,
@@ -63,6 +65,7 @@ pub const REASONS: [Reason; 19] = [
     Reason::ServiceStatus,
     Reason::ServiceBroken,
     Reason::ServiceDeadline,
+    Reason::ServicePaused,
     Reason::Busy,
     Reason::Full,
     Reason::NoRow,
@@ -106,6 +109,7 @@ impl Reason {
             Reason::ServiceStatus => row(b"service-status", RefusalCause::Elsewhere),
             Reason::ServiceBroken => row(b"service-broken", RefusalCause::Elsewhere),
             Reason::ServiceDeadline => row(b"service-deadline", RefusalCause::Deadline),
+            Reason::ServicePaused => row(b"service-paused", RefusalCause::Elsewhere),
             Reason::Busy => row(b"busy", RefusalCause::Scarce),
             Reason::Full => row(b"full", RefusalCause::Scarce),
             Reason::NoRow => row(b"no-row", RefusalCause::Scarce),

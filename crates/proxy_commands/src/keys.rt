@@ -4,7 +4,7 @@
 type Entry = (&'static str, &'static str);
 
 /// The keys of the document.
-const OF_THE_DOCUMENT: [Entry; 30] = [
+const OF_THE_DOCUMENT: [Entry; 32] = [
     (
         "listen",
         "an IPv4 address and a port, as \"127.0.0.1:3128\"",
@@ -58,6 +58,11 @@ const OF_THE_DOCUMENT: [Entry; 30] = [
         "connect_deadline",
         "0 to 3600 seconds (default 0: that of deadline)",
     ),
+    (
+        "service_failures",
+        "0 to 1024 failures (default 0: no pause)",
+    ),
+    ("service_pause", "1 to 3600 seconds (default 30)"),
     (
         "hosts",
         "a table of host names, each with an IPv4 address and a port",

@@ -123,7 +123,7 @@ entrance_rows =
     ∷ row (codes "client_ip") (truth false) (λ c. c.client_ip)
     ∷ []
 
--- how long connections lie idle, and how long they may take to open
+-- how long connections lie idle and may take to open, and when a service is paused
 abbrev pub time_rows : List Row
 time_rows =
     row (codes "keep_origins") (number 0 1024 0) (λ c. c.keep_origins)
@@ -133,6 +133,8 @@ time_rows =
     ∷ row (codes "options_ttl") (number 0 2147483648 0) (λ c. c.options_ttl)
     ∷ row (codes "head_deadline") (number 0 3600 0) (λ c. c.head_deadline)
     ∷ row (codes "connect_deadline") (number 0 3600 0) (λ c. c.connect_deadline)
+    ∷ row (codes "service_failures") (number 0 1024 0) (λ c. c.service_failures)
+    ∷ row (codes "service_pause") (number 1 3600 30) (λ c. c.service_pause)
     ∷ []
 
 -- where requests and messages go

@@ -86,6 +86,10 @@ pub struct Config {
     pub head_deadline: u64,
     /// Seconds in which a connection to an origin or a service is open: 0 to 3,600; 0 where `deadline` holds for it.
     pub connect_deadline: u64,
+    /// After how many failures in a row a service is paused: 0 to 1,024; 0 where none is.
+    pub service_failures: u64,
+    /// Seconds for which it is paused then: 1 to 3,600.
+    pub service_pause: u64,
     /// Where named hosts are.
     pub hosts: Hosts,
     /// The service of requests; none where they aren't adapted.
@@ -99,11 +103,11 @@ pub struct Config {
         × IsWithin 0 MAX_ALLOW_LIMIT allow_limit × IsWithin 1 MAX_WINDOW window × IsWithin 0 3600 wait
         × IsWithin 0 4096 user_connections
         × IsWithin 0 1024 keep_origins × IsWithin 1 3600 origin_idle × IsWithin 0 3600 service_idle × IsWithin 0 2147483648 options_ttl × IsWithin 0 3600 head_deadline
-        × IsWithin 0 3600 connect_deadline },
+        × IsWithin 0 3600 connect_deadline × IsWithin 0 1024 service_failures × IsWithin 1 3600 service_pause },
 }
 
 /// The names of the keys.
-pub(crate) const KEYS: [&str; 30] = [
+pub(crate) const KEYS: [&str; 32] = [
     "listen",
     "admin",
     "shards",
@@ -130,6 +134,8 @@ pub(crate) const KEYS: [&str; 30] = [
     "options_ttl",
     "head_deadline",
     "connect_deadline",
+    "service_failures",
+    "service_pause",
     "hosts",
     "reqmod",
     "respmod",
@@ -196,6 +202,8 @@ impl Config {
             options_ttl: times.options_ttl,
             head_deadline: times.head_deadline,
             connect_deadline: times.connect_deadline,
+            service_failures: times.service_failures,
+            service_pause: times.service_pause,
             hosts,
             reqmod,
             respmod,

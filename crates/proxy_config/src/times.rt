@@ -1,4 +1,4 @@
-//! The keys that say how long connections lie idle, and how long they may take to open.
+//! The keys that say how long connections lie idle and may take to open, and when a service is paused.
 
 ghost use Rattle.proxy_config.specs.Values.{IsWithin};
 
@@ -8,7 +8,7 @@ use crate::values::read_number;
 use std::alloc::Global;
 use toml::Table;
 
-/// How long connections lie idle, and how long they may take to open, as [`Config`](crate::Config) has it.
+/// How long connections lie idle and may take to open, and when a service is paused, as [`Config`](crate::Config) has it.
 #[derive(Clone, Copy)]
 pub(crate) struct Times {
     pub keep_origins: u64,
@@ -18,8 +18,10 @@ pub(crate) struct Times {
     pub options_ttl: u64,
     pub head_deadline: u64,
     pub connect_deadline: u64,
+    pub service_failures: u64,
+    pub service_pause: u64,
     ghost in_range: { IsWithin 0 1024 keep_origins × IsWithin 1 3600 origin_idle × IsWithin 0 3600 service_idle × IsWithin 0 2147483648 options_ttl
-        × IsWithin 0 3600 head_deadline × IsWithin 0 3600 connect_deadline },
+        × IsWithin 0 3600 head_deadline × IsWithin 0 3600 connect_deadline × IsWithin 0 1024 service_failures × IsWithin 1 3600 service_pause },
 }
 
 impl Times {
@@ -35,7 +37,7 @@ impl Times {
     pub(crate) fn read(alloc: Global, table: &Table) -> Result<Times, ConfigFault>
         requires next { IsPast (codes "client_ip") (table_view table.now) }
         ensures ok { IfOk result (AreSaidOf HasTimes time_rows (table_view table.now)) }
-        ensures past { IfOk result (λ _. IsPast (codes "connect_deadline") (table_view table.now)) }
+        ensures past { IfOk result (λ _. IsPast (codes "service_pause") (table_view table.now)) }
         ensures err { IfErr result (Names (IsFirstFault (table_view table.now))) }
     {
         Ok(Times {
@@ -46,6 +48,8 @@ impl Times {
             options_ttl: read_number(alloc, table, "options_ttl", 0, 2_147_483_648, 0)?,
             head_deadline: read_number(alloc, table, "head_deadline", 0, 3_600, 0)?,
             connect_deadline: read_number(alloc, table, "connect_deadline", 0, 3_600, 0)?,
+            service_failures: read_number(alloc, table, "service_failures", 0, 1_024, 0)?,
+            service_pause: read_number(alloc, table, "service_pause", 1, 3_600, 30)?,
         })
     }
 }

@@ -4,7 +4,7 @@ use Rattle.std.proofs.Common.{◌≡◌, ◌↔◌, ℕ, List, Result, Ok, Err, 
 use Rattle.trace_core.specs.declared.history.Point.{Point}
 use Rattle.service_lines.specs.declared.connector.Act.{Act}
 use Rattle.service_lines.specs.declared.connector.LendFault.{LendFault}
-use Rattle.service_lines.specs.declared.connector.LendFault.TheVariants.{Busy, Unreached, NoMemory}
+use Rattle.service_lines.specs.declared.connector.LendFault.TheVariants.{Busy, Unreached, NoMemory, Paused}
 use Rattle.service_lines.specs.declared.leased.LeasedConnection.{LeasedConnection}
 use Rattle.service_lines.specs.declared.leased.Found.{Found}
 use Rattle.service_lines.specs.declared.leased.Found.TheVariants as found
@@ -14,9 +14,9 @@ use Rattle.service_lines.specs.Lending.{fault_in, is_reused, is_own, Tells, Find
 pub lends_found : {I U Q A : Type 0} (since home : I → ℕ) (point : Point) (now most thread : ℕ) (before between after : List Act → Type 0)
     → (what : Found I Q A) (result : Result (LeasedConnection U Q A) LendFault)
     → TakesLive before between what → Tells point what → FindsYoung since now most what → FindsOwn home thread what
-    → ((result ≡ Err Busy) ↔ (what ≡ found.Busy)) → IfOk result (λ connection. HasLease what connection.lease)
+    → ((result ≡ Err Busy) ↔ (what ≡ found.Busy)) → (result ≡ Err Paused → ⊥) → IfOk result (λ connection. HasLease what connection.lease)
     → ((p : List Act) → between p → after (after_lend since home what (fault_in result) p)) → Lends now most thread before after result
-lends_found since home point now most thread before between after (found.Idle idle lease) (Ok connection) takes tells young own busy has asked = (
+lends_found since home point now most thread before between after (found.Idle idle lease) (Ok connection) takes tells young own busy free has asked = (
   λ reused. record {
     dead = takes.dead;
     since = since idle;
@@ -27,26 +27,27 @@ lends_found since home point now most thread before between after (found.Idle id
   },
   λ fresh. absurd (let clash = sym fresh ∙ ap is_reused has ∙ tells.1 in cc),
 )
-lends_found since home point now most thread before between after (found.Idle idle lease) (Err Busy) takes tells young own busy has asked =
+lends_found since home point now most thread before between after (found.Idle idle lease) (Err Busy) takes tells young own busy free has asked =
     absurd (let clash = busy.0 refl in cc)
-lends_found since home point now most thread before between after (found.Idle idle lease) (Err Unreached) takes tells young own busy has asked =
+lends_found since home point now most thread before between after what (Err Paused) takes tells young own busy free has asked = absurd (free refl)
+lends_found since home point now most thread before between after (found.Idle idle lease) (Err Unreached) takes tells young own busy free has asked =
     inl (is_own lease, record { dead = takes.dead; since = since idle; home = home idle; young = young; at_home = own; each = λ p old. asked _ (takes.each p old) })
-lends_found since home point now most thread before between after (found.Idle idle lease) (Err NoMemory) takes tells young own busy has asked =
+lends_found since home point now most thread before between after (found.Idle idle lease) (Err NoMemory) takes tells young own busy free has asked =
     inl (is_own lease, record { dead = takes.dead; since = since idle; home = home idle; young = young; at_home = own; each = λ p old. asked _ (takes.each p old) })
-lends_found since home point now most thread before between after (found.Fresh lease) (Ok connection) takes tells young own busy has asked = (
+lends_found since home point now most thread before between after (found.Fresh lease) (Ok connection) takes tells young own busy free has asked = (
   λ reused. absurd (let clash = sym reused ∙ ap is_reused has ∙ tells.1 in cc),
   λ fresh. record { dead = takes.dead; each = λ p old. asked _ (takes.each p old) },
 )
-lends_found since home point now most thread before between after (found.Fresh lease) (Err Busy) takes tells young own busy has asked =
+lends_found since home point now most thread before between after (found.Fresh lease) (Err Busy) takes tells young own busy free has asked =
     absurd (let clash = busy.0 refl in cc)
-lends_found since home point now most thread before between after (found.Fresh lease) (Err Unreached) takes tells young own busy has asked =
+lends_found since home point now most thread before between after (found.Fresh lease) (Err Unreached) takes tells young own busy free has asked =
     inr (record { dead = takes.dead; each = λ p old. asked _ (takes.each p old) })
-lends_found since home point now most thread before between after (found.Fresh lease) (Err NoMemory) takes tells young own busy has asked =
+lends_found since home point now most thread before between after (found.Fresh lease) (Err NoMemory) takes tells young own busy free has asked =
     inr (record { dead = takes.dead; each = λ p old. asked _ (takes.each p old) })
-lends_found since home point now most thread before between after found.Busy (Ok connection) takes tells young own busy has asked = absurd has
-lends_found since home point now most thread before between after found.Busy (Err Busy) takes tells young own busy has asked =
+lends_found since home point now most thread before between after found.Busy (Ok connection) takes tells young own busy free has asked = absurd has
+lends_found since home point now most thread before between after found.Busy (Err Busy) takes tells young own busy free has asked =
     (takes.dead, λ p old. asked _ (takes.each p old))
-lends_found since home point now most thread before between after found.Busy (Err Unreached) takes tells young own busy has asked =
+lends_found since home point now most thread before between after found.Busy (Err Unreached) takes tells young own busy free has asked =
     absurd (let clash = busy.1 refl in cc)
-lends_found since home point now most thread before between after found.Busy (Err NoMemory) takes tells young own busy has asked =
+lends_found since home point now most thread before between after found.Busy (Err NoMemory) takes tells young own busy free has asked =
     absurd (let clash = busy.1 refl in cc)

@@ -1,11 +1,11 @@
 -- What was asked of a connector, the newest answer first, where connections are lent, renewed and put back.
-use Rattle.std.specs.Prelude.{◌≡◌, ℕ, zero, suc, ◌-◌, ◌<◌, ◌==◌, ◌⊎◌, Bool, true, false, List, ◌∷◌, Option, Some, None, Result, Ok, Err}
+use Rattle.std.specs.Prelude.{◌≡◌, ℕ, zero, suc, ◌-◌, ◌<◌, ◌==◌, ◌⊎◌, Bool, true, false, List, ◌∷◌, Option, Some, None, Result, Ok, Err, ⊤}
 use Rattle.trace_core.specs.declared.history.Point.{Point}
 use Rattle.trace_core.specs.declared.history.Point.TheVariants.{Reqmod, Respmod}
 use Rattle.service_lines.specs.declared.connector.Act.{Act}
 use Rattle.service_lines.specs.declared.connector.Act.TheVariants.{Opened, Looked, Resumed, Checked, Rested, Closed}
 use Rattle.service_lines.specs.declared.connector.LendFault.{LendFault}
-use Rattle.service_lines.specs.declared.connector.LendFault.TheVariants.{Busy, Unreached}
+use Rattle.service_lines.specs.declared.connector.LendFault.TheVariants.{Busy, Unreached, NoMemory, Paused}
 use Rattle.service_lines.specs.declared.leased.Leased.{Leased}
 use Rattle.service_lines.specs.declared.leased.Leased.TheVariants as leased
 use Rattle.service_lines.specs.declared.leased.LeasedConnection.{LeasedConnection}
@@ -16,6 +16,12 @@ use Rattle.service_lines.specs.declared.leased.Found.TheVariants as found
 abbrev pub fault_in : {A : Type 0} → Result A LendFault → Option LendFault
 fault_in (Ok x) = None
 fault_in (Err fault) = Some fault
+
+-- a fault that a connector itself meets
+abbrev pub IsOwn : LendFault → Type 0
+IsOwn Busy = ⊥
+IsOwn Paused = ⊥
+IsOwn fault = ⊤
 
 -- the point whose pool the lease is of
 abbrev pub point_of : {Q A : Type 0} → Leased Q A → Point
@@ -112,6 +118,7 @@ Lends now most thread before after (Ok connection) =
     (is_reused connection.lease ≡ true → LendsIdle now most thread (is_own connection.lease) before after None)
     × (is_reused connection.lease ≡ false → LendsFresh before after None)
 Lends now most thread before after (Err Busy) = (n : ℕ) × ((p : List Act) → before p → after (after_dead n p))
+Lends now most thread before after (Err Paused) = (p : List Act) → before p → after p
 Lends now most thread before after (Err fault) =
     ((own : Bool) × LendsIdle now most thread own before after (Some fault)) ⊎ LendsFresh before after (Some fault)
 

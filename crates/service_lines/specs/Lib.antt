@@ -3,3 +3,4 @@ pub mod Calls
 pub mod Latest
 pub mod Lending
 pub mod Limits
+pub mod Pauses

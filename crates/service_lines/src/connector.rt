@@ -1,8 +1,8 @@
 //! What opens connections and wakes threads, as traits.
 
-ghost use Rattle.std.specs.Prelude.{◌≡◌, ℕ, List, ◌∷◌, Err, IfOk, IfSome, is_some, true};
+ghost use Rattle.std.specs.Prelude.{◌≡◌, ℕ, List, ◌∷◌, IfOk, IfErr, IfSome, is_some, true};
 ghost use Rattle.service_lines.specs.declared.connector.Act.{Act as AnyAct};
-ghost use Rattle.service_lines.specs.Lending.{fault_in};
+ghost use Rattle.service_lines.specs.Lending.{fault_in, IsOwn};
 
 /// Why no connection to a service can be lent.
 #[derive(Clone, Copy, Debug, PartialEq, Eq, Drop)]
@@ -13,6 +13,8 @@ pub enum LendFault {
     Unreached,
     /// No memory, no descriptor or no port was found.
     NoMemory,
+    /// The service failed so often that it is paused.
+    Paused,
 }
 
 /// What a connector was asked, with its answer.
@@ -114,9 +116,9 @@ pub trait Connector<E: Edge>: Keeper<E> {
     /// are lent first.
     fn is_known_quiet(&self, idle: &E::Idle) -> bool;
 
-    /// Opens a connection to the service that is there. It may still be on its way. It is never `Busy`.
+    /// Opens a connection to the service that is there. It may still be on its way. The fault is the connector's own: neither `Busy` nor `Paused`.
     fn open(&mut self, place: Self::Place) -> Result<Self::Used, LendFault>
-        ensures free { result ≡ Err LendFault.Busy → ⊥ }
+        ensures own { IfErr result IsOwn }
         ensures leads { IfOk result (λ used. leads place used) }
         ensures asked { (p : List AnyAct) → Self.past self.old p → Self.past self.new (Act.Opened (fault_in result) ∷ p) };
 
@@ -126,9 +128,9 @@ pub trait Connector<E: Edge>: Keeper<E> {
         ensures leads { result ≡ true → idle_leads place idle.now }
         ensures asked { (p : List AnyAct) → Self.past self.old p → Self.past self.new (Act.Looked result ∷ p) };
 
-    /// Brings an idle connection into use. Where it fails, the connection is closed. It is never `Busy`.
+    /// Brings an idle connection into use. Where it fails, the connection is closed. The fault is the connector's own: neither `Busy` nor `Paused`.
     fn resume(&mut self, idle: E::Idle) -> Result<Self::Used, LendFault>
-        ensures free { result ≡ Err LendFault.Busy → ⊥ }
+        ensures own { IfErr result IsOwn }
         ensures leads { (place : Self.Place) → idle_leads place idle → IfOk result (λ used. leads place used) }
         ensures asked { (p : List AnyAct) → Self.past self.old p → Self.past self.new (Act.Resumed (E.since idle) (E.home idle) (fault_in result) ∷ p) };
 }

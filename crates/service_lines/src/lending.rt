@@ -5,6 +5,7 @@ ghost use Rattle.service_lines.specs.declared.connector.Act.{Act as AnyAct};
 ghost use Rattle.service_lines.specs.Calls.{Calls};
 ghost use Rattle.service_lines.specs.Lending.{point_of, is_reused, fault_in, Tells, HasLease, IsOf, FindsYoung, FindsOwn, FindsLeading, Leads, after_take, after_lend, TakesLive, Lends, Reopens, LaysDown, PutsBack};
 
+use crate::breakers::Pass;
 use crate::connector::{Act, Connector, Edge, Keeper, LendFault};
 use crate::leased::{Found, Leased, LeasedConnection};
 use crate::pools::Pools;
@@ -119,6 +120,7 @@ impl<'a, E: Edge, Q: Ledger, A: Ledger> Pools<'a, E, Q, A> {
         requires leads { FindsLeading (C.idle_leads place) found }
         ensures leads { Leads (C.leads place) result }
         ensures busy { (result ≡ Err LendFault.Busy) ↔ (found ≡ Found.Busy) }
+        ensures free { result ≡ Err LendFault.Paused → ⊥ }
         ensures lease { IfOk result (λ connection. HasLease found connection.lease) }
         ensures asked { (p : List AnyAct) → C.past connector.old p → C.past connector.new (after_lend E.since E.home found (fault_in result) p) }
     {
@@ -136,7 +138,7 @@ impl<'a, E: Edge, Q: Ledger, A: Ledger> Pools<'a, E, Q, A> {
     }
 
     /// Lends a connection to a point's service, which is there, at this moment, in seconds: an idle one first, and its
-    /// own thread's before another's. It is the turn of the one who gets it.
+    /// own thread's before another's. It is the turn of the one who gets it, and the service's breaker lets it through.
     fn lend_now<R: Wait, C: Connector<E>>(
         &self,
         rt: &R,
@@ -144,36 +146,44 @@ impl<'a, E: Edge, Q: Ledger, A: Ledger> Pools<'a, E, Q, A> {
         point: Point,
         place: C::Place,
         turn: Turn,
-        now: u64,
+        pass: Pass,
     ) -> Result<LeasedConnection<C::Used, Q, A>, LendFault>
-        requires { turn.seconds ≡ self.now.waiting.seconds }
+        requires turn { turn.seconds ≡ self.now.waiting.seconds }
+        requires pass { pass.failures ≡ self.now.waiting.queues.now.breakers.rule.failures }
         ensures leads { Leads (C.leads place) result }
         ensures point { IsOf point result }
-        ensures lends { Lends now self.now.idle_seconds self.now.thread (C.past connector.old) (C.past connector.new) result }
+        ensures lends { Lends pass.moment self.now.idle_seconds self.now.thread (C.past connector.old) (C.past connector.new) result }
     {
-        // That it is had is all that is asked of it.
+        // That both are had is all that is asked of them.
         drop(turn);
+        let now = pass.moment;
+        drop(pass);
         let found = self.take_live(rt, connector, point, place, now);
         self.lend_found(rt, connector, place, found)
     }
 
-    /// Lends a connection to a point's service, which is there, at this moment, in seconds: an idle one first, and this
-    /// thread's own before another's. One who comes while others wait for theirs gets none.
+    /// Lends a connection to a point's service, which is there, at this moment, in seconds, for a message of this one: an idle one first,
+    /// and this thread's own before another's. One who comes while others wait for theirs gets none, and nobody does while the service is
+    /// paused.
     pub fn lend<R: Wait, C: Connector<E>>(
         &self,
         rt: &R,
         connector: &mut C,
         point: Point,
         place: C::Place,
+        who: Waiter,
         now: u64,
     ) -> Result<LeasedConnection<C::Used, Q, A>, LendFault>
         ensures leads { Leads (C.leads place) result }
         ensures point { IsOf point result }
         ensures lends { Lends now self.now.idle_seconds self.now.thread (C.past connector.old) (C.past connector.new) result }
     {
-        match self.waiting.turn_of(rt, point, None) {
-            Some(turn) => self.lend_now(rt, connector, point, place, turn, now),
-            None => Err(LendFault::Busy),
+        let Some(turn) = self.waiting.turn_of(rt, point, None) else {
+            return Err(LendFault::Busy);
+        };
+        match self.waiting.pass_of(rt, point, who, now) {
+            Some(pass) => self.lend_now(rt, connector, point, place, turn, pass),
+            None => Err(LendFault::Paused),
         }
     }
 
@@ -194,7 +204,10 @@ impl<'a, E: Edge, Q: Ledger, A: Ledger> Pools<'a, E, Q, A> {
         let Some(turn) = self.waiting.turn_of(rt, point, Some(waiter)) else {
             return Err(LendFault::Busy);
         };
-        let lent = self.lend_now(rt, connector, point, place, turn, now);
+        let Some(pass) = self.waiting.pass_of(rt, point, waiter, now) else {
+            return Err(LendFault::Paused);
+        };
+        let lent = self.lend_now(rt, connector, point, place, turn, pass);
         if lent.is_ok() {
             self.waiting.leave(rt, point, waiter);
         }

@@ -8,6 +8,8 @@ ghost use Rattle.std.specs.Prelude.{◌≡◌, ◌↔◌, false, None, IfSome};
 ghost use Rattle.std.specs.Option.{ForSome, ForNone};
 ghost use Rattle.service_lines.specs.Calls.{Calls, Wakes};
 
+use crate::breaker::PauseRule;
+use crate::breakers::{Breakers, Pass};
 use crate::connector::Edge;
 use std::alloc::{AllocError, Global};
 use std::sync::{Mutex, Wait};
@@ -22,14 +24,17 @@ pub const POINTS: [Point; 2] = [Point::Reqmod, Point::Respmod];
 pub struct Queues {
     request: Mutex<WaitQueue>,
     response: Mutex<WaitQueue>,
+    /// What lets messages through to the services.
+    pub breakers: Breakers,
 }
 
 impl Queues {
-    /// Empty ones, of at most `most` exchanges each. `Err` where no memory was found for them.
-    pub fn new(alloc: Global, most: usize) -> Result<Queues, AllocError> {
+    /// Empty ones, of at most `most` exchanges each; services are paused by this rule. `Err` where no memory was found for them.
+    pub fn new(alloc: Global, most: usize, rule: PauseRule) -> Result<Queues, AllocError> {
         Ok(Queues {
             request: Mutex::new(WaitQueue::new(alloc, most)?),
             response: Mutex::new(WaitQueue::new(alloc, most)?),
+            breakers: Breakers::new(rule),
         })
     }
 }
@@ -127,6 +132,19 @@ impl<'a, E: Edge> Waiting<'a, E> {
         } else {
             None
         }
+    }
+
+    /// Lets a message of this one through to its service at this moment, unless that is paused.
+    pub(crate) fn pass_of<R: Wait>(
+        &self,
+        rt: &R,
+        point: Point,
+        who: Waiter,
+        now: u64,
+    ) -> Option<Pass>
+        ensures { IfSome result (λ pass. (pass.failures ≡ self.now.queues.now.breakers.rule.failures) × (pass.who ≡ who) × (pass.moment ≡ now)) }
+    {
+        self.queues.breakers.pass_of(rt, point, who, now)
     }
 
     /// How many wait.

@@ -4,7 +4,7 @@ use Rattle.std.proofs.Common.{◌≡◌, ℕ, ◌⊎◌, inl, inr, List, [], Som
 use Rattle.service_lines.specs.declared.connector.Act.{Act}
 use Rattle.service_lines.specs.declared.connector.Act.TheVariants.{Opened}
 use Rattle.service_lines.specs.declared.connector.LendFault.{LendFault}
-use Rattle.service_lines.specs.declared.connector.LendFault.TheVariants.{Busy, Unreached, NoMemory}
+use Rattle.service_lines.specs.declared.connector.LendFault.TheVariants.{Busy, Unreached, NoMemory, Paused}
 use Rattle.service_lines.specs.declared.latest.Latest.{Latest}
 use Rattle.service_lines.specs.declared.leased.Leased.{Leased}
 use Rattle.service_lines.specs.declared.leased.LeasedConnection.{LeasedConnection}
@@ -32,6 +32,7 @@ pub fails_of : {U Q A : Type 0} → (now most thread : ℕ) → (old asked : Lat
     → IsLatest old [] → Lends now most thread (IsLatest old) (IsLatest asked) lent → IfErr lent (FailsBy asked)
 fails_of now most thread old asked (Ok connection) start fails = tt
 fails_of now most thread old asked (Err Busy) start fails = tt
+fails_of now most thread old asked (Err Paused) start fails = (fails [] start).last
 fails_of now most thread old asked (Err Unreached) start (inl idle) = inr (idle.1.since, idle.1.home, (idle.1.each [] start).last)
 fails_of now most thread old asked (Err Unreached) start (inr fresh) = inl (fresh.each [] start).last
 fails_of now most thread old asked (Err NoMemory) start (inl idle) = inr (idle.1.since, idle.1.home, (idle.1.each [] start).last)

@@ -2,7 +2,7 @@
 use Rattle.std.specs.Prelude.{◌≡◌, ℕ, ◌<◌, ◌⊎◌, Bool, true, false, ⊤, Some, None}
 use Rattle.service_lines.specs.declared.connector.Act.TheVariants.{Opened, Looked, Resumed, Checked, Rested, Closed}
 use Rattle.service_lines.specs.declared.connector.LendFault.{LendFault}
-use Rattle.service_lines.specs.declared.connector.LendFault.TheVariants.{Busy}
+use Rattle.service_lines.specs.declared.connector.LendFault.TheVariants.{Busy, Paused}
 use Rattle.service_lines.specs.declared.latest.Latest.{Latest}
 use Rattle.service_lines.specs.declared.leased.Leased.{Leased}
 use Rattle.service_lines.specs.Lending.{is_reused, IsYoung}
@@ -21,9 +21,10 @@ pub record LendsBy {Q A : Type 0} (now most : ℕ) (asked : Latest) (lease : Lea
   pub idle : is_reused lease ≡ true → LendsIdle now most asked
   pub fresh : is_reused lease ≡ false → asked.last ≡ Some (Opened None)
 
--- none was lent: the connector itself failed last, for just that, unless others go first
+-- none was lent: the connector itself failed last, for just that, unless others go first; it was asked nothing where the service is paused
 abbrev pub FailsBy : Latest → LendFault → Type 0
 FailsBy asked Busy = ⊤
+FailsBy asked Paused = asked.last ≡ None
 FailsBy asked fault = (asked.last ≡ Some (Opened (Some fault))) ⊎ ((since : ℕ) × (home : ℕ) × (asked.last ≡ Some (Resumed since home (Some fault))))
 
 -- a connection was put back, where one may lie idle for so many seconds: it was laid down once it was found quiet, and is closed otherwise

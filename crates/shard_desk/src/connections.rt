@@ -127,7 +127,8 @@ pub(crate) fn waiter_of<S: Shares>(shared: &S, key: usize) -> Waiter {
     }
 }
 
-/// Leases a connection to a point's service, an idle one first. One that comes while others wait for theirs gets none.
+/// Leases a connection to a point's service, an idle one first. One that comes while others wait for theirs gets none, as nobody does while
+/// the service is paused.
 pub(crate) fn lend_now<S: Shares, R: Wait + Dial, G>(
     shared: &S,
     seats: &mut Seats,
@@ -140,9 +141,10 @@ pub(crate) fn lend_now<S: Shares, R: Wait + Dial, G>(
     ensures lends { IfOk result (λ lent. (config : AnyConfig) × S.config_is shared.now config × LendsBy at.entry.now.now config.service_idle asked.new lent.1) }
     ensures fails { IfErr result (FailsBy asked.new) }
 {
+    let who = waiter_of(shared, at.key);
     let place = address_of(shared.config(), point);
     let mut port = port_of(shared, seats, at);
-    let lent = pools_of(shared).lend(at.rt, &mut port, point, place, at.now);
+    let lent = pools_of(shared).lend(at.rt, &mut port, point, place, who, at.now);
     *seats = port.berth.seats;
     *asked = port.berth.asked;
     lent_of(lent)

@@ -6,6 +6,7 @@ ghost use Rattle.proxy_rules.specs.Plans.{AreLimits};
 
 use crate::kept::Moment;
 use crate::origins::KeptOrigins;
+use crate::pausing::tell_breakers;
 use crate::pools::pools_of;
 use crate::reporter::Reporter;
 use crate::shared::Shares;
@@ -184,6 +185,7 @@ impl<S: Shares> Seating for Desk<S> {
 
     fn leave<R: Wait + Clock>(&mut self, rt: &R, key: usize) {
         self.report(rt, key);
+        tell_breakers(&self.shared, rt, key);
         self.seats.leave(key);
         self.shared.tally().take(Count::Users, 1);
     }

@@ -11,6 +11,7 @@ mod kept;
 pub mod laws;
 mod origins;
 mod outside;
+mod pausing;
 mod pools;
 mod reporter;
 mod shared;

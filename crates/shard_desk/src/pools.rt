@@ -1,9 +1,9 @@
 //! Connections to services over sockets: how they lie idle, and what their lending asks of a thread's loop.
 
-ghost use Rattle.std.specs.Prelude.{◌≡◌, ◌↔◌, true, Some, Ok, Err, IfOk, IfSome};
+ghost use Rattle.std.specs.Prelude.{◌≡◌, ◌↔◌, true, Some, Ok, IfOk, IfErr, IfSome};
 ghost use Rattle.proxy_config.specs.declared.config.Config.{Config as AnyConfig};
 ghost use Rattle.service_lines.specs.Latest.{IsLatest};
-ghost use Rattle.service_lines.specs.Lending.{fault_in};
+ghost use Rattle.service_lines.specs.Lending.{fault_in, IsOwn};
 
 use crate::shared::Shares;
 use event_loop::{IdlePermit, Inbox, Room};
@@ -165,7 +165,7 @@ fn is_want_of_room(error: &io::Error) -> bool {
 }
 
 /// A wire over a new socket, for the exchange under this key. Want of memory, of a descriptor or of a port is another answer than a host
-/// that can't be reached. It is never `Busy`.
+/// that can't be reached. The fault is its own: neither `Busy` nor `Paused`.
 fn wire_of<P: Role>(
     seats: &mut Seats,
     registry: &Registry,
@@ -173,7 +173,7 @@ fn wire_of<P: Role>(
     ready: Readiness,
     opened: io::Result<Stream<P>>,
 ) -> Result<SocketWire<P>, LendFault>
-    ensures free { result ≡ Err LendFault.Busy → ⊥ }
+    ensures own { IfErr result IsOwn }
     ensures stream { IfOk result (λ wire. opened ≡ Ok wire.stream) }
 {
     match opened {
@@ -194,7 +194,7 @@ pub(crate) fn dial<P: Role + Called, R: Dial>(
     key: usize,
     address: SocketAddrV4,
 ) -> Result<SocketWire<P>, LendFault>
-    ensures free { result ≡ Err LendFault.Busy → ⊥ }
+    ensures own { IfErr result IsOwn }
     ensures leads { IfOk result (λ wire. wire.stream.to ≡ Some address) }
 {
     let opened = rt.dial(address);

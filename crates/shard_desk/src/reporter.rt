@@ -1,6 +1,6 @@
 //! When something is noted of an exchange, and what becomes of it at its end.
 
-use crate::words::{is_answer, is_of_service, service_reason};
+use crate::words::{evidence_of, is_of_service};
 use adapt_turn::Outcome;
 use exchange_report::{Destination, Reason, Reply, Why};
 use http_side::{NextServer, Values};
@@ -135,21 +135,17 @@ impl Reporter {
 
     /// A transaction is over: what became of its message, and of the answer where its user wasn't gone before.
     pub fn end(&mut self, tally: &LoopTally, key: usize, end: MessageEnd<'_>) {
+        let evidence = evidence_of(&end);
         let MessageEnd {
             seen,
             outcome,
-            service_fault,
-            service_is_fresh,
+            service_fault: _,
+            service_is_fresh: _,
             next_is_fresh,
             found,
             adapted_head,
             has_answered,
         } = end;
-        let evidence = Evidence {
-            service: service_reason(service_fault, service_is_fresh),
-            next_is_fresh,
-            to_user: seen.plan.point == Point::Respmod || seen.modified && is_answer(adapted_head),
-        };
         self.message(tally, key, &seen, has_answered);
         if let Some(found) = found {
             let name = what_was_found(found.infection, found.virus);
@@ -208,6 +204,14 @@ impl Reporter {
     fn goes_on(&mut self, key: usize) {
         if let Some(note) = self.notes.get_mut(key) {
             note.point = Point::Respmod;
+        }
+    }
+
+    /// The point of the message that is under way.
+    pub fn point(&mut self, key: usize) -> Option<Point> {
+        match self.notes.get_mut(key) {
+            Some(note) => Some(note.point),
+            None => None,
         }
     }
 

@@ -6,7 +6,9 @@ ghost use Rattle.exchange_report.specs.Reasons.{cause_of};
 
 use adapt_sides::ClientFault;
 use exchange_report::Reason;
-use shard_report::status_in;
+use shard_outside::MessageEnd;
+use shard_report::{Evidence, status_in};
+use trace_core::Point;
 
 /// Why a service failed. `is_fresh`: nothing went over its connection.
 pub(crate) fn service_reason(fault: Option<ClientFault>, is_fresh: bool) -> Reason
@@ -26,6 +28,16 @@ pub(crate) fn asked_reason(fault: Option<ClientFault>, is_fresh: bool) -> Reason
     match fault {
         None => Reason::ServiceStatus,
         fault => service_reason(fault, is_fresh),
+    }
+}
+
+/// What tells why a transaction failed, if it did.
+pub(crate) fn evidence_of(end: &MessageEnd<'_>) -> Evidence {
+    let seen = &end.seen;
+    Evidence {
+        service: service_reason(end.service_fault, end.service_is_fresh),
+        next_is_fresh: end.next_is_fresh,
+        to_user: seen.plan.point == Point::Respmod || seen.modified && is_answer(end.adapted_head),
     }
 }
 

@@ -3,7 +3,7 @@ use Rattle.std.specs.Prelude.{Bool, true, false, Option, Some, None}
 use Rattle.exchange_core.specs.Dues as dues
 use Rattle.exchange_report.specs.Reasons.{cause_of}
 use Rattle.exchange_report.specs.declared.reason.Reason.{Reason}
-use Rattle.exchange_report.specs.declared.reason.Reason.TheVariants.{BadRequest, NotServed, OriginBroken, ServiceRefused, ServiceStatus, ServiceBroken, Busy, Full, NoRow, NoMemory}
+use Rattle.exchange_report.specs.declared.reason.Reason.TheVariants.{BadRequest, NotServed, OriginBroken, ServiceRefused, ServiceStatus, ServiceBroken, ServicePaused, Busy, Full, NoRow, NoMemory}
 use Rattle.adapt_sides.specs.declared.fault.ClientFault.{ClientFault}
 use Rattle.adapt_sides.specs.declared.fault.ClientFault.TheVariants as client
 use Rattle.adapt_sides.specs.declared.fault.RelayFault.{RelayFault}
@@ -67,6 +67,7 @@ abbrev pub lend_reason : LendFault → Reason
 lend_reason lending.Busy = Busy
 lend_reason lending.Unreached = ServiceRefused
 lend_reason lending.NoMemory = NoMemory
+lend_reason lending.Paused = ServicePaused
 
 -- where a message has no plan though its service was asked
 abbrev pub unplanned_reason : Unplanned → Reason

@@ -66,6 +66,7 @@ pub fn lend_reason(fault: LendFault) -> Reason
         LendFault::Busy => Reason::Busy,
         LendFault::Unreached => Reason::ServiceRefused,
         LendFault::NoMemory => Reason::NoMemory,
+        LendFault::Paused => Reason::ServicePaused,
     }
 }
 

@@ -1,8 +1,10 @@
 //! What the threads have in common: their inboxes, what they count, the log, the queues and the descriptors.
 
+ghost use Rattle.std.specs.Prelude.{◌≡◌};
+
 use event_loop::{Inbox, Room};
 use proxy_config::{Config, ServicePoint};
-use service_lines::Queues;
+use service_lines::{PauseRule, Queues};
 use service_pool::Pool;
 use shard_desk::Spare;
 use shard_report::{Log, LoopTally};
@@ -24,6 +26,16 @@ fn room_of(config: &Config) -> Room {
     let idle = idle_connections(&config.reqmod).saturating_add(idle_connections(&config.respmod));
     let askers = if config.metrics.is_some() { 2 } else { 1 };
     Room::of_system(config.shards.saturating_add(1), askers, idle)
+}
+
+/// When services are paused.
+fn pause_rule(config: &Config) -> PauseRule
+    ensures { result ≡ record { failures = config.now.service_failures; seconds = config.now.service_pause } }
+{
+    PauseRule {
+        failures: config.service_failures,
+        seconds: config.service_pause,
+    }
 }
 
 /// The connections to both services, which all threads share.
@@ -123,7 +135,7 @@ pub fn board_of(alloc: Global, config: &Config, file: Option<File>) -> Result<Bo
         inboxes: Vec::new(alloc),
         tallies,
         log: Log::new(alloc, file, count)?,
-        queues: Queues::new(alloc, config.rows as usize)?,
+        queues: Queues::new(alloc, config.rows as usize, pause_rule(config))?,
         room: Arc::new(alloc, room_of(config))?,
     })
 }

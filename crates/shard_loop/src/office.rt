@@ -81,12 +81,15 @@ impl<'a, S: Shares, F: Append> Office<'a, S, F> {
         let shared = &self.shared;
         let config = shared.config();
         let waiting = pools_of(shared).waiting;
+        let breakers = &shared.queues().breakers;
         Figures {
             seats: config.shards.saturating_mul(config.rows),
             reqmod: shared.requests().numbers(rt),
             reqmod_waiting: waiting.len(rt, Point::Reqmod),
+            reqmod_paused: breakers.is_paused(rt, Point::Reqmod),
             respmod: shared.responses().numbers(rt),
             respmod_waiting: waiting.len(rt, Point::Respmod),
+            respmod_paused: breakers.is_paused(rt, Point::Respmod),
             book: shared.bank().book(rt, None),
             refused: shared.room().refused(),
             over: shared.room().over(),

@@ -15,12 +15,14 @@ use trace_core::Point;
 pub struct Figures {
     /// How many users can be served at once.
     pub seats: u64,
-    /// The connections to the service of requests, and how many exchanges wait for one.
+    /// The connections to the service of requests, how many exchanges wait for one, and whether it is paused.
     pub reqmod: Numbers,
     pub reqmod_waiting: u64,
-    /// The connections to the service of responses, and how many exchanges wait for one.
+    pub reqmod_paused: bool,
+    /// The connections to the service of responses, how many exchanges wait for one, and whether it is paused.
     pub respmod: Numbers,
     pub respmod_waiting: u64,
+    pub respmod_paused: bool,
     /// The buffer budget.
     pub book: Book,
     /// Connections that were closed, since they came from elsewhere than users may.
@@ -237,6 +239,18 @@ impl<'a> Sheet<'a> {
         self.put(Metric::Sample(waiting, b"{point=\"respmod\"}", respmod))
     }
 
+    /// Whether the services are paused.
+    fn put_paused(&mut self, reqmod: bool, respmod: bool) -> Result<(), AllocError> {
+        let paused = gauge(
+            b"adaptproxy_service_paused",
+            b"Whether messages are refused for a while, since their service failed too often.",
+        );
+        self.put(Metric::Family(paused))?;
+        let (reqmod, respmod) = (u64::from(reqmod), u64::from(respmod));
+        self.put(Metric::Sample(paused, b"{point=\"reqmod\"}", reqmod))?;
+        self.put(Metric::Sample(paused, b"{point=\"respmod\"}", respmod))
+    }
+
     /// The buffer budget.
     fn put_book(&mut self, book: Book) -> Result<(), AllocError> {
         self.one(
@@ -322,6 +336,7 @@ impl<'a> Sheet<'a> {
         self.put_users(figures)?;
         self.put_pools(figures.reqmod, figures.respmod)?;
         self.put_waiting(figures.reqmod_waiting, figures.respmod_waiting)?;
+        self.put_paused(figures.reqmod_paused, figures.respmod_paused)?;
         self.put_origins()?;
         self.put_book(figures.book)?;
         self.put_log(figures.lost, figures.uptime)

@@ -167,7 +167,7 @@ impl<'a, W: StageWire<'a>, B: Ledgers> Memory<'a, W, B> {
         word
     }
 
-    /// A lease: `busy`, `unreached` and `memory` have it fail, and `idle` has its connection be one that was idle.
+    /// A lease: `busy`, `unreached`, `memory` and `paused` have it fail, and `idle` has its connection be one that was idle.
     fn lease(&mut self, point: Point) -> Result<(W, Lease), LendFault>
         ensures { IfOk result (λ lent. lent.1.point ≡ point) }
     {
@@ -175,6 +175,7 @@ impl<'a, W: StageWire<'a>, B: Ledgers> Memory<'a, W, B> {
             b"busy" => return Err(LendFault::Busy),
             b"unreached" => return Err(LendFault::Unreached),
             b"memory" => return Err(LendFault::NoMemory),
+            b"paused" => return Err(LendFault::Paused),
             b"idle" => return Ok((self.open_service(), lease_of(point, true))),
             _ => {}
         }

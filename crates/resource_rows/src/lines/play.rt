@@ -5,13 +5,14 @@ use crate::lines::stage::{Idle, Memory, Stage};
 use crate::lines::steps::Play;
 use crate::steps::put_steps;
 use adapt_bytes::MAX_CONNECTIONS;
-use service_lines::{Pools, Queues, Waiting};
+use service_lines::{PauseRule, Pools, Queues, Waiting};
 use service_pool::{LEDGER_PARTS, Pool};
 use std::alloc::Global;
 use std::marker::Brand;
 use std::sync::Wait;
 use std::sync::ledger::{Blank, Ledger};
 use test_rows::{NoMemory, Row};
+use wait_queue::Waiter;
 
 /// The most connections that a row has lent.
 const HELD: usize = 16;
@@ -31,6 +32,7 @@ fn put_on<'a, 's, Q: Ledger, A: Ledger, R: Wait>(
         stage,
         pools,
         held: Vec::with_capacity(alloc, HELD)?,
+        who: Waiter { thread: 0, key: 0 },
     };
     let told = put_steps(&mut play, lines, out);
     play.close_all();
@@ -40,6 +42,7 @@ fn put_on<'a, 's, Q: Ledger, A: Ledger, R: Wait>(
         stage: _,
         pools: _,
         held,
+        who: _,
     } = play;
     held.destroy_empty();
     told
@@ -59,7 +62,12 @@ fn put_on_pools<'s, Q: Ledger, A: Ledger, R: Wait>(
 {
     let (request, response) = blanks;
     let maximum = row.number(b"maximum").unwrap_or(1).min(MAX_CONNECTIONS);
-    let queues = Queues::new(alloc, row.number(b"most").unwrap_or(4).min(64) as usize)?;
+    let rule = PauseRule {
+        failures: row.number(b"failures").unwrap_or(0),
+        seconds: row.number(b"pause").unwrap_or(30),
+    };
+    let most = row.number(b"most").unwrap_or(4).min(64) as usize;
+    let queues = Queues::new(alloc, most, rule)?;
     let request: Pool<Idle<'s>, Q> = Pool::new(alloc, request, maximum, 16)?;
     let response: Pool<Idle<'s>, A> = Pool::new(alloc, response, maximum, 16)?;
     let pools = Pools {

@@ -207,7 +207,7 @@ impl<'a, 'o> Connector<Memory<'a>> for Hand<'a, 'o> {
         let number = self.stage.opened.get().saturating_add(1);
         self.say(name, number);
         match self.stage.fault.get() {
-            Some(LendFault::Busy) | None => {
+            Some(LendFault::Busy | LendFault::Paused) | None => {
                 self.stage.opened.set(number);
                 self.say_truth(true);
                 Ok(number)
@@ -242,7 +242,7 @@ impl<'a, 'o> Connector<Memory<'a>> for Hand<'a, 'o> {
         };
         self.say(how, number);
         match self.stage.fault.get() {
-            Some(LendFault::Busy) | None => {
+            Some(LendFault::Busy | LendFault::Paused) | None => {
                 self.say_truth(true);
                 Ok(number)
             }

@@ -7,7 +7,7 @@ use crate::lines::words::{fault_name, first_number, first_word, put_lent, put_wo
 use crate::steps;
 use crate::words::{index_of, put_numbers};
 use adapt_bytes::MAX_CONNECTIONS;
-use service_lines::{Edge, LeasedConnection, LendFault, Pools, Waiting};
+use service_lines::{Breakers, Edge, LeasedConnection, LendFault, Pools, ServiceEnd, Waiting};
 use std::alloc::Global;
 use std::sync::Wait;
 use std::sync::ledger::Ledger;
@@ -17,7 +17,7 @@ use wait_queue::Waiter;
 
 /// The steps that threads take, in the order of `put_step`.
 const STEPS: &[u8] =
-    b"woken lend turn put close renew join leave first room maximum numbers tidy thread";
+    b"woken lend turn put close renew join leave first room maximum numbers tidy thread for answered failed untold paused";
 
 /// The steps from outside, in the order of `put_outside`.
 const OUTSIDE: &[u8] = b"end say read refuse short serve now poll";
@@ -32,6 +32,8 @@ pub struct Play<'a, 's, Q: Ledger, A: Ledger, R> {
     pub stage: &'s Stage,
     pub pools: Pools<'a, Memory<'s>, Q, A>,
     pub held: Held<Q, A>,
+    /// The one for whom connections are lent that doesn't wait.
+    pub who: Waiter,
 }
 
 /// The point that a step names, `response` or nothing, and what comes after it.
@@ -128,6 +130,32 @@ fn put_outside(stage: &Stage, word: &[u8], text: &[u8], out: &mut Vec<u8>) -> Re
     put_line(out, b"so")
 }
 
+/// What a step says of an end at a service.
+fn end_in(word: &[u8]) -> ServiceEnd {
+    match index_of(b"answered failed", word) {
+        Some(0) => ServiceEnd::Answered,
+        Some(1) => ServiceEnd::Failed,
+        _ => ServiceEnd::Untold,
+    }
+}
+
+/// A step at the breakers: what a message of this one, or of the one that is named, came to at its service; or whether that is paused.
+fn put_breakers<R: Wait>(
+    rt: &R,
+    breakers: &Breakers,
+    now: u64,
+    word: &[u8],
+    text: &[u8],
+    out: &mut Vec<u8>,
+) -> Result<(), NoMemory> {
+    let (point, rest) = point_of(text);
+    if says(word, b"paused") {
+        return put_truth(out, breakers.is_paused(rt, point));
+    }
+    breakers.end(rt, point, waiter_of(rest), now, end_in(word));
+    put_truth(out, breakers.is_paused(rt, point))
+}
+
 impl<'a, 's, Q: Ledger, A: Ledger, R: Wait> Play<'a, 's, Q, A, R> {
     /// Closes the connections that are lent.
     pub fn close_all(&mut self)
@@ -192,7 +220,10 @@ impl<'a, 's, Q: Ledger, A: Ledger, R: Wait> Play<'a, 's, Q, A, R> {
                 self.pools
                     .lend_in_turn(self.rt, &mut hand, point, point, waiter, now)
             },
-            None => self.pools.lend(self.rt, &mut hand, point, point, now),
+            None => {
+                let who = self.who;
+                self.pools.lend(self.rt, &mut hand, point, point, who, now)
+            }
         };
         let Hand {
             stage: _,
@@ -265,6 +296,15 @@ impl<'a, 's, Q: Ledger, A: Ledger, R: Wait> steps::Stage for Play<'a, 's, Q, A, 
             Some(13) => {
                 self.pools.thread = (first_number(text).0 % 10) as usize;
                 put_line(out, b"so")
+            }
+            Some(14) => {
+                self.who = waiter_of(text);
+                put_line(out, b"so")
+            }
+            Some(15..=18) => {
+                let breakers = &self.pools.waiting.queues.breakers;
+                let now = self.stage.now.get();
+                put_breakers(self.rt, breakers, now, word, text, out)
             }
             _ => put_outside(self.stage, word, text, out),
         }

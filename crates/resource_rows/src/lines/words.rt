@@ -24,6 +24,7 @@ pub fn fault_name(fault: LendFault) -> &'static [u8] {
         LendFault::Busy => b"busy",
         LendFault::Unreached => b"unreached",
         LendFault::NoMemory => b"no memory",
+        LendFault::Paused => b"paused",
     }
 }
 

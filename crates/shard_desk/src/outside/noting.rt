@@ -1,6 +1,7 @@
 //! What is noted of an exchange over sockets.
 
 use crate::desk::Desk;
+use crate::pausing::{message_end, refusal_end, tell_breaker};
 use crate::shared::Shares;
 use crate::words::asked_reason;
 use adapt_sides::ClientFault;
@@ -12,6 +13,17 @@ use socket_wire::{Dial, UserWire};
 use std::sync::Wait;
 use std::time::Clock;
 use wire_kit::{Gate, Wire};
+
+impl<S: Shares> Desk<S> {
+    /// Tells the breaker of its service that a message was refused for this reason.
+    fn tell_refusal<R: Wait>(&mut self, rt: &R, key: usize, now: u64, reason: Reason) {
+        let is_leased = self.seats.leases(key).is_some();
+        if let Some(point) = self.reporter.point(key) {
+            let end = refusal_end(reason, is_leased);
+            tell_breaker(&self.shared, rt, key, now, point, end);
+        }
+    }
+}
 
 impl<'r, S: Shares, R: Wait + Dial + Clock, G: Gate> Noting<Spot<'r, R, G>> for Desk<S> {
     fn note_request(&mut self, at: &Spot<'r, R, G>, request: &Incoming) {
@@ -60,9 +72,13 @@ impl<'r, S: Shares, R: Wait + Dial + Clock, G: Gate> Noting<Spot<'r, R, G>> for 
         }
         self.reporter
             .refusal(self.shared.tally(), at.key, taken, reason);
+        self.tell_refusal(at.rt, at.key, at.now, reason);
     }
 
     fn note_end(&mut self, at: &Spot<'r, R, G>, user: &UserWire, end: MessageEnd<'_>) {
+        let point = end.seen.plan.point;
+        let said = message_end(&end);
+        tell_breaker(&self.shared, at.rt, at.key, at.now, point, said);
         let (read, _) = user.counts();
         self.reporter.read(self.shared.tally(), at.key, read);
         self.reporter.end(self.shared.tally(), at.key, end);

@@ -17,5 +17,5 @@ returns-clause-ok c =
     c.in_ok-check_keys.ensures.ok
     (refl, refl, refl, refl, refl, refl, refl, refl)
     (refl, refl, refl, refl)
-    (refl, refl, refl, refl, refl, refl, refl)
+    (refl, refl, refl, refl, refl, refl, refl, refl, refl)
     (refl, refl, refl, refl)

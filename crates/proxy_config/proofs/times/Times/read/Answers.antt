@@ -12,4 +12,6 @@ returns-clause-ok c config has =
     & c.in_ok-read_number-4.ensures.ok ∙ ap Some (sym has.4)
     & c.in_ok-read_number-5.ensures.ok ∙ ap Some (sym has.5)
     & c.in_ok-read_number-6.ensures.ok ∙ ap Some (sym has.6)
+    & c.in_ok-read_number-7.ensures.ok ∙ ap Some (sym has.7)
+    & c.in_ok-read_number-8.ensures.ok ∙ ap Some (sym has.8)
     & tt
