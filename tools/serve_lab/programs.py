@@ -164,7 +164,7 @@ def the_page_for_squid_has_a_configuration_for_both(bench):
         same(word, "\n" + word in ours, True)
     with open(os.path.join(TOP, "docs", "FROM-SQUID.md")) as page:
         text = page.read()
-    for word in ("proxy_protocol_access", "client_ip_max_connections", "strip_query_terms", "error_directory", "umask"):
+    for word in ("proxy_protocol_access allow balancer", "client_ip_max_connections", "strip_query_terms", "error_directory", "umask"):
         same(word, "`" + word in text, True)
     if shutil.which("squid"):
         with tempfile.NamedTemporaryFile("w", suffix=".conf") as file:

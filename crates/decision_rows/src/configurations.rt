@@ -112,7 +112,8 @@ fn put_access(out: &mut Vec<u8>, config: &Config) -> Result<(), NoMemory> {
     out.extend_from_slice(b"denied")?;
     put_networks(out, &config.denied)?;
     put_number(out, b"user_connections", config.user_connections)?;
-    put_shown(out, b"client_ip", &config.client_ip)
+    put_shown(out, b"client_ip", &config.client_ip)?;
+    put_shown(out, b"proxy_protocol", &config.proxy_protocol)
 }
 
 /// Adds where the parent is.

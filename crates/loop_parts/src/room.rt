@@ -40,6 +40,8 @@ pub struct Room {
     refused: AtomicU64,
     /// How many were refused since their address had as many as it may.
     over: AtomicU64,
+    /// How many connections were closed that didn't begin with a header of the PROXY protocol.
+    unannounced: AtomicU64,
 }
 
 /// A user's permit. There is room for another one once it is dropped.
@@ -138,6 +140,7 @@ impl Room {
             ended: AtomicU64::new(0),
             refused: AtomicU64::new(0),
             over: AtomicU64::new(0),
+            unannounced: AtomicU64::new(0),
         }
     }
 
@@ -189,6 +192,16 @@ impl Room {
     /// How many connections were closed that came from elsewhere than users may.
     pub fn refused(&self) -> u64 {
         self.refused.load(Ordering::SeqCst)
+    }
+
+    /// A connection was closed that didn't begin with a header of the PROXY protocol.
+    pub fn lack_header(&self) {
+        let _ = self.unannounced.fetch_add(1, Ordering::SeqCst);
+    }
+
+    /// How many connections were closed that didn't begin with a header of the PROXY protocol.
+    pub fn unannounced(&self) -> u64 {
+        self.unannounced.load(Ordering::SeqCst)
     }
 
     /// How many users were refused since their address had as many connections as it may.

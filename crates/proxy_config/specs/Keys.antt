@@ -121,6 +121,7 @@ entrance_rows =
     ∷ row (codes "denied") denied_networks (λ c. c.denied.items)
     ∷ row (codes "user_connections") (number 0 4096 0) (λ c. c.user_connections)
     ∷ row (codes "client_ip") (truth false) (λ c. c.client_ip)
+    ∷ row (codes "proxy_protocol") (truth false) (λ c. c.proxy_protocol)
     ∷ []
 
 -- how long connections lie idle and may take to open, and when a service is paused

@@ -72,6 +72,8 @@ pub struct Config {
     pub user_connections: u64,
     /// Whether each message that is offered to a service says its user's address.
     pub client_ip: bool,
+    /// Whether each user's connection begins with a header of the PROXY protocol, which says where it comes from.
+    pub proxy_protocol: bool,
     /// The most idle connections to origins that each thread keeps: 0 to 1,024; 0 where each is closed after its answer.
     pub keep_origins: u64,
     /// Seconds after which an idle connection to an origin is closed: 1 to 3,600.
@@ -107,7 +109,7 @@ pub struct Config {
 }
 
 /// The names of the keys.
-pub(crate) const KEYS: [&str; 32] = [
+pub(crate) const KEYS: [&str; 33] = [
     "listen",
     "admin",
     "shards",
@@ -127,6 +129,7 @@ pub(crate) const KEYS: [&str; 32] = [
     "denied",
     "user_connections",
     "client_ip",
+    "proxy_protocol",
     "keep_origins",
     "origin_idle",
     "dial",
@@ -166,6 +169,7 @@ impl Config {
             denied,
             user_connections,
             client_ip,
+            proxy_protocol,
         } = Entrance::read(alloc, table)?;
         let times = Times::read(alloc, table)?;
         let Places {
@@ -195,6 +199,7 @@ impl Config {
             denied,
             user_connections,
             client_ip,
+            proxy_protocol,
             keep_origins: times.keep_origins,
             origin_idle: times.origin_idle,
             dial: times.dial,

@@ -16,6 +16,7 @@ pub(crate) struct Entrance {
     pub denied: Vec<Network>,
     pub user_connections: u64,
     pub client_ip: bool,
+    pub proxy_protocol: bool,
     ghost in_range: { IsWithin 0 4096 user_connections },
 }
 
@@ -32,7 +33,7 @@ impl Entrance {
     pub(crate) fn read(alloc: Global, table: &Table) -> Result<Entrance, ConfigFault>
         requires next { IsPast (codes "metrics") (table_view table.now) }
         ensures ok { IfOk result (AreSaidOf HasEntrance entrance_rows (table_view table.now)) }
-        ensures past { IfOk result (λ _. IsPast (codes "client_ip") (table_view table.now)) }
+        ensures past { IfOk result (λ _. IsPast (codes "proxy_protocol") (table_view table.now)) }
         ensures err { IfErr result (Names (IsFirstFault (table_view table.now))) }
     {
         Ok(Entrance {
@@ -40,6 +41,7 @@ impl Entrance {
             denied: read_denied(alloc, table)?,
             user_connections: read_number(alloc, table, "user_connections", 0, 4_096, 0)?,
             client_ip: read_truth(alloc, table, "client_ip", false)?,
+            proxy_protocol: read_truth(alloc, table, "proxy_protocol", false)?,
         })
     }
 }

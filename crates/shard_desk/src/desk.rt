@@ -4,6 +4,7 @@ ghost use Rattle.std.specs.Prelude.{◌≡◌, IfOk};
 ghost use Rattle.proxy_config.specs.declared.config.Config.{Config as AnyConfig};
 ghost use Rattle.proxy_rules.specs.Plans.{AreLimits};
 
+use crate::headers::{announce, header_of};
 use crate::kept::Moment;
 use crate::origins::KeptOrigins;
 use crate::pausing::tell_breakers;
@@ -15,11 +16,14 @@ use event_loop::USER;
 use mio::net::TcpStream;
 use plan_rules::Limits;
 use proxy_config::Config;
+use proxy_header::Reading;
 use proxy_rules::limits_of;
 use service_lines::{Latest, POINTS, PointBook};
 use shard_report::{Count, Dealing};
-use shard_work::{Purpose, SECOND, Seating, Seats, Terms};
+use shard_work::{Hearing, Purpose, SECOND, Seating, Seats, Terms};
+use socket_wire::UserWire;
 use std::alloc::{AllocError, Global};
+use std::net::Ipv4Addr;
 use std::sync::Wait;
 use std::time::Clock;
 use trace_core::Point;
@@ -131,6 +135,28 @@ impl<S: Shares> Desk<S> {
         self.tell_kept();
     }
 
+    /// The header of the connection under this key is whole: it comes from there, or from where it says itself.
+    fn begin_user<R: Wait>(
+        &mut self,
+        rt: &R,
+        key: usize,
+        now: u64,
+        from: Option<Ipv4Addr>,
+    ) -> Hearing {
+        let Some(from) = from.or(self.seats.user_address(key)) else {
+            return Hearing::Ends;
+        };
+        self.seats.touch(key, now);
+        announce(
+            rt,
+            &self.shared,
+            &mut self.seats,
+            &mut self.reporter,
+            key,
+            from,
+        )
+    }
+
     /// Has the services asked again before the next message is planned, where the administrator wants that.
     pub(crate) fn heed_refresh(&mut self)
         ensures { self.new.shared ≡ self.old.shared }
@@ -173,6 +199,27 @@ impl<S: Shares> Seating for Desk<S> {
 
     fn seats_mut(&mut self) -> &mut Seats {
         &mut self.seats
+    }
+
+    fn has_headers(&self) -> bool {
+        self.shared.config().proxy_protocol
+    }
+
+    fn hear_header<R: Wait>(
+        &mut self,
+        rt: &R,
+        key: usize,
+        now: u64,
+        user: &mut UserWire,
+    ) -> Hearing {
+        match header_of(user) {
+            Reading::Whole(header) => self.begin_user(rt, key, now, header.from),
+            Reading::Partial if !self.seats.is_late(key, now, self.deadline) => Hearing::Waits,
+            Reading::Partial | Reading::Fault => {
+                self.shared.room().lack_header();
+                Hearing::Ends
+            }
+        }
     }
 
     fn enter(&mut self, key: usize, purpose: Purpose, stream: &TcpStream) {

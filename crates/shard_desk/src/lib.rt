@@ -7,6 +7,7 @@
 
 mod connections;
 mod desk;
+mod headers;
 mod kept;
 pub mod laws;
 mod origins;

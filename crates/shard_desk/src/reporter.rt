@@ -13,7 +13,7 @@ use shard_report::{
     what_was_found, why_of, without_query,
 };
 use std::alloc::{AllocError, Global};
-use std::net::SocketAddr;
+use std::net::{Ipv4Addr, SocketAddr, SocketAddrV4};
 use std::sync::Wait;
 use std::time::Clock;
 use trace_core::{Point, Seen};
@@ -44,6 +44,13 @@ impl Reporter {
             _ => None,
         };
         self.notes.enter(key, user);
+    }
+
+    /// The user's connection comes from this address.
+    pub fn announce(&mut self, key: usize, from: Ipv4Addr) {
+        if let Some(note) = self.notes.get_mut(key) {
+            note.user = Some(address_of(SocketAddrV4::new(from, 0)));
+        }
     }
 
     /// There is no seat for the user.

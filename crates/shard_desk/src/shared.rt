@@ -5,13 +5,14 @@ ghost use Rattle.proxy_config.specs.declared.config.Config.{Config as AnyConfig}
 
 use crate::pools::Spare;
 use event_loop::{Inbox, Room};
+use loop_parts::Addresses;
 use proxy_config::Config;
 use service_lines::Queues;
 use service_pool::Pool;
 use shard_report::{Log, LoopTally};
 use span_bank::{Bank, Ledgers};
-use std::sync::Arc;
 use std::sync::ledger::Ledger;
+use std::sync::{Arc, Mutex};
 
 /// What all threads share, as one of them has it.
 pub trait Shares {
@@ -47,6 +48,9 @@ pub trait Shares {
     /// The descriptors that users and idle connections share.
     fn room(&self) -> &Arc<Room>;
 
+    /// How many connections each address has open that a header said.
+    fn addresses(&self) -> &Mutex<Addresses>;
+
     /// The number of the thread.
     fn number(&self) -> usize;
 
@@ -67,6 +71,7 @@ pub struct Shared<'a, B: Ledgers, Q: Ledger, A: Ledger> {
     pub queues: &'a Queues,
     pub inboxes: &'a [Inbox],
     pub room: &'a Arc<Room>,
+    pub addresses: &'a Mutex<Addresses>,
     /// The number of the thread, what it counts, and the log.
     pub number: usize,
     pub tally: &'a LoopTally,
@@ -108,6 +113,10 @@ impl<'a, B: Ledgers, Q: Ledger, A: Ledger> Shares for Shared<'a, B, Q, A> {
 
     fn room(&self) -> &Arc<Room> {
         self.room
+    }
+
+    fn addresses(&self) -> &Mutex<Addresses> {
+        self.addresses
     }
 
     fn number(&self) -> usize {

@@ -3,6 +3,7 @@
 ghost use Rattle.std.specs.Prelude.{◌≡◌};
 
 use event_loop::{Inbox, Room};
+use loop_parts::Addresses;
 use proxy_config::{Config, ServicePoint};
 use service_lines::{PauseRule, Queues};
 use service_pool::Pool;
@@ -10,8 +11,8 @@ use shard_desk::Spare;
 use shard_report::{Log, LoopTally};
 use std::alloc::{AllocError, Global};
 use std::fs::File;
-use std::sync::Arc;
 use std::sync::ledger::Ledger;
+use std::sync::{Arc, Mutex};
 
 /// The connections to a service that may lie idle whatever users need.
 fn idle_connections(service: &Option<ServicePoint>) -> u64 {
@@ -83,6 +84,9 @@ pub trait Common {
 
     /// The descriptors that users and idle connections share.
     fn room(&self) -> &Arc<Room>;
+
+    /// How many connections each address has open that a header said.
+    fn addresses(&self) -> &Mutex<Addresses>;
 }
 
 /// The board on which the threads find what they have in common.
@@ -93,6 +97,7 @@ pub struct Board {
     log: Log,
     queues: Queues,
     room: Arc<Room>,
+    addresses: Mutex<Addresses>,
 }
 
 impl Common for Board {
@@ -119,6 +124,10 @@ impl Common for Board {
     fn room(&self) -> &Arc<Room> {
         &self.room
     }
+
+    fn addresses(&self) -> &Mutex<Addresses> {
+        &self.addresses
+    }
 }
 
 /// The board of the threads that take users, before their inboxes are there.
@@ -137,5 +146,6 @@ pub fn board_of(alloc: Global, config: &Config, file: Option<File>) -> Result<Bo
         log: Log::new(alloc, file, count)?,
         queues: Queues::new(alloc, config.rows as usize, pause_rule(config))?,
         room: Arc::new(alloc, room_of(config))?,
+        addresses: Mutex::new(Addresses::new(alloc, config.user_connections)),
     })
 }

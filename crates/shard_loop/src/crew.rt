@@ -323,6 +323,7 @@ fn run_one<
         queues: common.queues(),
         inboxes,
         room: common.room(),
+        addresses: common.addresses(),
         number,
         tally,
         log: common.log(),

@@ -93,6 +93,7 @@ impl<'a, S: Shares, F: Append> Office<'a, S, F> {
             book: shared.bank().book(rt, None),
             refused: shared.room().refused(),
             over: shared.room().over(),
+            unannounced: shared.room().unannounced(),
             lost: shared.log().lost(),
             uptime: now,
         }

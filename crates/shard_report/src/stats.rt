@@ -29,6 +29,8 @@ pub struct Figures {
     pub refused: u64,
     /// Users that were refused, since their address had as many connections as it may.
     pub over: u64,
+    /// Connections that were closed, since they didn't begin with a header of the PROXY protocol.
+    pub unannounced: u64,
     /// Lines of the log that are lost.
     pub lost: u64,
     /// Seconds since the start.
@@ -304,6 +306,13 @@ impl<'a> Sheet<'a> {
                 b"Users that were refused, since their address had as many connections as it may.",
             ),
             figures.over,
+        )?;
+        self.one(
+            counter(
+                b"adaptproxy_users_unannounced",
+                b"Connections that were closed, since they began with no header of the PROXY protocol.",
+            ),
+            figures.unannounced,
         )
     }
 

@@ -91,6 +91,12 @@ pub record IsTaken (over : Bool) (from : Ipv4Addr) (old new : Seats) (key : ℕ)
   -- all other seats stay
   pub others : (other : ℕ) → other ≢ key → get new.all other ≡ get old.all other
 
+-- the seat under a key is that of a user from this address, and for this: its refusal, where its address has no share left
+pub record IsAnnounced (over : Bool) (from : Ipv4Addr) (seats : Seats) (key : ℕ) (purpose : Purpose) : Type 0 where
+  pub address : user_address seats key ≡ Some from
+  pub purpose_is : IsSomeAnd (get seats.all key) (λ seat. seat.purpose ≡ purpose)
+  pub refused : over ≡ true → purpose ≡ Refusal
+
 -- the exchange under this key has the connection that the poll reports under this number and peer: that of its user under its key, that to an
 -- origin or a service under its line
 abbrev pub Has : Seats → (number : ℕ) → Peer → (key : ℕ) → Type 0

@@ -10,6 +10,7 @@
 
 mod driving;
 mod exchanges;
+mod hearing;
 mod lines;
 mod seat;
 mod seating;
@@ -19,6 +20,7 @@ mod spot;
 mod terms;
 
 pub use exchanges::{Exchanges, Slotted};
+pub use hearing::Hearing;
 pub use lines::{IdleLine, SinceLaid};
 pub use seat::Purpose;
 pub use seating::Seating;

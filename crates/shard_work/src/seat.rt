@@ -8,6 +8,7 @@ use crate::lines::{Lines, note_on};
 use crate::seats::SECOND;
 use crate::terms::Awaited;
 use event_loop::{Spared, Stay, Told, UserPermit, spared_of};
+use loop_parts::Share;
 use socket_wire::{Peer, Readiness};
 use std::mem;
 use std::net::Ipv4Addr;
@@ -62,6 +63,7 @@ fn awaited_since(lines: &Lines, line: Option<usize>, since: Option<u64>, now: u6
 }
 
 impl Seat {
+    ghost use Rattle.loop_parts.specs.Shares.{has_none, is_over};
     ghost use Rattle.shard_work.specs.Seats.{line_in};
 
     /// A seat for a user's connection of this number, from this address, at this moment, in milliseconds, whose stay is the one of this
@@ -97,6 +99,25 @@ impl Seat {
             origin: None,
             service: None,
         }
+    }
+
+    /// The user's connection comes from this address, and has this share of the connections of it.
+    pub(crate) fn come_from(&mut self, from: Ipv4Addr, share: Share)
+        ensures from { self.new.from ≡ from }
+        ensures over { is_over self.new.permit ≡ has_none share }
+        ensures kept { self.new.purpose ≡ self.old.purpose }
+    {
+        self.from = from;
+        self.permit.have(share);
+    }
+
+    /// It is for the refusal of its user from now on.
+    pub(crate) fn refuse(&mut self)
+        ensures refused { self.new.purpose ≡ Purpose.Refusal }
+        ensures kept { self.new.from ≡ self.old.from }
+    {
+        self.purpose = Purpose::Refusal;
+        self.stay = Stay::Exchange;
     }
 
     /// How many bytes the user has taken.

@@ -3,9 +3,11 @@
 ghost use Rattle.std.specs.Prelude.{◌≡◌};
 ghost use Rattle.shard_work.specs.declared.seats.Seats.{Seats as AnySeats};
 
+use crate::hearing::Hearing;
 use crate::seat::Purpose;
 use crate::seats::Seats;
 use mio::net::TcpStream;
+use socket_wire::UserWire;
 use std::sync::Wait;
 use std::time::Clock;
 use trace_core::Point;
@@ -19,6 +21,18 @@ pub trait Seating {
         ensures { result.now ≡ seats_of self.now };
 
     fn seats_mut(&mut self) -> &mut Seats;
+
+    /// Whether each user's connection begins with a header that says where it comes from.
+    fn has_headers(&self) -> bool;
+
+    /// Reads the header of the connection under this key, if it is there, and takes note of where it comes from.
+    fn hear_header<R: Wait>(
+        &mut self,
+        rt: &R,
+        key: usize,
+        now: u64,
+        user: &mut UserWire,
+    ) -> Hearing;
 
     /// A user comes to the seat of this key.
     fn enter(&mut self, key: usize, purpose: Purpose, stream: &TcpStream);

@@ -9,6 +9,7 @@ use crate::lines::Lines;
 use crate::seat::{Purpose, Seat};
 use crate::terms::Terms;
 use event_loop::{Spared, Stay, UserPermit, is_young, youth_of};
+use loop_parts::Share;
 use slab::Slab;
 use std::alloc::{AllocError, Global};
 use std::mem;
@@ -40,8 +41,8 @@ pub struct Seats {
 }
 
 impl Seats {
-    ghost use Rattle.loop_parts.specs.Shares.{is_over};
-    ghost use Rattle.shard_work.specs.Seats.{heard_of, HasRoom, IsFor, MayRefuse, has_waited, is_late, is_overdue, moved_at, IsTaken, user_address};
+    ghost use Rattle.loop_parts.specs.Shares.{has_none, is_over};
+    ghost use Rattle.shard_work.specs.Seats.{heard_of, HasRoom, IsAnnounced, IsFor, MayRefuse, has_waited, is_late, is_overdue, moved_at, IsTaken, user_address};
     ghost use Rattle.slab.specs.Slab.{get, Updates};
 
     /// No seat is taken, and at most `most` users may be served at once. `Err` if no memory was found for their seats.
@@ -172,6 +173,29 @@ impl Seats {
             Some(seat) => Some(seat.from),
             None => None,
         }
+    }
+
+    /// The connection under this key comes from this address, and has this share of the connections of it. What its seat is for from now
+    /// on: the refusal where it has none. `None` if no seat is free for that, or there is none under this key.
+    pub fn announce(&mut self, key: usize, from: Ipv4Addr, share: Share) -> Option<Purpose>
+        ensures { IfSome result (IsAnnounced (has_none share) from self.new key) }
+    {
+        let can_refuse = self.refused < SPARE;
+        let seat = self.all.get_mut(key)?;
+        seat.come_from(from, share);
+        if seat.purpose == Purpose::Refusal || !seat.permit.is_over() {
+            return Some(seat.purpose);
+        }
+        if !can_refuse {
+            return None;
+        }
+        let had_ended = seat.ended;
+        seat.refuse();
+        self.refused = self.refused.saturating_add(1);
+        if had_ended {
+            self.ended = self.ended.saturating_sub(1);
+        }
+        Some(Purpose::Refusal)
     }
 
     /// The number of the next stay.

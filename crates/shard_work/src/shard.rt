@@ -9,14 +9,17 @@ ghost use Rattle.shard_work.specs.Slots.{ChangesOnly, Slot};
 
 use crate::driving::{drive_on, leave_on};
 use crate::exchanges::{Exchanges, Slotted};
+use crate::hearing::{Hearing, Unannounced};
+use crate::seat::Purpose;
 use crate::seating::Seating;
 use crate::seats::SECOND;
 use crate::spot::Spot;
 use event_loop::{Admitted, Driven, Handed, Request, Slots, Told, Work};
 use http_side::own_refusal;
 use mio::Registry;
+use mio::net::TcpStream;
 use shard_exchange::{Step, Task};
-use socket_wire::{Calls, Dial, Peer, Readiness, Stream, User};
+use socket_wire::{Calls, Dial, Peer, Readiness, Stream, User, UserWire};
 use std::alloc::{AllocError, Global};
 use std::boxed::Box;
 use std::sync::Wait;
@@ -40,6 +43,8 @@ pub struct Shard<'a, E: Exchanges, G> {
     alloc: Global,
     exchanges: E,
     slots: Slots<Box<E::Exchange>>,
+    /// The connections whose header isn't whole yet.
+    unannounced: Unannounced,
     /// How many queues there are for what another exchange gives back.
     queues: usize,
     gate: &'a G,
@@ -56,12 +61,20 @@ pub fn turn_away(stream: Stream<User>) {
 impl<'a, E: Exchanges + Drop, G: Gate> Shard<'a, E, G> {
     /// A thread's work before the first user. `Err` where no memory was found.
     pub fn new(alloc: Global, exchanges: E, gate: &'a G) -> Result<Shard<'a, E, G>, AllocError> {
-        let slots = Slots::new(alloc, exchanges.users().seats().bound())?;
+        let bound = exchanges.users().seats().bound();
+        let headers = if exchanges.users().has_headers() {
+            bound
+        } else {
+            0
+        };
+        let unannounced = Unannounced::new(alloc, headers)?;
+        let slots = Slots::new(alloc, bound)?;
         let queues = exchanges.users().queues();
         Ok(Shard {
             alloc,
             exchanges,
             slots,
+            unannounced,
             queues,
             gate,
             serving: Serving::Full,
@@ -75,6 +88,7 @@ impl<'a, E: Exchanges + Drop, G: Gate> Shard<'a, E, G> {
             alloc: _,
             exchanges,
             slots,
+            unannounced: _,
             queues: _,
             gate: _,
             serving: _,
@@ -96,6 +110,99 @@ impl<'a, E: Exchanges + Drop, G: Gate> Shard<'a, E, G> {
             let mut old = old;
             self.exchanges.act(at, &mut old, Task::Lose);
             Box::into_inner(old).finish();
+        }
+    }
+
+    /// Begins the exchange of a user's connection in the slot of its key. False where no memory was found: then the user is turned away.
+    fn begin<R: Wait + Dial + Clock>(
+        &mut self,
+        at: &Spot<'_, R, G>,
+        user: UserWire,
+        purpose: Purpose,
+    ) -> bool
+        ensures only { ChangesOnly at.entry.now.key self.old.slots.all.items self.new.slots.all.items }
+        ensures queues { self.new.queues ≡ self.old.queues }
+    {
+        match self.exchanges.begin(user, purpose) {
+            Some(exchange) => {
+                self.keep(at, exchange);
+                true
+            }
+            None => false,
+        }
+    }
+
+    /// A user has taken the seat of this key: its exchange begins, or first its header is read. False where the system refuses, or no
+    /// memory was found: then the user is turned away.
+    fn seat<R: Wait + Dial + Clock>(
+        &mut self,
+        at: &Spot<'_, R, G>,
+        stream: TcpStream,
+        purpose: Purpose,
+    ) -> bool
+        ensures only { ChangesOnly at.entry.now.key self.old.slots.all.items self.new.slots.all.items }
+        ensures queues { self.new.queues ≡ self.old.queues }
+    {
+        let has_header = self.exchanges.users().has_headers();
+        let users = self.exchanges.users_mut();
+        // What it is for is noted once its header says where it comes from.
+        let noted = if has_header {
+            Purpose::Requests
+        } else {
+            purpose
+        };
+        users.enter(at.key, noted, &stream);
+        let stream: Stream<User> = Stream::accepted(stream);
+        let ready = Readiness::new();
+        match users.seats_mut().wire(at.registry, at.key, ready, stream) {
+            Ok(user) if has_header => self.unannounced.place(at.key, user),
+            Ok(user) => self.begin(at, user, purpose),
+            Err(stream) => {
+                turn_away(stream);
+                false
+            }
+        }
+    }
+
+    /// Reads the header of the connection under this key. It is closed where that isn't one, or isn't whole in time.
+    fn hear<R: Wait + Dial + Clock>(&mut self, at: &Spot<'_, R, G>, user: UserWire) -> Driven
+        ensures only { ChangesOnly at.entry.now.key self.old.slots.all.items self.new.slots.all.items }
+        ensures there { has_more result ≡ true → at.entry.now.key < length self.old.slots.all.items }
+        ensures blocked { IfBlocked result (λ other. (point : AnyPoint) × GivesWay (E.Seating.seats_of (E.users_of self.new.exchanges)) point other) }
+        ensures queues { self.new.queues ≡ self.old.queues }
+    {
+        let mut user = user;
+        let hearing = self
+            .exchanges
+            .users_mut()
+            .hear_header(at.rt, at.key, at.now, &mut user);
+        match hearing {
+            Hearing::Waits if self.serving == Serving::Full => {
+                let _ = self.unannounced.place(at.key, user);
+                return Driven::Waiting;
+            }
+            Hearing::Begins(purpose) => {
+                if self.begin(at, user, purpose) {
+                    return self.drive_slot(at);
+                }
+            }
+            Hearing::Full => turn_away(user.into_stream()),
+            Hearing::Waits | Hearing::Ends => {}
+        }
+        self.exchanges.users_mut().leave(at.rt, at.key);
+        Driven::Over
+    }
+
+    /// Drives the exchange under this key, or reads the header of its connection, where that isn't whole yet.
+    fn drive_key<R: Wait + Dial + Clock>(&mut self, at: &Spot<'_, R, G>) -> Driven
+        ensures only { ChangesOnly at.entry.now.key self.old.slots.all.items self.new.slots.all.items }
+        ensures there { has_more result ≡ true → at.entry.now.key < length self.old.slots.all.items }
+        ensures blocked { IfBlocked result (λ other. (point : AnyPoint) × GivesWay (E.Seating.seats_of (E.users_of self.new.exchanges)) point other) }
+        ensures queues { self.new.queues ≡ self.old.queues }
+    {
+        match self.unannounced.take(at.key) {
+            Some(user) => self.hear(at, user),
+            None => self.drive_slot(at),
         }
     }
 
@@ -127,7 +234,7 @@ impl<'a, E: Exchanges + Drop, G: Gate> Shard<'a, E, G> {
         }
     }
 
-    /// Ends the exchange under this key, and all of its connections.
+    /// Ends the exchange under this key, and all of its connections. One whose header isn't whole yet is closed.
     fn end_slot<R: Wait + Dial + Clock>(&mut self, at: &Spot<'_, R, G>)
         ensures only { ChangesOnly at.entry.now.key self.old.slots.all.items self.new.slots.all.items }
         ensures queues { self.new.queues ≡ self.old.queues }
@@ -137,6 +244,7 @@ impl<'a, E: Exchanges + Drop, G: Gate> Shard<'a, E, G> {
             self.exchanges.act(at, &mut exchange, Task::Lose);
             Box::into_inner(exchange).finish();
         }
+        let _ = self.unannounced.take(at.key);
         self.exchanges.users_mut().leave(at.rt, at.key);
     }
 
@@ -147,6 +255,9 @@ impl<'a, E: Exchanges + Drop, G: Gate> Shard<'a, E, G> {
         ensures queues { self.new.queues ≡ self.old.queues }
     {
         let Some(exchange) = self.slots.take(at.key) else {
+            if self.unannounced.take(at.key).is_some() {
+                self.exchanges.users_mut().leave(at.rt, at.key);
+            }
             return;
         };
         let mut exchange = exchange;
@@ -303,38 +414,19 @@ impl<'a, E: Exchanges + Drop, G: Gate> Work for Shard<'a, E, G> {
             turn_away(Stream::accepted(stream));
             return Admitted::Closed;
         };
-        self.exchanges.users_mut().enter(key, purpose, &stream);
-        let stream: Stream<User> = Stream::accepted(stream);
-        let ready = Readiness::new();
-        let begun = match self
-            .exchanges
-            .users_mut()
-            .seats_mut()
-            .wire(registry, key, ready, stream)
-        {
-            Ok(user) => self.exchanges.begin(user, purpose),
-            Err(stream) => {
-                turn_away(stream);
-                None
-            }
+        let at = Spot {
+            rt,
+            registry,
+            gate: self.gate,
+            key,
+            now: millis / SECOND,
         };
-        let Some(exchange) = begun else {
+        if self.seat(&at, stream, purpose) {
+            Admitted::Seated(key)
+        } else {
             self.exchanges.users_mut().leave(rt, key);
-            return Admitted::Closed;
-        };
-        let gate = self.gate;
-        let now = millis / SECOND;
-        self.keep(
-            &Spot {
-                rt,
-                registry,
-                gate,
-                key,
-                now,
-            },
-            exchange,
-        );
-        Admitted::Seated(key)
+            Admitted::Closed
+        }
     }
 
     /// Idle connections to services go first, where they keep the user out, and then users that have ended their side, of whichever
@@ -382,7 +474,7 @@ impl<'a, E: Exchanges + Drop, G: Gate> Work for Shard<'a, E, G> {
             now,
         };
         match self.serving {
-            Serving::Full | Serving::Draining => self.drive_slot(&at),
+            Serving::Full | Serving::Draining => self.drive_key(&at),
             Serving::Stopped => self.take_leave(&at),
         }
     }

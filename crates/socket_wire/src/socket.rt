@@ -12,7 +12,7 @@ use crate::ready::Readiness;
 use crate::stream::Stream;
 use crate::tally::Tally;
 use mio::{Interest, Registry, Token};
-use std::io::{self, ErrorKind};
+use std::io::{self, ErrorKind, Read};
 use std::net::{Shutdown, SocketAddrV4};
 use std::sync::Arc;
 use wire_kit::{Got, Put, Wire};
@@ -261,6 +261,44 @@ impl<R> StreamWire<Stream<R>> {
                 _ => Unread::End,
             },
         }
+    }
+
+    /// Looks at what lies unread, from its first byte on. Nothing is read.
+    pub fn look(&self, buf: &mut [u8]) -> Got
+        ensures fits { FitsRoom (length buf.old) result }
+        ensures keeps { length buf.new ≡ length buf.old }
+        ensures bound { given_by result ≤ length buf.old }
+    {
+        match self.stream.inner.peek(buf) {
+            Ok(0) => Got::Ended,
+            Ok(n) => Got::Bytes(n),
+            Err(error) => match error.kind() {
+                ErrorKind::WouldBlock | ErrorKind::Interrupted => Got::Wait,
+                _ => Got::Fault,
+            },
+        }
+    }
+
+    /// Reads all of these bytes, which lie unread, beside the wire: it counts and gives those behind them. False where the system gives
+    /// fewer.
+    pub fn skip(&mut self, bytes: &mut [u8]) -> bool
+        ensures keeps { length bytes.new ≡ length bytes.old }
+        ensures counts { (self.new.tally ≡ self.old.tally) × (self.new.ready ≡ self.old.ready) }
+    {
+        match self.stream.inner.read(bytes) {
+            Ok(n) => n == bytes.len(),
+            Err(_) => false,
+        }
+    }
+
+    /// Whether an event has said that the other side has ended its bytes, or that the connection has failed.
+    pub fn is_closed(&self) -> bool {
+        self.ready.is_closed()
+    }
+
+    /// Has the next event that reports bytes be news.
+    pub fn await_bytes(&self) {
+        self.ready.read_out();
     }
 
     /// Resets the connection, so that the other side can't take the end of its bytes for the end of a message. What wasn't

@@ -14,6 +14,7 @@ mod http_heads;
 mod icap_heads;
 mod icap_writing;
 mod lists;
+mod proxy_headers;
 mod random;
 mod words;
 
@@ -37,6 +38,7 @@ impl Driver for Grammars {
         icap_heads::put_answer(alloc, call, row, out)?;
         icap_writing::put_answer(alloc, call, row, out)?;
         http_heads::put_answer(alloc, call, row, out)?;
+        proxy_headers::put_answer(call, row, out)?;
         forwarding::put_answer(alloc, call, row, out)
     }
 }

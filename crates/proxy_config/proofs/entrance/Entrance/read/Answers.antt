@@ -11,4 +11,5 @@ returns-clause-ok c config has =
     & c.in_ok-read_denied.ensures.ok
     & c.in_ok-read_number.ensures.ok ∙ ap Some (sym has.2)
     & c.in_ok-read_truth.ensures.ok ∙ ap Some (sym has.3)
+    & c.in_ok-read_truth-2.ensures.ok ∙ ap Some (sym has.4)
     & tt)

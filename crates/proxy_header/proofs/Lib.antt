@@ -1,0 +1,5 @@
+pub mod Blocks
+pub mod Lines
+pub mod Parts
+pub mod Versions
+pub mod WordCuts

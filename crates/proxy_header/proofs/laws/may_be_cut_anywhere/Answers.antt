@@ -1,0 +1,5 @@
+use Rattle.proxy_header.proofs.Parts.{cut_anywhere}
+use Rattle.proxy_header.proofs.laws.may_be_cut_anywhere.Goals as goal
+
+pub returns : goal.returns
+returns c = cut_anywhere
