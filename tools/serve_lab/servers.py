@@ -68,7 +68,11 @@ class Servers:
         for process in self.running:
             process.terminate()
         for process in self.running:
-            process.wait()
+            try:
+                process.wait(10)
+            except subprocess.TimeoutExpired:
+                process.kill()
+                process.wait()
         self.running = []
 
     def close(self):

@@ -113,7 +113,18 @@ fn put_access(out: &mut Vec<u8>, config: &Config) -> Result<(), NoMemory> {
     put_networks(out, &config.denied)?;
     put_number(out, b"user_connections", config.user_connections)?;
     put_shown(out, b"client_ip", &config.client_ip)?;
+    put_carried(out, &config.carry)?;
     put_shown(out, b"proxy_protocol", &config.proxy_protocol)
+}
+
+/// Adds the names of the fields that go on.
+fn put_carried(out: &mut Vec<u8>, names: &[String]) -> Result<(), NoMemory> {
+    out.extend_from_slice(b"carry")?;
+    for name in names {
+        out.extend_from_slice(b" ")?;
+        out.extend_from_slice(name.as_bytes())?;
+    }
+    put_line(out, b"")
 }
 
 /// Adds where the parent is.

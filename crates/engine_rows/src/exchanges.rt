@@ -175,7 +175,18 @@ fn offer(alloc: Global, plan: &Plan, scene: Scene<'_>) -> Result<Option<ServiceS
         return Ok(None);
     }
     let from = scene.address(b"from");
-    Ok(Some(ServiceSide::new(alloc, plan, from, b"127.0.0.1", 1344, path, req, res)?))
+    let carried = scene.get(b"carried");
+    Ok(Some(ServiceSide::new(
+        alloc,
+        plan,
+        from,
+        carried,
+        b"127.0.0.1",
+        1344,
+        path,
+        req,
+        res,
+    )?))
 }
 
 /// The row's side with its wires; `None` where a head is too long.

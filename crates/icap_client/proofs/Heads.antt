@@ -18,7 +18,8 @@ use Rattle.trace_core.specs.declared.history.Seen.{Seen}
 use Rattle.trace_core.specs.View.{after}
 use Rattle.icap_client.specs.Events.{MayCome}
 use Rattle.icap_client.specs.Replies.{IsEncapsulatedHead, has_body, payload_if, IsBody, IsHead, IsBareReply, IsModHead, lists_of, HasNothing, HasLayout, HasAdaptedHead}
-use Rattle.icap_client.specs.Said.{Remarks, remarks_in, says_close}
+use Rattle.adapt_bytes.specs.Fields.{FieldList}
+use Rattle.icap_client.specs.Said.{says_close}
 use Rattle.icap_client.specs.Heard.{noted, Reader, HasHeard, HeardTo, HeardModHead, HeardMod, HeardInterim, HeardNoMod, with_head, in_stage, KeepsLimits}
 use Rattle.icap_client.specs.Heard.HeardFinal.{changed, unchanged}
 use Rattle.icap_client.specs.Hearing.{ReaderHears, PassesWithoutEvent}
@@ -178,7 +179,7 @@ hears_continue x r raw value size may stage h s = record {
 
 -- a 204
 pub hears_no_mod : (x : Seen) (r new : Reader) (raw : List ℕ) (value : Response) (size : ℕ) → new ≡ in_stage r Over → MayCome x NoMod → r.stage ≡ Replies → HasResponse raw value size
-    → (value.status ≡ 204) × HasNothing r.point (lists_of value) → (r.remarks ≡ remarks_in value.fields) × (r.closes ≡ says_close value.fields) → ReaderHears x r new (NoMod ∷ []) (take size raw) []
+    → (value.status ≡ 204) × HasNothing r.point (lists_of value) → (r.remarks ≡ value.fields) × (r.closes ≡ says_close value.fields) → ReaderHears x r new (NoMod ∷ []) (take size raw) []
 hears_no_mod x r new raw value size is may stage h s n = subst (λ (n : Reader). ReaderHears x r n (NoMod ∷ []) (take size raw) []) (sym is) (record {
   legal = (may.0, may.1, tt);
   only = (refl, tt);
@@ -201,7 +202,7 @@ hears_no_mod x r new raw value size is may stage h s n = subst (λ (n : Reader).
 
 -- the ICAP head of a 200
 pub hears_head : (x : Seen) (r new : Reader) (raw : List ℕ) (value : Response) (size : ℕ) (layout : Layout) → new ≡ in_stage r (Head layout) → r.stage ≡ Replies → HasResponse raw value size
-    → (value.status ≡ 200) × HasLayout r.point (lists_of value) layout × HasAdaptedHead layout → (r.remarks ≡ remarks_in value.fields) × (r.closes ≡ says_close value.fields) → ReaderHears x r new [] (take size raw) []
+    → (value.status ≡ 200) × HasLayout r.point (lists_of value) layout × HasAdaptedHead layout → (r.remarks ≡ value.fields) × (r.closes ≡ says_close value.fields) → ReaderHears x r new [] (take size raw) []
 hears_head x r new raw value size layout is stage h s n = subst (λ (n : Reader). ReaderHears x r n [] (take size raw) []) (sym is) (record {
   legal = tt;
   only = tt;
@@ -226,7 +227,7 @@ pub passes_none : (r : Reader) (raw : List ℕ) → RefusesResponse heads.More r
 passes_none r raw s = waits refl refl refl s
 
 -- what is noted before a final response is no part of what was heard
-pub hears_noted : (x : Seen) (r new : Reader) (remarks : Remarks) (closes : Bool) (events : List Event) (bytes part : List ℕ) → r.stage ≡ Replies → ReaderHears x (noted r remarks closes) new events bytes part → ReaderHears x r new events bytes part
+pub hears_noted : (x : Seen) (r new : Reader) (remarks : FieldList) (closes : Bool) (events : List Event) (bytes part : List ℕ) → r.stage ≡ Replies → ReaderHears x (noted r remarks closes) new events bytes part → ReaderHears x r new events bytes part
 hears_noted x r new remarks closes events bytes part stage h = record {
   legal = h.legal;
   only = h.only;
@@ -237,7 +238,7 @@ hears_noted x r new remarks closes events bytes part stage h = record {
       h.heard adapted read (subst (λ (s : Stage). HeardTo s x adapted read (noted r remarks closes)) (sym stage) n);
 }
 
-pub passes_noted : (r new : Reader) (remarks : Remarks) (closes : Bool) (used : ℕ) (raw : List ℕ) → PassesWithoutEvent (noted r remarks closes) new used raw → PassesWithoutEvent r new used raw
+pub passes_noted : (r new : Reader) (remarks : FieldList) (closes : Bool) (used : ℕ) (raw : List ℕ) → PassesWithoutEvent (noted r remarks closes) new used raw → PassesWithoutEvent r new used raw
 passes_noted r new remarks closes used raw (waits z e p s) = waits z e p s
 passes_noted r new remarks closes used raw (goes_on layout e p h) = goes_on layout e p h
 

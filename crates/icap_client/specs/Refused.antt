@@ -14,6 +14,8 @@ use Rattle.trace_core.specs.declared.history.Point.{Point}
 use Rattle.trace_core.specs.declared.history.Seen.{Seen}
 use Rattle.icap_client.specs.Events.{MayCome, MayHear}
 use Rattle.icap_client.specs.Replies.{lists_of, HasNothing, HasLayout, HasAdaptedHead, IsModHead, IsEncapsulatedHead, has_body, payload_if}
+use Rattle.icap_client.specs.Said.{says_close}
+use Rattle.icap_client.specs.Heard.{Reader}
 use Rattle.icap_client.specs.Hearing.{HasNoEmptyLine, ReadsOn}
 use Rattle.adapt_sides.specs.declared.fault.ClientFault.{ClientFault}
 use Rattle.adapt_sides.specs.declared.fault.ClientFault.TheVariants as faults
@@ -104,6 +106,15 @@ abbrev pub SpellsReply : Point → Response → Reply → Type 0
 SpellsReply point value replies.Continue = (value.status ≡ 100) × HasNothing point (lists_of value)
 SpellsReply point value replies.NoMod = (value.status ≡ 204) × HasNothing point (lists_of value)
 SpellsReply point value (replies.Mod layout) = (value.status ≡ 200) × HasLayout point (lists_of value) layout × HasAdaptedHead layout
+
+-- the reader has noted the head of this size that the raw bytes begin with, and which says that
+pub record IsNoted (r : Reader) (reply : Reply) (raw : List ℕ) (size : ℕ) : Type 0 where
+  pub value : Response
+  pub head : HasResponse raw value size
+  pub inside : size ≤ length raw
+  pub says : SpellsReply r.point value reply
+  pub remarks_are : r.remarks ≡ value.fields
+  pub closes_is : r.closes ≡ says_close value.fields
 
 -- the response may come now; for a 200 that is asked once its other head is read
 abbrev pub MayReply : Seen → Reply → Type 0

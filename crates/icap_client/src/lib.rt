@@ -6,6 +6,7 @@
 mod answered;
 mod blank_line;
 mod body;
+mod carried;
 mod contract;
 mod due;
 mod events;

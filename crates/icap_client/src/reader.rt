@@ -5,12 +5,12 @@ ghost use Rattle.icap_head.specs.Heads.{Response, HasResponse, response_parts, R
 ghost use Rattle.icap_head.specs.declared.reading.HeadFault.TheVariants as heads;
 ghost use Rattle.trace_core.specs.History.{seen, shows};
 ghost use Rattle.icap_client.specs.Events.{listed, MayCome, MayHear, MayAllFollow, ad_sum, adapted_events};
-ghost use Rattle.icap_client.specs.Said.{no_remarks, remarks_in, says_close};
+ghost use Rattle.icap_client.specs.Said.{says_close};
 ghost use Rattle.icap_client.specs.Heard.{noted, Reader, in_stage, KeepsLimits, KeepsHead, Stays};
 ghost use Rattle.icap_client.specs.Laws.{first_reader};
 ghost use Rattle.icap_client.specs.Hearing.{ReaderHears, PassesWithoutEvent, MustWait, HasNoEmptyLine};
 ghost use Rattle.icap_client.specs.Replies.{IsEncapsulatedHead, has_body, payload_if};
-ghost use Rattle.icap_client.specs.Refused.{Refuses, RefusesReply, RefusesHead, RefusesBody, SpellsReply, LimitsOf};
+ghost use Rattle.icap_client.specs.Refused.{Refuses, RefusesReply, RefusesHead, RefusesBody, IsNoted, LimitsOf};
 ghost use Rattle.encapsulated.specs.declared.offsets.Layout.{Layout as Parts};
 
 mod shown;
@@ -20,15 +20,15 @@ use crate::body::read_body;
 use crate::events::{Framed, FramedHead, adapted_events, event_list, may_all, payload_of, refusal};
 use crate::lists::has_body;
 use crate::replies::{Reply, may_reply, reply_of};
-use crate::said::{KeptRemarks, says_close};
+use crate::said::says_close;
 use crate::stage::Stage;
 use adapt_bytes::{behind, front};
 use adapt_sides::ClientFault;
 use arrayvec::ArrayVec;
 use encapsulated::Layout;
 use icap_chunks::ChunkReader;
-use icap_head::{IcapResponse, read_response};
-use std::alloc::{AllocError, Global};
+use icap_head::{Fields, Head, IcapResponse, read_response};
+use std::alloc::Global;
 use std::marker::Model;
 use trace_core::{Event, Point, State};
 
@@ -40,16 +40,18 @@ pub struct ReplyReader {
     stage: Stage,
     layout: Option<Layout>,
     head: Vec<u8>,
-    remarks: KeptRemarks,
+    /// The fields of the last response's head.
+    remarks: Fields,
     closes: bool,
 }
 
 impl Model for ReplyReader {
+    ghost use Rattle.icap_head.specs.Fields.{field_list};
     ghost use Rattle.icap_client.specs.Heard.{Reader, KeepsLimits};
 
     ghost Value = { Reader };
 
-    ghost view = { λ r. record { point = r.point; stage = r.stage; layout = r.layout; head = r.head.items; remarks = r.remarks; closes = r.closes } };
+    ghost view = { λ r. record { point = r.point; stage = r.stage; layout = r.layout; head = r.head.items; remarks = field_list r.remarks; closes = r.closes } };
 
     ghost invariant = { λ r. KeepsLimits r.stage };
 }
@@ -57,7 +59,7 @@ impl Model for ReplyReader {
 impl ReplyReader {
     /// A reader before the first byte of a response.
     pub fn new(alloc: Global, point: Point) -> ReplyReader
-        ensures { result ≡ record { point = point; stage = Stage.Replies; layout = None; head = []; remarks = no_remarks; closes = false } }
+        ensures { result ≡ record { point = point; stage = Stage.Replies; layout = None; head = []; remarks = []; closes = false } }
     {
         ReplyReader {
             alloc,
@@ -65,7 +67,7 @@ impl ReplyReader {
             stage: Stage::Replies,
             layout: None,
             head: Vec::new(alloc),
-            remarks: KeptRemarks::none(),
+            remarks: Fields::new(alloc),
             closes: false,
         }
     }
@@ -77,7 +79,7 @@ impl ReplyReader {
         self.stage = Stage::Replies;
         self.layout = None;
         self.head = Vec::new(self.alloc);
-        self.remarks = KeptRemarks::none();
+        self.remarks = Fields::new(self.alloc);
         self.closes = false;
     }
 
@@ -87,30 +89,29 @@ impl ReplyReader {
     }
 
     /// Keeps what a response says beside its message.
-    fn note(&mut self, value: &IcapResponse) -> Result<(), AllocError>
-        ensures ok { OnOk result (self.new ≡ noted self.old (remarks_in (response_parts value.now).fields) (says_close (response_parts value.now).fields)) }
-        ensures err { OnErr result (self.new ≡ self.old) }
+    fn note(&mut self, value: IcapResponse)
+        ensures { self.new ≡ noted self.old (response_parts value).fields (says_close (response_parts value).fields) }
     {
-        let remarks = KeptRemarks::of(self.alloc, &value.fields)?;
-        self.closes = says_close(&value.fields);
-        self.remarks = remarks;
-        Ok(())
+        let IcapResponse {
+            status: _,
+            phrase: _,
+            fields,
+        } = value;
+        self.closes = says_close(&fields);
+        self.remarks = fields;
     }
 
-    /// Goes on after the head of this response, which is the first `size` of the raw bytes.
+    /// Goes on after the head of the response that was noted, which is the first `size` of the raw bytes.
     fn accept(
         &mut self,
         state: &State,
         reply: Reply,
-        value: &IcapResponse,
         raw: &[u8],
         size: usize,
     ) -> Result<FramedHead, ClientFault>
         requires stage { self.old.stage ≡ Stage.Replies }
         requires limits { LimitsOf reply }
-        requires head { HasResponse raw.now (response_parts value.now) size × (size ≤ length raw.now) }
-        requires says { SpellsReply self.old.point (response_parts value.now) reply }
-        requires said { (self.old.remarks ≡ remarks_in (response_parts value.now).fields) × (self.old.closes ≡ says_close (response_parts value.now).fields) }
+        requires noted { IsNoted self.old reply raw.now size }
         ensures within { IfOk result (λ framed. framed.used ≤ length raw.now) }
         ensures silent { IfOk result (λ framed. ad_sum (listed framed.event) ≡ 0) }
         ensures hears { IfOk result (λ framed. ReaderHears (shows state.now) self.old self.new (listed framed.event) (take framed.used raw.now) []) }
@@ -158,10 +159,9 @@ impl ReplyReader {
         match read_response(self.alloc, raw) {
             Ok(head) => match reply_of(&head.value, self.point) {
                 Ok(reply) => {
-                    if self.note(&head.value).is_err() {
-                        return Err(ClientFault::NoMemory);
-                    }
-                    self.accept(state, reply, &head.value, raw, head.length)
+                    let Head { value, length } = head;
+                    self.note(value);
+                    self.accept(state, reply, raw, length)
                 }
                 Err(fault) => Err(fault),
             },

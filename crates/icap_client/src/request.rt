@@ -4,7 +4,7 @@ ghost use Rattle.std.specs.Prelude.{◌≡◌, ◌+◌, ◌<◌, ◌++◌, lengt
 ghost use Rattle.std.specs.Net.Addr.{ipv4_octets};
 ghost use Rattle.adapt_bytes.specs.declared.limits.TheConstants.{COUNT_LIMIT};
 ghost use Rattle.adapt_bytes.specs.Numeral.{numeral};
-ghost use Rattle.icap_client.specs.RequestHead.{joined, start_pieces, host_pieces, address_text, user_pieces, allow_pieces, preview_pieces, body_name, list_pieces, head_pieces, request_head};
+ghost use Rattle.icap_client.specs.RequestHead.{joined, start_pieces, host_pieces, address_text, user_pieces, carried_pieces, allow_pieces, preview_pieces, body_name, list_pieces, head_pieces, request_head};
 ghost use Rattle.icap_client.specs.RequestText.{is_null};
 ghost use Rattle.icap_client.specs.Asking.{options_pieces, options_request};
 
@@ -15,11 +15,12 @@ use std::net::Ipv4Addr;
 use trace_core::{Kind, Plan, Point};
 
 /// The ICAP head that offers a message of this plan to the service there, followed by the encapsulated heads: at REQMOD
-/// the request's head alone. It says the address of the user, where there is one.
+/// the request's head alone. It says the address of the user, where there is one, and the field lines that are carried on.
 pub(crate) fn request_head(
     alloc: Global,
     plan: &Plan,
     from: Option<Ipv4Addr>,
+    carried: &[u8],
     host: &[u8],
     port: u16,
     path: &[u8],
@@ -27,12 +28,13 @@ pub(crate) fn request_head(
     res: &[u8],
 ) -> Result<Vec<u8>, AllocError>
     requires { length req.now + length res.now < COUNT_LIMIT }
-    ensures { IfOk result (λ text. text.items ≡ request_head plan.now from host.now port path.now req.now res.now) }
+    ensures { IfOk result (λ text. text.items ≡ request_head plan.now from carried.now host.now port path.now req.now res.now) }
 {
     let mut out = Vec::new(alloc);
     put_start(&mut out, plan.point, host, port, path)?;
     put_host(&mut out, host, port)?;
     put_user(&mut out, from)?;
+    put_carried(&mut out, carried)?;
     put_allow(&mut out, plan.allow)?;
     put_preview(&mut out, plan.kind)?;
     put_list(
@@ -142,6 +144,13 @@ fn put_user(out: &mut Vec<u8>, from: Option<Ipv4Addr>) -> Result<(), AllocError>
     put(out, b"X-Client-IP: ")?;
     put_address(out, address)?;
     put(out, b"\r\n")
+}
+
+/// Adds field lines as they are.
+fn put_carried(out: &mut Vec<u8>, lines: &[u8]) -> Result<(), AllocError>
+    ensures { OnOk result (out.new.items ≡ joined (carried_pieces lines.now) out.old.items) }
+{
+    put(out, lines)
 }
 
 fn put_allow(out: &mut Vec<u8>, allow: bool) -> Result<(), AllocError>

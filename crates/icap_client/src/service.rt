@@ -1,12 +1,14 @@
 //! The service's end of one transaction: both halves.
 
-ghost use Rattle.std.specs.Prelude.{option_copied, ◌≡◌, ℕ, List, ◌+◌, ◌≤◌, ◌++◌, ◌∷◌, ◌↔◌, IsTrue, IfSome, is_some, IfOk, Err, true, false, Some, None, ◌⊎◌, [], length, ◌<◌, MatchOption};
+ghost use Rattle.std.specs.Prelude.{option_copied, ◌≡◌, ℕ, List, ◌+◌, ◌≤◌, ◌++◌, ◌∷◌, ◌↔◌, IsTrue, IfSome, is_some, IfOk, Err, true, false, Some, None, ◌⊎◌, [], length, map, string_bytes, ◌<◌, MatchOption};
 ghost use Rattle.adapt_bytes.specs.declared.limits.TheConstants.{COUNT_LIMIT, MAX_HEAD};
 ghost use Rattle.trace_core.specs.declared.history.Seen.{Seen};
 ghost use Rattle.trace_core.specs.History.{seen, shows};
 ghost use Rattle.wire_kit.specs.Past.{Past};
 ghost use Rattle.chunk_writer.specs.Writer.{fresh, waiting};
 ghost use Rattle.icap_client.specs.Heard.{KeepsHead};
+ghost use Rattle.icap_client.specs.Carried.{carried_text};
+ghost use Rattle.icap_client.specs.Said.{infection_in, tag_in, virus_in};
 ghost use Rattle.icap_client.specs.Laws.{first_reader};
 ghost use Rattle.icap_client.specs.Reading.{ReadTurn};
 ghost use Rattle.icap_client.specs.Events.{after_all, MayCome};
@@ -63,7 +65,7 @@ fn write_once<W: Wire>(
 /// let plan = Plan::new(Kind::Whole, true, false, Some(0), Point::Reqmod)?;
 /// let state = State::begin(plan);
 /// let head = b"GET / HTTP/1.1\r\nHost: h\r\n\r\n";
-/// let mut side = ServiceSide::new(alloc, &plan, None, b"s", 1344, b"/scan", head, &[])?;
+/// let mut side = ServiceSide::new(alloc, &plan, None, &[], b"s", 1344, b"/scan", head, &[])?;
 /// let writes = vec![in alloc; WriteAnswer::Took(6)]?;
 /// let mut wire = MemoryWire::new(alloc, Vec::new(alloc), Vec::new(alloc), writes)?;
 /// let turn = side.write_turn(&state, &SpanTape::new(), &mut wire)?;
@@ -108,11 +110,12 @@ impl ServiceSide {
     }
 
     /// A request that offers a message of this plan to the service there, which is told the user's address `from`, where there is
-    /// one. `req` and `res` are the encapsulated heads; at REQMOD `res` has no place.
+    /// one, and the field lines `carried`. `req` and `res` are the encapsulated heads; at REQMOD `res` has no place.
     pub fn new(
         alloc: Global,
         plan: &Plan,
         from: Option<Ipv4Addr>,
+        carried: &[u8],
         host: &[u8],
         port: u16,
         path: &[u8],
@@ -120,14 +123,14 @@ impl ServiceSide {
         res: &[u8],
     ) -> Result<ServiceSide, AllocError>
         requires { length req.now + length res.now < COUNT_LIMIT }
-        ensures writer { IfOk result (λ side. side.writer ≡ fresh (request_head plan.now from host.now port path.now req.now res.now)) }
+        ensures writer { IfOk result (λ side. side.writer ≡ fresh (request_head plan.now from carried.now host.now port path.now req.now res.now)) }
         ensures reader { IfOk result (λ side. side.replies.reader ≡ first_reader plan.now.point) }
         ensures raw { IfOk result (λ side. side.replies.raw ≡ []) }
         ensures fault { IfOk result (λ side. side.replies.fault ≡ None) }
         ensures room { IfOk result (λ side. side.replies.room ≡ 0) }
         ensures marks { IfOk result (λ side. (side.last_stop ≡ false) × (side.answered ≡ false)) }
     {
-        let head = request_head(alloc, plan, from, host, port, path, req, res)?;
+        let head = request_head(alloc, plan, from, carried, host, port, path, req, res)?;
         Ok(ServiceSide::of_head(alloc, plan.point, head))
     }
 
@@ -193,16 +196,23 @@ impl ServiceSide {
 
     /// The tag that the last answer's head had.
     pub fn tag(&self) -> Option<&[u8]>
-        ensures { option_copied result ≡ self.now.replies.reader.remarks.tag }
+        ensures { option_copied result ≡ tag_in self.now.replies.reader.remarks }
     {
         self.replies.tag()
     }
 
     /// What the last answer's head says that the service found in the message: of each value the first 256 bytes.
     pub fn found(&self) -> Found<'_>
-        ensures { (option_copied result.infection ≡ self.now.replies.reader.remarks.infection) × (option_copied result.virus ≡ self.now.replies.reader.remarks.virus) }
+        ensures { (option_copied result.infection ≡ infection_in self.now.replies.reader.remarks) × (option_copied result.virus ≡ virus_in self.now.replies.reader.remarks) }
     {
         self.replies.found()
+    }
+
+    /// The lines of the last answer's head that have one of these names, ASCII case ignored, in their order, with CRLF behind each.
+    pub fn carried(&self, alloc: Global, names: &[String]) -> Result<Vec<u8>, AllocError>
+        ensures { IfOk result (λ text. text.items ≡ carried_text (map string_bytes names.now) self.now.replies.reader.remarks) }
+    {
+        self.replies.carried(alloc, names)
     }
 
     /// Whether the last answer's head says that the connection closes.

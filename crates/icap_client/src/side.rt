@@ -1,11 +1,13 @@
 //! The reading half of the service's side: the reader over a wire.
 
-ghost use Rattle.std.specs.Prelude.{option_copied, is_none, not, ◌&&◌, ◌==◌, ◌≡◌, ◌<◌, ◌≤◌, ◌↔◌, [], length, take, IsTrue, IfOk, IfErr, IfSome, OnOk, None, Some, Bool, true, false, Err, MatchOption};
+ghost use Rattle.std.specs.Prelude.{option_copied, is_none, not, ◌&&◌, ◌==◌, ◌≡◌, ◌<◌, ◌≤◌, ◌↔◌, [], length, map, string_bytes, take, IsTrue, IfOk, IfErr, IfSome, OnOk, None, Some, Bool, true, false, Err, MatchOption};
 ghost use Rattle.adapt_bytes.specs.declared.limits.TheConstants.{MAX_HEAD};
 ghost use Rattle.trace_core.specs.History.{seen, shows};
 ghost use Rattle.icap_client.specs.Events.{MayCome, ad_sum};
 ghost use Rattle.icap_client.specs.HeadFront.{HasToWait, IsHeadFront};
 ghost use Rattle.icap_client.specs.Heard.{KeepsLimits, KeepsHead};
+ghost use Rattle.icap_client.specs.Carried.{carried_text};
+ghost use Rattle.icap_client.specs.Said.{infection_in, tag_in, virus_in};
 ghost use Rattle.icap_client.specs.Laws.{first_reader};
 ghost use Rattle.icap_client.specs.Refused.{Refuses};
 ghost use Rattle.icap_client.specs.Reading.{ReadSide, GivesBack, SideHears, MayRead, NothingToRead, ReadTurn};
@@ -21,7 +23,7 @@ use crate::stage::Stage;
 use adapt_sides::{ClientFault, Filled, Turn};
 use arrayvec::ArrayVec;
 use encapsulated::Layout;
-use std::alloc::Global;
+use std::alloc::{AllocError, Global};
 use std::marker::Model;
 use trace_core::{Event, Kind, Point, State};
 use wire_kit::Wire;
@@ -107,16 +109,23 @@ impl ReplySide {
 
     /// The tag that the last answer's head had.
     pub fn tag(&self) -> Option<&[u8]>
-        ensures { option_copied result ≡ self.now.reader.remarks.tag }
+        ensures { option_copied result ≡ tag_in self.now.reader.remarks }
     {
         self.reader.tag()
     }
 
     /// What the last answer's head says that the service found in the message: of each value the first 256 bytes.
     pub fn found(&self) -> Found<'_>
-        ensures { (option_copied result.infection ≡ self.now.reader.remarks.infection) × (option_copied result.virus ≡ self.now.reader.remarks.virus) }
+        ensures { (option_copied result.infection ≡ infection_in self.now.reader.remarks) × (option_copied result.virus ≡ virus_in self.now.reader.remarks) }
     {
         self.reader.found()
+    }
+
+    /// The lines of the last answer's head that have one of these names.
+    pub fn carried(&self, alloc: Global, names: &[String]) -> Result<Vec<u8>, AllocError>
+        ensures { IfOk result (λ text. text.items ≡ carried_text (map string_bytes names.now) self.now.reader.remarks) }
+    {
+        self.reader.carried(alloc, names)
     }
 
     /// Whether the last answer's head says that the connection closes.

@@ -50,6 +50,7 @@ pub fn service_side(alloc: Global) -> Result<ServiceSide, AllocError> {
         alloc,
         &the_plan(),
         None,
+        &[],
         HOST,
         PORT,
         PATH,

@@ -4,7 +4,7 @@
 type Entry = (&'static str, &'static str);
 
 /// The keys of the document.
-const OF_THE_DOCUMENT: [Entry; 33] = [
+const OF_THE_DOCUMENT: [Entry; 34] = [
     (
         "listen",
         "an IPv4 address and a port, as \"127.0.0.1:3128\"",
@@ -45,6 +45,10 @@ const OF_THE_DOCUMENT: [Entry; 33] = [
         "0 to 4096 connections (default 0: no limit)",
     ),
     ("client_ip", "true or false (default false)"),
+    (
+        "carry",
+        "at most eight names of ICAP fields, each once, as [\"X-ICAP-E2G\"] (default none)",
+    ),
     ("proxy_protocol", "true or false (default false)"),
     ("keep_origins", "0 to 1024 connections (default 0: none)"),
     ("origin_idle", "1 to 3600 seconds (default 30)"),

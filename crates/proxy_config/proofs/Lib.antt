@@ -14,5 +14,6 @@ pub mod Found
 pub mod PortLemmas
 pub mod Judging
 pub mod NetworkLists
+pub mod CarryLemmas
 pub mod ParentLemmas
 pub mod Said

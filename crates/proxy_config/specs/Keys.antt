@@ -15,6 +15,7 @@ use Rattle.proxy_config.specs.Ports.{IsAdmin, IsMetrics}
 use Rattle.proxy_config.specs.Log.{path_or_none}
 use Rattle.proxy_config.specs.Dial.{dial_or}
 use Rattle.proxy_config.specs.HostNames.{IsHostsOf, IsHostFault}
+use Rattle.proxy_config.specs.Carry.{carry_or}
 use Rattle.proxy_config.specs.Networks.{SaysNetworks, SaysNetworksOrNone}
 use Rattle.proxy_config.specs.Parent.{IsParent, IsParentFault}
 use Rattle.proxy_config.specs.Services.{IsServiceOf, IsServiceFault}
@@ -29,6 +30,7 @@ pub data Kind : Type 0 where
   log_path : Kind
   user_networks : Kind
   denied_networks : Kind
+  field_names : Kind
   dial_time : Kind
   host_table : Kind
   service : Kind
@@ -44,6 +46,7 @@ ValueOf metrics_address = Option SocketAddrV4
 ValueOf log_path = Option (List ℕ)
 ValueOf user_networks = Option (List Network)
 ValueOf denied_networks = List Network
+ValueOf field_names = List (List ℕ)
 ValueOf dial_time = Dial
 ValueOf host_table = Hosts
 ValueOf service = Option ServicePoint
@@ -59,6 +62,7 @@ Says metrics_address name document value = IsMetrics document value
 Says log_path name document value = path_or_none (get_member name document) ≡ Some value
 Says user_networks name document value = SaysNetworks name document value
 Says denied_networks name document value = SaysNetworksOrNone name document value
+Says field_names name document value = carry_or (get_member name document) ≡ Some value
 Says dial_time name document value = dial_or (get_member name document) ≡ Some value
 Says host_table name document value = IsHostsOf document value
 Says service name document value = IsServiceOf name document value
@@ -121,6 +125,7 @@ entrance_rows =
     ∷ row (codes "denied") denied_networks (λ c. c.denied.items)
     ∷ row (codes "user_connections") (number 0 4096 0) (λ c. c.user_connections)
     ∷ row (codes "client_ip") (truth false) (λ c. c.client_ip)
+    ∷ row (codes "carry") field_names (λ c. map string_bytes c.carry.items)
     ∷ row (codes "proxy_protocol") (truth false) (λ c. c.proxy_protocol)
     ∷ []
 

@@ -13,6 +13,7 @@ pub mod Names
 pub mod Ports
 pub mod Dial
 pub mod Networks
+pub mod Carry
 pub mod Reach
 pub mod Parent
 pub mod Groups

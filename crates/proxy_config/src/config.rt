@@ -72,6 +72,8 @@ pub struct Config {
     pub user_connections: u64,
     /// Whether each message that is offered to a service says its user's address.
     pub client_ip: bool,
+    /// The names of the fields of the answer to a request that go on with the response to it, to its service: at most eight.
+    pub carry: Vec<String>,
     /// Whether each user's connection begins with a header of the PROXY protocol, which says where it comes from.
     pub proxy_protocol: bool,
     /// The most idle connections to origins that each thread keeps: 0 to 1,024; 0 where each is closed after its answer.
@@ -109,7 +111,7 @@ pub struct Config {
 }
 
 /// The names of the keys.
-pub(crate) const KEYS: [&str; 33] = [
+pub(crate) const KEYS: [&str; 34] = [
     "listen",
     "admin",
     "shards",
@@ -129,6 +131,7 @@ pub(crate) const KEYS: [&str; 33] = [
     "denied",
     "user_connections",
     "client_ip",
+    "carry",
     "proxy_protocol",
     "keep_origins",
     "origin_idle",
@@ -169,6 +172,7 @@ impl Config {
             denied,
             user_connections,
             client_ip,
+            carry,
             proxy_protocol,
         } = Entrance::read(alloc, table)?;
         let times = Times::read(alloc, table)?;
@@ -199,6 +203,7 @@ impl Config {
             denied,
             user_connections,
             client_ip,
+            carry,
             proxy_protocol,
             keep_origins: times.keep_origins,
             origin_idle: times.origin_idle,

@@ -2,6 +2,7 @@
 
 ghost use Rattle.proxy_config.specs.Values.{IsWithin};
 
+use crate::carry::read_carry;
 use crate::fault::ConfigFault;
 use crate::network::Network;
 use crate::networks::{read_denied, read_users};
@@ -16,6 +17,7 @@ pub(crate) struct Entrance {
     pub denied: Vec<Network>,
     pub user_connections: u64,
     pub client_ip: bool,
+    pub carry: Vec<String>,
     pub proxy_protocol: bool,
     ghost in_range: { IsWithin 0 4096 user_connections },
 }
@@ -41,6 +43,7 @@ impl Entrance {
             denied: read_denied(alloc, table)?,
             user_connections: read_number(alloc, table, "user_connections", 0, 4_096, 0)?,
             client_ip: read_truth(alloc, table, "client_ip", false)?,
+            carry: read_carry(alloc, table)?,
             proxy_protocol: read_truth(alloc, table, "proxy_protocol", false)?,
         })
     }

@@ -6,6 +6,7 @@
 //! It stands above the bank, which says how large a budget may be.
 #![tactic(auto)]
 
+mod carry;
 mod config;
 mod dial;
 mod entrance;

@@ -1,5 +1,6 @@
 -- A message whose head is read before its transaction.
-use Rattle.std.specs.Prelude.{◌≡◌, ℕ, ◌⊎◌, Bool, false, List, ◌++◌, Option, Some, None}
+use Rattle.std.specs.Prelude.{◌≡◌, ℕ, ◌⊎◌, Bool, false, List, [], ◌++◌, Option, Some, None, Vec}
+use Rattle.std.specs.declared.alloc.Global.{Global}
 use Rattle.trace_core.specs.declared.history.Point.{Point}
 use Rattle.trace_core.specs.declared.history.Point.TheVariants.{Reqmod, Respmod}
 use Rattle.http_side.specs.Heads.{RequestParts}
@@ -11,10 +12,16 @@ use Rattle.wire_kit.specs.declared.wire.Wire.{Ghosts as Wire}
 use Rattle.proxy_rules.specs.Grown.{Grown}
 use Rattle.proxy_rules.specs.Users.{is_head_request}
 
--- a source's side, and for a response the side of the user whose request it answers
+-- a source's side, and for a response the side of the user whose request it answers, and the field lines that its service is told
 pub record Arrival : Type 0 where
   pub side : SourceSide
   pub user : Option SourceSide
+  pub carried : List ℕ
+
+-- the lines that are kept, if any
+abbrev pub lines_in : Option (Vec ℕ Global) → List ℕ
+lines_in None = []
+lines_in (Some lines) = lines.items
 
 -- whether the method of a request is HEAD
 abbrev pub is_head_in : Option RequestParts → Bool

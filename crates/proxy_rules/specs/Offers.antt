@@ -21,9 +21,10 @@ offered_request user = request_text user (authority_of user.target) true no_extr
 abbrev pub offered_response : ResponseParts → List ℕ
 offered_response response = response_text response no_extra
 
--- the text of the ICAP request to this service, up to its chunks; it is told the user's address `from`, or isn't
-abbrev pub offered_text : ServicePoint → Plan → (from : Option Ipv4Addr) → List ℕ → List ℕ → List ℕ
-offered_text service plan from req res = request_head plan from (string_bytes service.host) (v4_port service.address) (string_bytes service.path) req res
+-- the text of the ICAP request to this service, up to its chunks; it is told the user's address `from`, or isn't, and the field lines
+-- that are carried on
+abbrev pub offered_text : ServicePoint → Plan → (from : Option Ipv4Addr) → (carried : List ℕ) → List ℕ → List ℕ → List ℕ
+offered_text service plan from carried req res = request_head plan from carried (string_bytes service.host) (v4_port service.address) (string_bytes service.path) req res
 
 -- a service's side with a request of this text up to its chunks, which has written and read nothing yet and has no fault
 pub record IsUnused (request : List ℕ) (s : Service) : Type 0 where
@@ -41,12 +42,13 @@ previews_nothing plan = is_preview plan.kind && is_null plan.len
 -- some encapsulated heads
 pub record IsOfPlan (plan : Plan) (s : Service) : Type 0 where
   pub from : Option Ipv4Addr
+  pub carried : List ℕ
   pub host : List ℕ
   pub port : ℕ
   pub path : List ℕ
   pub req : List ℕ
   pub res : List ℕ
-  pub unused : IsUnused (request_head plan from host port path req res) s
+  pub unused : IsUnused (request_head plan from carried host port path req res) s
   pub point : s.replies.reader.point ≡ plan.point
   pub offered : is_plain plan.kind ≡ false
   pub some : previews_nothing plan ≡ false
@@ -70,7 +72,8 @@ abbrev pub options_for : Option ServicePoint → Option Options → Option Optio
 options_for None options = None
 options_for (Some service) options = options
 
--- where it is offered, the service gets the text of the plan with the user's address, where it is told it, and with these heads
-abbrev pub AsksFor : Option ServicePoint → (from : Option Ipv4Addr) → (req res : List ℕ) → Offered → Type 0
-AsksFor None from req res offer = offer.side ≡ None
-AsksFor (Some service) from req res offer = MatchOption offer.side ⊤ (IsUnused (offered_text service offer.plan from req res))
+-- where it is offered, the service gets the text of the plan with the user's address, where it is told it, with the field lines that are
+-- carried on, and with these heads
+abbrev pub AsksFor : Option ServicePoint → (from : Option Ipv4Addr) → (carried : List ℕ) → (req res : List ℕ) → Offered → Type 0
+AsksFor None from carried req res offer = offer.side ≡ None
+AsksFor (Some service) from carried req res offer = MatchOption offer.side ⊤ (IsUnused (offered_text service offer.plan from carried req res))

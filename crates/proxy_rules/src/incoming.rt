@@ -19,19 +19,23 @@ use wire_kit::Wire;
 
 /// A message whose head comes, or has come: its source's side, and for a response the side of the user whose request it answers.
 ///
+/// With a response go the field lines of the answer to its request that its service is told.
+///
 /// What was read of it was read in turns at its head. An origin is asked for an answer to the user's own request: to HEAD or to another.
 #[derive(Drop)]
 pub struct Incoming {
     side: SourceSide,
     user: Option<SourceSide>,
+    /// Field lines of the service's answer to the request, for the service of the response.
+    carried: Option<Vec<u8>>,
 }
 
 impl Model for Incoming {
-    ghost use Rattle.proxy_rules.specs.Arrivals.{Arrival, Arrives};
+    ghost use Rattle.proxy_rules.specs.Arrivals.{Arrival, Arrives, lines_in};
 
     ghost Value = { Arrival };
 
-    ghost view = { λ m. record { side = m.side; user = m.user } };
+    ghost view = { λ m. record { side = m.side; user = m.user; carried = lines_in m.carried } };
 
     ghost invariant = { λ m. Arrives m.side m.user };
 }
@@ -55,18 +59,21 @@ impl Incoming {
         Incoming {
             side: SourceSide::request(alloc),
             user: None,
+            carried: None,
         }
     }
 
-    /// The answer to this user's request, before its first byte.
-    pub fn response(alloc: Global, user: SourceSide) -> Incoming
+    /// The answer to this user's request, before its first byte. Its service is told these field lines.
+    pub fn response(alloc: Global, user: SourceSide, carried: Vec<u8>) -> Incoming
         ensures user { result.user ≡ Some user }
+        ensures carried { result.carried ≡ carried.items }
         ensures begins { HasCome [] result.side }
     {
         let to_head = asks_head(&user);
         Incoming {
             side: SourceSide::response(alloc, to_head),
             user: Some(user),
+            carried: Some(carried),
         }
     }
 
@@ -85,7 +92,11 @@ impl Incoming {
         }
         let mut side = request;
         side.next();
-        let next = Incoming { side, user: None };
+        let next = Incoming {
+            side,
+            user: None,
+            carried: None,
+        };
         Some(next)
     }
 
@@ -97,7 +108,11 @@ impl Incoming {
         ensures begins { IfSome result (λ same. HasCome same.side.raw.items same.side) }
     {
         let side = request.again()?;
-        let same = Incoming { side, user: None };
+        let same = Incoming {
+            side,
+            user: None,
+            carried: None,
+        };
         Some(same)
     }
 
@@ -107,7 +122,11 @@ impl Incoming {
         ensures same { IfSome result (λ same. IfSome self.user (λ user. ComesAgain user.head user.raw.items same.side.raw.items)) }
         ensures begins { IfSome result (λ same. HasCome same.side.raw.items same.side) }
     {
-        let Incoming { side: _, user } = self;
+        let Incoming {
+            side: _,
+            user,
+            carried: _,
+        } = self;
         Incoming::again(user?)
     }
 
@@ -121,12 +140,23 @@ impl Incoming {
         }
     }
 
+    /// The field lines that the service of a response is told. A request has none.
+    pub fn carried(&self) -> &[u8]
+        ensures { result.now ≡ self.now.carried }
+    {
+        match &self.carried {
+            Some(lines) => lines.as_slice(),
+            None => &[],
+        }
+    }
+
     /// Reads the message's head: Taken once it was read. One read of the wire at most, and one interim response. A fault stays.
     pub fn head_turn<W: Wire>(&mut self, wire: &mut W) -> Result<HeadProgress, RelayFault>
         ensures turn { self.old.side.fault ≡ None → self.old.side.head ≡ SourceHead.Unread → HeadTurn self.old.side self.new.side (W.past wire.old) (W.past wire.new) result }
         ensures came { (first : W) (ahead since beside : List ℕ) → Came W.Wire first ahead since beside self.old.side wire.old
             → (more : List ℕ) × Came W.Wire first ahead (since ++ more) beside self.new.side wire.new }
         ensures user { self.new.user ≡ self.old.user }
+        ensures carried { self.new.carried ≡ self.old.carried }
     {
         self.side.head_turn(wire)
     }
@@ -192,7 +222,11 @@ impl Incoming {
         ensures origin { self.user ≡ None → result.1.origin ≡ origin }
         ensures arrives { Arrives result.0 self.user }
     {
-        let Incoming { side, user } = self;
+        let Incoming {
+            side,
+            user,
+            carried: _,
+        } = self;
         let heads = match user {
             Some(user) => HeadMaker::for_response(user, last),
             None => HeadMaker::for_request(last, origin),

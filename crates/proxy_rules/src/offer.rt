@@ -67,11 +67,13 @@ fn previews_nothing(plan: &Plan) -> bool
 
 impl Offer {
     /// An offer of a message by this plan to the service at this host, port and path, with these encapsulated heads. The service is told
-    /// the user's address `from`, where there is one. Under Plain it has no side. `None` for a preview of a body that is known to be empty, or heads of `COUNT_LIMIT` bytes and more.
+    /// the user's address `from`, where there is one, and the field lines `carried`. Under Plain it has no side. `None` for a preview of a
+    /// body that is known to be empty, or heads of `COUNT_LIMIT` bytes and more.
     pub fn new(
         alloc: Global,
         plan: Plan,
         from: Option<Ipv4Addr>,
+        carried: &[u8],
         host: &[u8],
         port: u16,
         path: &[u8],
@@ -79,7 +81,7 @@ impl Offer {
         res: &[u8],
     ) -> Result<Option<Offer>, AllocError>
         ensures plan { IfOk result (λ made. IfSome made (λ offer. offer.plan ≡ plan)) }
-        ensures text { IfOk result (λ made. IfSome made (λ offer. IfSome offer.side (IsUnused (request_head plan from host.now port path.now req.now res.now)))) }
+        ensures text { IfOk result (λ made. IfSome made (λ offer. IfSome offer.side (IsUnused (request_head plan from carried.now host.now port path.now req.now res.now)))) }
         ensures none { result ≡ Ok None ↔ (previews_nothing plan ≡ true) }
     {
         if previews_nothing(&plan) {
@@ -92,7 +94,7 @@ impl Offer {
         if req.len() >= limit || res.len() >= limit - req.len() {
             return Err(AllocError);
         }
-        let side = ServiceSide::new(alloc, &plan, from, host, port, path, req, res)?;
+        let side = ServiceSide::new(alloc, &plan, from, carried, host, port, path, req, res)?;
         let offer = Offer {
             plan,
             side: Some(side),
@@ -111,7 +113,7 @@ impl Offer {
         user: &HttpRequest,
     ) -> Result<Offer, AllocError>
         ensures planned { IfOk result (λ offer. IsPlanned (options_for (option_copied service.entry) (option_copied options.entry)) limits.now points.Reqmod (bare_path user.now.target) (known_length (request_framing user.now)) offer.plan) }
-        ensures text { IfOk result (λ offer. AsksFor (option_copied service.entry) from (offered_request user.now) [] offer) }
+        ensures text { IfOk result (λ offer. AsksFor (option_copied service.entry) from [] (offered_request user.now) [] offer) }
     {
         let Some(service) = service else {
             return Ok(Offer::unoffered(request_plan(None, limits, user)));
@@ -122,23 +124,25 @@ impl Offer {
         }
         let message = Message::Request(user);
         let req = encapsulated_head(alloc, &Encapsulated { user, message })?;
-        Offer::to(alloc, service, plan, from, &req, &[])
+        Offer::to(alloc, service, plan, from, &[], &req, &[])
     }
 
     /// Plans an origin's response to a user's request by what its service says, and offers it to that service where the plan says so:
     /// the head of the user's own request goes before its head, also where a service changed what the origin got. The service is told
-    /// the user's address `from`, where there is one. Without a service, or its record, it isn't offered.
+    /// the user's address `from`, where there is one, and the field lines `carried`, of the answer to the request. Without a service, or
+    /// its record, it isn't offered.
     pub fn of_response(
         alloc: Global,
         service: Option<&ServicePoint>,
         options: Option<&Record>,
         limits: &Limits,
         from: Option<Ipv4Addr>,
+        carried: &[u8],
         user: &HttpRequest,
         response: &HttpResponse,
     ) -> Result<Offer, AllocError>
         ensures planned { IfOk result (λ offer. IsPlanned (options_for (option_copied service.entry) (option_copied options.entry)) limits.now points.Respmod (bare_path user.now.target) (known_length (response_framing response.now)) offer.plan) }
-        ensures text { IfOk result (λ offer. AsksFor (option_copied service.entry) from (offered_request user.now) (offered_response response.now) offer) }
+        ensures text { IfOk result (λ offer. AsksFor (option_copied service.entry) from carried.now (offered_request user.now) (offered_response response.now) offer) }
     {
         let Some(service) = service else {
             return Ok(Offer::unoffered(response_plan(None, limits, user, response)));
@@ -151,7 +155,7 @@ impl Offer {
         let req = encapsulated_head(alloc, &Encapsulated { user, message: own })?;
         let message = Message::Response(response);
         let res = encapsulated_head(alloc, &Encapsulated { user, message })?;
-        Offer::to(alloc, service, plan, from, &req, &res)
+        Offer::to(alloc, service, plan, from, carried, &req, &res)
     }
 
     /// A message that isn't offered.
@@ -168,17 +172,18 @@ impl Offer {
         service: &ServicePoint,
         plan: Plan,
         from: Option<Ipv4Addr>,
+        carried: &[u8],
         req: &[u8],
         res: &[u8],
     ) -> Result<Offer, AllocError>
         requires { previews_nothing plan ≡ false }
         ensures plan { IfOk result (λ offer. offer.plan ≡ plan) }
-        ensures text { IfOk result (AsksFor (Some service.now) from req.now res.now) }
+        ensures text { IfOk result (AsksFor (Some service.now) from carried.now req.now res.now) }
     {
         let host = service.host.as_bytes();
         let path = service.path.as_bytes();
         let port = service.address.port();
-        match Offer::new(alloc, plan, from, host, port, path, req, res)? {
+        match Offer::new(alloc, plan, from, carried, host, port, path, req, res)? {
             Some(offer) => Ok(offer),
             None => unreachable!(),
         }

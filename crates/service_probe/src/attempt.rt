@@ -95,7 +95,7 @@ fn read_message(
 ) -> Result<Option<(Incoming, TextWire)>, AllocError> {
     let message = match point {
         Point::Reqmod => Incoming::request(alloc),
-        Point::Respmod => Incoming::response(alloc, user_side(alloc)?),
+        Point::Respmod => Incoming::response(alloc, user_side(alloc)?, Vec::new(alloc)),
     };
     Ok(read_head(message, wire_of(alloc, text)?))
 }
@@ -124,6 +124,7 @@ fn offer_of(
         alloc,
         plan,
         None,
+        &[],
         host,
         service.address.port(),
         path,

@@ -1,9 +1,11 @@
 -- What a transaction of the proxy's own sides says to the exchange that it belongs to.
 use Rattle.std.specs.Prelude.{◌≡◌, ℕ, Bool, true, false, not, ◌==◌, List, [], Option, None, Some}
 use Rattle.trace_core.specs.declared.history.Point.{Point}
+use Rattle.adapt_bytes.specs.Fields.{FieldList}
 use Rattle.adapt_turn.specs.declared.ends.ServiceEnd.{ServiceEnd}
 use Rattle.adapt_turn.specs.Refusals.{user_untouched}
 use Rattle.http_side.specs.Heads.{RequestParts}
+use Rattle.icap_client.specs.Carried.{carried_text}
 use Rattle.icap_client.specs.Turns.{is_reusable}
 use Rattle.http_relay.specs.declared.side.SourceSide.{SourceSide}
 use Rattle.http_relay.specs.Reading.{ComesAgain}
@@ -26,6 +28,11 @@ has_answered point ends = not (user_untouched point (not ends.next.touched) (not
 abbrev pub is_old_in : Option RequestParts → Bool
 is_old_in None = false
 is_old_in (Some head) = head.minor == 0
+
+-- the lines of the fields with one of these names, of the last answer of the service; none without a service
+abbrev pub carried_by : {V W : Type 0} → (V → FieldList) → (names : List (List ℕ)) → Option (ServiceEnd V W) → List ℕ
+carried_by fields names None = []
+carried_by fields names (Some service) = carried_text names (fields service.side)
 
 -- this message is the response to this request, before its first byte
 abbrev pub IsResponseTo : SourceSide → Arrival → Type 0

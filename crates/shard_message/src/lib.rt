@@ -6,6 +6,7 @@
 
 mod accounts;
 mod asking;
+mod carried;
 mod connection;
 mod ended;
 pub mod laws;

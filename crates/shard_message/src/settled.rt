@@ -12,6 +12,7 @@ ghost use Rattle.adapt_turn.specs.Refusals.{user_untouched};
 ghost use Rattle.shard_message.specs.Ended.{Brings, EndsAs, HasGiven, HasGivenSince, IfAsked, IfOther, IsBarred, IsEndOf, IsNextBy, IsSequel, IsWithdrawable, ended_as, fails, is_by_itself, is_cut, message_in, old_where_asked};
 ghost use Rattle.shard_message.specs.Told.{reusable_by};
 
+use crate::carried::carried_by;
 use crate::ended::{Sequel, message_of, outcome_by, report_of};
 use crate::moving::{Connections, Remains};
 use crate::room::room_of;
@@ -125,11 +126,27 @@ fn unasked<M>(outcome: Outcome, lasts: bool) -> Sequel<M>
     }
 }
 
-/// What comes of a request: the origin has it, unless an answer went back. One that may be withdrawn is there again where its connection to
+/// The response to a request, which goes with these field lines, where memory was found for them and for it.
+fn response_to<S: Asked>(
+    alloc: Global,
+    request: S,
+    carried: Option<Vec<u8>>,
+) -> Option<Box<S::Message>>
+    ensures response { IfSome result (λ boxed. S.is_response request boxed.value) }
+    ensures carries { IfSome result (λ boxed. IfSome carried (λ lines. S.told boxed.value ≡ lines.items)) }
+{
+    match carried {
+        Some(lines) => boxed(alloc, request.response(alloc, lines)),
+        None => None,
+    }
+}
+
+/// What comes of a request: the origin has it, unless an answer went back, and the response goes with these field lines. One that may be withdrawn is there again where its connection to
 /// the origin failed.
 fn after_request<S: Asked, K: Hop>(
     alloc: Global,
     request: S,
+    carried: Option<Vec<u8>>,
     back: &K,
     outcome: Outcome,
     closes: bool,
@@ -139,7 +156,7 @@ fn after_request<S: Asked, K: Hop>(
     ensures brings { Brings (S.is_response request) (S.is_next request) (S.is_again request) result }
 {
     match outcome {
-        Outcome::Done if back.is_idle() => Sequel::Sent(boxed(alloc, request.response(alloc))),
+        Outcome::Done if back.is_idle() => Sequel::Sent(response_to(alloc, request, carried)),
         Outcome::Fail(Cause::NextHop) if may_withdraw => withdrawn(alloc, request),
         _ => answered(alloc, request, outcome, closes, false),
     }
@@ -366,7 +383,16 @@ where
     };
     let may_withdraw = may_withdraw(by, has_answered, &origin, before.0, course);
     let closes = maker.closes();
-    let sequel = after_request(out.alloc(), source, &back, outcome, closes, may_withdraw);
+    let carried = carried_by(out.alloc(), &out.config().carry, &service);
+    let sequel = after_request(
+        out.alloc(),
+        source,
+        carried,
+        &back,
+        outcome,
+        closes,
+        may_withdraw,
+    );
     let report = report_on(at, out, &user, &service, account, &sequel, by);
     let connections = Connections {
         user,

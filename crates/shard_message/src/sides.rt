@@ -2,7 +2,9 @@
 //!
 //! The functions that take a transaction apart are generic in its sides, so that a proof sees each of them as one value.
 
-ghost use Rattle.std.specs.Prelude.{◌≡◌, ◌↔◌, Bool, Option, IfSome, IsTrue};
+ghost use Rattle.std.specs.Prelude.{◌≡◌, ◌↔◌, ℕ, List, Bool, Option, IfOk, IfSome, IsTrue, map, string_bytes};
+ghost use Rattle.adapt_bytes.specs.Fields.{FieldList};
+ghost use Rattle.icap_client.specs.Carried.{carried_text};
 ghost use Rattle.adapt_turn.specs.declared.turn.Outcome.{Outcome as AnyOutcome};
 
 use crate::withdrawal::request_of;
@@ -11,7 +13,7 @@ use adapt_turn::Outcome;
 use http_relay::SourceSide;
 use icap_client::{Found, ServiceSide};
 use proxy_rules::{HeadMaker, Incoming, keeps_origin, keeps_user};
-use std::alloc::Global;
+use std::alloc::{AllocError, Global};
 
 /// A service's side whose exchange is over.
 pub(crate) trait Served: Service + Drop {
@@ -21,17 +23,30 @@ pub(crate) trait Served: Service + Drop {
     /// What it said that it found in the message.
     fn found(&self) -> Found<'_>;
 
+    // the fields of its last answer's head
+    ghost fields: { Self → FieldList };
+
+    /// The lines of its last answer's head that have one of these names.
+    fn carried(&self, alloc: Global, names: &[String]) -> Result<Vec<u8>, AllocError>
+        ensures { IfOk result (λ text. text.items ≡ carried_text (map string_bytes names.now) (fields self.now)) };
+
     /// Why it failed.
     fn fault(&self) -> Option<ClientFault>;
 }
 
 impl Served for ServiceSide {
+    ghost fields = { λ service. service.replies.reader.remarks };
+
     fn tag(&self) -> Option<&[u8]> {
         ServiceSide::tag(self)
     }
 
     fn found(&self) -> Found<'_> {
         ServiceSide::found(self)
+    }
+
+    fn carried(&self, alloc: Global, names: &[String]) -> Result<Vec<u8>, AllocError> {
+        ServiceSide::carried(self, alloc, names)
     }
 
     fn fault(&self) -> Option<ClientFault> {
@@ -53,6 +68,9 @@ pub(crate) trait Asked: Source + Drop {
     // this message is the response to the request, before its first byte
     ghost is_response: { Self → Self.Message → Type 0 };
 
+    // the field lines that the service of a response is told
+    ghost told: { Self.Message → List ℕ };
+
     // this message is the next request on the connection of the request: it begins with the bytes that were left over
     ghost is_next: { Self → Self.Message → Type 0 };
 
@@ -71,9 +89,10 @@ pub(crate) trait Asked: Source + Drop {
     // this message is the request again, whose head was read once more: its bytes are those of the head, and those that were left over
     ghost is_again: { Self → Self.Message → Type 0 };
 
-    /// The response to the request, before its first byte.
-    fn response(self, alloc: Global) -> Self::Message
-        ensures { is_response self result };
+    /// The response to the request, before its first byte. Its service is told these field lines.
+    fn response(self, alloc: Global, carried: Vec<u8>) -> Self::Message
+        ensures response { is_response self result }
+        ensures told { told result ≡ carried.items };
 
     /// The request again, whose head was read. `None` where it has a body, or no memory was found.
     fn again(self) -> Option<Self::Message>
@@ -92,6 +111,8 @@ impl Asked for SourceSide {
     ghost is_old = { λ user. is_old_in (request_of user.head) };
 
     ghost is_response = { IsResponseTo };
+
+    ghost told = { λ message. message.carried };
 
     ghost is_next = { IsRequestAfter };
 
@@ -112,8 +133,8 @@ impl Asked for SourceSide {
         Incoming::next(self)
     }
 
-    fn response(self, alloc: Global) -> Incoming {
-        Incoming::response(alloc, self)
+    fn response(self, alloc: Global, carried: Vec<u8>) -> Incoming {
+        Incoming::response(alloc, self, carried)
     }
 
     fn again(self) -> Option<Incoming> {

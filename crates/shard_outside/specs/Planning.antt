@@ -72,18 +72,18 @@ told_of config user = if config.client_ip then user else None
 -- a request is offered by what this service says; it is told the address `from`, where there is one
 pub record IsRequestOffer (service : Option ServicePoint) (said : Option Options) (limits : Limits) (from : Option Ipv4Addr) (user : RequestParts) (offer : Offered) : Type 0 where
   pub plan : IsPlanned (options_for service said) limits Reqmod (bare_path user.target) (known_length (request_framing user)) offer.plan
-  pub text : AsksFor service from (offered_request user) [] offer
+  pub text : AsksFor service from [] (offered_request user) [] offer
 
--- so is a response
-pub record IsResponseOffer (service : Option ServicePoint) (said : Option Options) (limits : Limits) (from : Option Ipv4Addr) (user : RequestParts) (answer : ResponseParts) (offer : Offered) : Type 0 where
+-- so is a response, whose service is told the field lines that are carried on as well
+pub record IsResponseOffer (service : Option ServicePoint) (said : Option Options) (limits : Limits) (from : Option Ipv4Addr) (carried : List ℕ) (user : RequestParts) (answer : ResponseParts) (offer : Offered) : Type 0 where
   pub plan : IsPlanned (options_for service said) limits Respmod (bare_path user.target) (known_length (response_framing answer)) offer.plan
-  pub text : AsksFor service from (offered_request user) (offered_response answer) offer
+  pub text : AsksFor service from carried (offered_request user) (offered_response answer) offer
 
 -- a message is offered by what this service says
-abbrev pub IsOffer : Option ServicePoint → Option Options → Limits → (from : Option Ipv4Addr) → Heads → Offered → Type 0
-IsOffer service said limits from (request user) offer = IsRequestOffer service said limits from user offer
-IsOffer service said limits from (response user answer) offer = IsResponseOffer service said limits from user answer offer
-IsOffer service said limits from missing offer = ⊥
+abbrev pub IsOffer : Option ServicePoint → Option Options → Limits → (from : Option Ipv4Addr) → (carried : List ℕ) → Heads → Offered → Type 0
+IsOffer service said limits from carried (request user) offer = IsRequestOffer service said limits from user offer
+IsOffer service said limits from carried (response user answer) offer = IsResponseOffer service said limits from carried user answer offer
+IsOffer service said limits from carried missing offer = ⊥
 
 -- where a message goes: a request straight to its origin, or to the parent; a response to its user
 abbrev pub GoesTo : Config → Heads → Option Route → Type 0
@@ -117,13 +117,13 @@ abbrev pub IsAskedFirst : Grounds → Arrival → Type 0
 IsAskedFirst by m = IsStale (service_of by.config (point_of m.user)) by.book by.now by.asked
 
 -- a message by what its point's service said: where there is a service, it did say something
-pub record IsOfferBy (service : Option ServicePoint) (said : Option Options) (limits : Limits) (from : Option Ipv4Addr) (heads : Heads) (offer : Offered) : Type 0 where
-  pub offer_is : IsOffer service said limits from heads offer
+pub record IsOfferBy (service : Option ServicePoint) (said : Option Options) (limits : Limits) (from : Option Ipv4Addr) (carried : List ℕ) (heads : Heads) (offer : Offered) : Type 0 where
+  pub offer_is : IsOffer service said limits from carried heads offer
   pub heard : is_some service ≡ true → is_some said ≡ true
 
 -- the plan of a message
 pub record IsPlan (by : Grounds) (m : Arrival) (planned : Planned) : Type 0 where
-  pub offer : IsOfferBy (service_of by.config (point_of m.user)) by.book.said by.limits (told_of by.config by.user) (heads_of m) planned.offer
+  pub offer : IsOfferBy (service_of by.config (point_of m.user)) by.book.said by.limits (told_of by.config by.user) m.carried (heads_of m) planned.offer
   pub goes : GoesTo by.config (heads_of m) planned.route
   pub current : IsAskedFirst by m → ⊥
 

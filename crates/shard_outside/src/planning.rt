@@ -82,7 +82,8 @@ fn told_of(config: &Config, user: Option<Ipv4Addr>) -> Option<Ipv4Addr>
     if config.client_ip { user } else { None }
 }
 
-/// The offer of a message, by its service's record. The service is told the user's address `from`, where there is one.
+/// The offer of a message, by its service's record. The service is told the user's address `from`, where there is one, and of a response
+/// the field lines that are carried on.
 fn offer_of(
     alloc: Global,
     service: Option<&ServicePoint>,
@@ -91,7 +92,7 @@ fn offer_of(
     from: Option<Ipv4Addr>,
     message: &Incoming,
 ) -> Result<Offer, Reason>
-    ensures offer { IfOk result (IsOfferBy (option_copied service.entry) (option_copied said.entry) limits.now from (heads_of message.now)) }
+    ensures offer { IfOk result (IsOfferBy (option_copied service.entry) (option_copied said.entry) limits.now from message.now.carried (heads_of message.now)) }
     ensures refused { IfErr result (λ reason. (reason ≡ Reason.NoMemory) ⊎ (heads_of message.now ≡ missing)) }
     ensures suits { IfErr result (λ reason. lies_elsewhere reason ≡ true) }
 {
@@ -104,7 +105,8 @@ fn offer_of(
     let offer = match (message.point(), message.response_head()) {
         (Point::Reqmod, _) => Offer::of_request(alloc, service, said, limits, from, user),
         (Point::Respmod, Some(response)) => {
-            Offer::of_response(alloc, service, said, limits, from, user, response)
+            let carried = message.carried();
+            Offer::of_response(alloc, service, said, limits, from, carried, user, response)
         }
         (Point::Respmod, None) => return Err(Reason::OriginRefused),
     };

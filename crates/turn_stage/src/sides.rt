@@ -67,7 +67,11 @@ pub(crate) trait Message {
 impl Message for Incoming {
     fn before(alloc: Global, subject: &Subject<'_>) -> Result<Incoming, AllocError> {
         match subject.plan.point {
-            Point::Respmod => Ok(Incoming::response(alloc, user_side(alloc, subject.request)?)),
+            Point::Respmod => Ok(Incoming::response(
+                alloc,
+                user_side(alloc, subject.request)?,
+                Vec::new(alloc),
+            )),
             Point::Reqmod => Ok(Incoming::request(alloc)),
         }
     }
@@ -97,6 +101,7 @@ impl Offering for Offer {
             alloc,
             subject.plan,
             None,
+            &[],
             HOST,
             PORT,
             subject.path,

@@ -68,9 +68,12 @@ fn offer_of(
     scene: Scene<'_>,
 ) -> Result<Offer, NoMemory> {
     let from = scene.address(b"from");
+    let carried = scene.get(b"carried");
     match response(alloc, scene) {
         Some(response) => {
-            Offer::of_response(alloc, service, record, limits, from, user, &response)
+            Offer::of_response(
+                alloc, service, record, limits, from, carried, user, &response,
+            )
         }
         None => Offer::of_request(alloc, service, record, limits, from, user),
     }
@@ -113,7 +116,17 @@ fn put_new(alloc: Global, scene: Scene<'_>, out: &mut Vec<u8>) -> Result<(), NoM
         return put_line(out, b"no plan");
     };
     let request = scene.get(b"request");
-    match Offer::new(alloc, plan, None, b"127.0.0.1", 1344, b"/", request, &[])? {
+    match Offer::new(
+        alloc,
+        plan,
+        None,
+        &[],
+        b"127.0.0.1",
+        1344,
+        b"/",
+        request,
+        &[],
+    )? {
         Some(offer) => put_flag(out, b"offered", offer.is_offered()),
         None => put_line(out, b"no offer"),
     }

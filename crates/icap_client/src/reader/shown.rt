@@ -1,12 +1,16 @@
 //! What a reader shows of the responses so far.
 
-ghost use Rattle.std.specs.Prelude.{◌≡◌, IsTrue, ◌↔◌, None, Some, MatchOption, option_copied};
+ghost use Rattle.std.specs.Prelude.{◌≡◌, IsTrue, ◌↔◌, None, Some, MatchOption, IfOk, map, string_bytes, option_copied};
+ghost use Rattle.icap_client.specs.Carried.{carried_text};
+ghost use Rattle.icap_client.specs.Said.{infection_in, tag_in, virus_in};
 ghost use Rattle.icap_client.specs.Heard.{KeepsLimits};
 
 use super::ReplyReader;
-use crate::said::Found;
+use crate::carried::carried_of;
+use crate::said::{Found, found_in, tag_in};
 use crate::stage::Stage;
 use encapsulated::Layout;
+use std::alloc::{AllocError, Global};
 
 impl ReplyReader {
     /// The layout of a 200 and the adapted message's head, once both were read.
@@ -42,16 +46,23 @@ impl ReplyReader {
 
     /// What the last response's ICAP head said: its tag.
     pub fn tag(&self) -> Option<&[u8]>
-        ensures { option_copied result ≡ self.now.remarks.tag }
+        ensures { option_copied result ≡ tag_in self.now.remarks }
     {
-        self.remarks.tag()
+        tag_in(&self.remarks)
     }
 
     /// What the last response's ICAP head said that the service found in the message: of each value the first 256 bytes.
     pub fn found(&self) -> Found<'_>
-        ensures { (option_copied result.infection ≡ self.now.remarks.infection) × (option_copied result.virus ≡ self.now.remarks.virus) }
+        ensures { (option_copied result.infection ≡ infection_in self.now.remarks) × (option_copied result.virus ≡ virus_in self.now.remarks) }
     {
-        self.remarks.found()
+        found_in(&self.remarks)
+    }
+
+    /// The lines of the last response's ICAP head that have one of these names.
+    pub fn carried(&self, alloc: Global, names: &[String]) -> Result<Vec<u8>, AllocError>
+        ensures { IfOk result (λ text. text.items ≡ carried_text (map string_bytes names.now) self.now.remarks) }
+    {
+        carried_of(alloc, names, &self.remarks)
     }
 
     /// What the last response's ICAP head said: that the connection closes.

@@ -16,6 +16,6 @@ returns-clause-ok c =
     c.in_ok-hosts.ensures.ok
     c.in_ok-check_keys.ensures.ok
     (refl, refl, refl, refl, refl, refl, refl, refl)
-    (refl, refl, refl, refl, refl)
+    (refl, refl, refl, refl, refl, refl)
     (refl, refl, refl, refl, refl, refl, refl, refl, refl)
     (refl, refl, refl, refl)

@@ -6,10 +6,11 @@ use Rattle.proxy_config.proofs.entrance.Entrance.read.Goals as goal
 
 pub returns-clause-ok : goal.returns-clause-ok
 returns-clause-ok c config has =
-    rw (has.0, has.1)
+    rw (has.0, has.1, has.4)
     (c.in_ok-read_users.ensures.ok
     & c.in_ok-read_denied.ensures.ok
     & c.in_ok-read_number.ensures.ok ∙ ap Some (sym has.2)
     & c.in_ok-read_truth.ensures.ok ∙ ap Some (sym has.3)
-    & c.in_ok-read_truth-2.ensures.ok ∙ ap Some (sym has.4)
+    & c.in_ok-read_carry.ensures.ok
+    & c.in_ok-read_truth-2.ensures.ok ∙ ap Some (sym has.5)
     & tt)

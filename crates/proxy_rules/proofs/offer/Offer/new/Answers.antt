@@ -8,6 +8,7 @@ invariant_of-offer c =
     let reader = c.in_ok-side.ensures.reader in
     record {
       from = c.args.from;
+      carried = c.args.carried.now;
       host = c.args.host.now;
       port = c.args.port;
       path = c.args.path.now;
