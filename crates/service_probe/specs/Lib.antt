@@ -1,3 +1,4 @@
 pub mod Came
+pub mod Messages
 pub mod Samples
 pub mod Text

@@ -7,12 +7,11 @@ ghost use Rattle.service_probe.specs.Came.{counted_text, tally_text};
 
 use crate::attempt::{Attempt, try_sample};
 use crate::choice::Choice;
-use crate::line::Connection;
-use crate::options::{ask, put_record};
+use crate::lane::Lane;
+use crate::options::{Told, ask};
 use crate::report::{Way, put_attempt, put_spread};
-use crate::samples::{SAMPLES, Sample};
+use crate::samples::{SAMPLES, Sample, Trial};
 use crate::text::put_number;
-use options_book::Record;
 use plan_rules::Limits;
 use proxy_config::{Config, ServicePoint};
 use proxy_rules::limits_of;
@@ -23,7 +22,7 @@ use std::io::{self, Write};
 use std::net::Net;
 use std::sync::Wait;
 use std::time::Clock;
-use trace_core::{Plan, Point};
+use trace_core::Point;
 
 /// The size that stands for a preview's where a service wants none.
 const NO_PREVIEW: u64 = 1_024;
@@ -90,14 +89,6 @@ struct Target<'a> {
     ghost small: { ForSome preview (λ most. most ≤ MAX_PREVIEW) },
 }
 
-/// A sample for a service.
-#[derive(Clone, Copy)]
-struct Trial {
-    sample: Sample,
-    plan: Plan,
-    size: u64,
-}
-
 impl Target<'_> {
     /// A sample's message for this service. `None` where it has none.
     fn trial(&self, sample: Sample) -> Option<Trial> {
@@ -114,72 +105,82 @@ impl Target<'_> {
     }
 }
 
-/// The size of the previews that the proxy sends to a service of this record.
-fn preview_of(record: &Record, limits: &Limits) -> Option<u64>
+/// The size of the previews that the proxy sends to a service that wants them of this size, or wants none.
+fn preview_of(wanted: Option<u64>, limits: &Limits) -> Option<u64>
     ensures { IfSome result (λ most. most ≤ MAX_PREVIEW) }
 {
-    match record.preview() {
+    match wanted {
         Some(size) => Some(size.min(limits.preview_limit)),
         None => None,
     }
 }
 
+/// Prints the line of an attempt.
+fn print_attempt<O: Write>(
+    alloc: Global,
+    way: Way,
+    trial: &Trial,
+    attempt: &Attempt,
+    output: &mut O,
+) -> io::Result<()> {
+    let mut line = Vec::new(alloc);
+    put_attempt(
+        &mut line,
+        way,
+        trial.sample.name(),
+        Some(trial.size),
+        attempt,
+    )?;
+    output.write_all(&line)
+}
+
+/// Prints the spread of times, where there are several.
+fn print_spread<O: Write>(alloc: Global, times: &mut [u64], output: &mut O) -> io::Result<()> {
+    if times.len() < 2 {
+        return Ok(());
+    }
+    times.sort_unstable();
+    let mut line = Vec::new(alloc);
+    put_spread(&mut line, times)?;
+    output.write_all(&line)
+}
+
 /// Tries a service with a sample as often as is chosen over connections of one kind, and prints a line of the first answer and of each
-/// other one that broke a rule. The connection where it may carry another request.
+/// other one that broke a rule.
 fn try_over<B: Ledgers, R: Wait + Net + Dial + Clock, O: Write>(
     bench: &Bench<'_, B, R>,
     service: &ServicePoint,
-    trial: Trial,
-    way: Way,
-    kept: Option<Connection>,
+    trial: &Trial,
+    lane: &mut Lane,
     tally: &mut Tally,
     output: &mut O,
-) -> io::Result<Option<Connection>> {
-    let mut kept = kept;
+) -> io::Result<()> {
     let mut times = Vec::new(bench.alloc);
-    let Trial { sample, plan, size } = trial;
     for number in 0..bench.choice.count {
-        let before = match way {
-            Way::Kept => kept.take(),
-            Way::Fresh => None,
-        };
-        let (attempt, after) = try_sample(bench, service, plan, sample, size, before)?;
+        let attempt = try_sample(bench, service, trial, lane)?;
         tally.count(&attempt);
         times.push(attempt.micros)?;
-        if way == Way::Kept {
-            kept = after;
-        }
         if number == 0 || !attempt.came.is_good() {
-            let mut line = Vec::new(bench.alloc);
-            put_attempt(&mut line, way, sample.name(), Some(size), &attempt)?;
-            output.write_all(&line)?;
+            print_attempt(bench.alloc, lane.way(), trial, &attempt, output)?;
         }
     }
-    if bench.choice.count > 1 {
-        let mut line = Vec::new(bench.alloc);
-        times.sort_unstable();
-        put_spread(&mut line, &times)?;
-        output.write_all(&line)?;
-    }
-    output.flush()?;
-    Ok(kept)
+    print_spread(bench.alloc, &mut times, output)?;
+    output.flush()
 }
 
 /// Tries a service with all samples that are chosen, over connections of one kind.
 fn try_samples<B: Ledgers, R: Wait + Net + Dial + Clock, O: Write>(
     bench: &Bench<'_, B, R>,
     target: &Target<'_>,
-    way: Way,
-    kept: Option<Connection>,
+    lane: &mut Lane,
     tally: &mut Tally,
     output: &mut O,
 ) -> io::Result<()> {
-    let mut kept = kept;
     for sample in SAMPLES.iter() {
         if bench.choice.has(*sample)
             && let Some(trial) = target.trial(*sample)
         {
-            kept = try_over(bench, target.service, trial, way, kept, tally, output)?;
+            try_over(bench, target.service, &trial, lane, tally, output)?;
         }
     }
     Ok(())
@@ -196,6 +197,25 @@ fn put_service(out: &mut Vec<u8>, point: Point, place: &str, path: &str) -> Resu
     out.extend_from_slice(b"\n")
 }
 
+/// Prints a service, what came of asking for its options, and what they say.
+fn print_told<O: Write>(
+    alloc: Global,
+    service: &ServicePoint,
+    point: Point,
+    told: &Told,
+    output: &mut O,
+) -> io::Result<()> {
+    let mut text = Vec::new(alloc);
+    let place = format!(in alloc; "{}", service.address)?;
+    put_service(&mut text, point, place.as_str(), service.path.as_str())?;
+    put_attempt(&mut text, Way::Fresh, b"options", None, &told.attempt)?;
+    output.write_all(&text)?;
+    if let Some(said) = &told.said {
+        output.write_all(&said.words)?;
+    }
+    output.flush()
+}
+
 /// Tries the service of a point.
 fn try_service<B: Ledgers, R: Wait + Net + Dial + Clock, O: Write>(
     bench: &Bench<'_, B, R>,
@@ -204,30 +224,20 @@ fn try_service<B: Ledgers, R: Wait + Net + Dial + Clock, O: Write>(
     tally: &mut Tally,
     output: &mut O,
 ) -> io::Result<()> {
-    let mut text = Vec::new(bench.alloc);
-    let place = format!(in bench.alloc; "{}", service.address)?;
-    put_service(&mut text, point, place.as_str(), service.path.as_str())?;
-    let told = ask(bench, service, point)?;
+    let mut lane = Lane::new(Way::Kept);
+    let told = ask(bench, service, point, &mut lane)?;
     tally.count(&told.attempt);
-    put_attempt(&mut text, Way::Fresh, b"options", None, &told.attempt)?;
-    let mut preview = None;
-    let serves = told.record.is_some();
-    if let Some((answer, record)) = &told.record {
-        put_record(&mut text, answer, record)?;
-        preview = preview_of(record, &limits_of(bench.config));
-    }
-    output.write_all(&text)?;
-    output.flush()?;
-    if !serves {
+    print_told(bench.alloc, service, point, &told, output)?;
+    let Some(said) = &told.said else {
         return Ok(());
-    }
+    };
     let target = Target {
         service,
         point,
-        preview,
+        preview: preview_of(said.preview, &limits_of(bench.config)),
     };
-    try_samples(bench, &target, Way::Kept, told.kept, tally, output)?;
-    try_samples(bench, &target, Way::Fresh, None, tally, output)
+    try_samples(bench, &target, &mut lane, tally, output)?;
+    try_samples(bench, &target, &mut Lane::new(Way::Fresh), tally, output)
 }
 
 /// Tries the service of a point, if there is one.

@@ -9,15 +9,18 @@ mod bench;
 mod choice;
 mod excerpt;
 mod finding;
+mod lane;
 mod line;
 mod message;
 mod options;
+mod prepared;
 mod report;
 mod samples;
 mod stage;
 mod tap;
 mod text;
 mod text_stream;
+mod verdict;
 
 pub use attempt::Attempt;
 pub use bench::{Bench, probe};

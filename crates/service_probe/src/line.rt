@@ -1,8 +1,10 @@
 //! A connection to a service, and the poll that reports it.
 
+use crate::tap::Tap;
 use mio::{Events, Poll, Token};
 use socket_wire::{Dial, Readiness, Service, ServiceWire, SocketWire, Unread};
 use std::alloc::Global;
+use std::boxed::Box;
 use std::io::{self, ErrorKind};
 use std::net::{Net, SocketAddrV4};
 use std::sync::Arc;
@@ -20,6 +22,16 @@ pub struct Line {
 }
 
 impl Line {
+    /// What reports a connection that is dialled now.
+    fn new<R: Net>(rt: &R, alloc: Global) -> io::Result<Line> {
+        let ready = Arc::new(alloc, Readiness::dialled())?;
+        Ok(Line {
+            poll: Poll::new(rt)?,
+            events: Events::with_capacity(alloc, 4)?,
+            ready,
+        })
+    }
+
     /// Waits for news of the connection, for a while.
     pub fn wait(&mut self) -> io::Result<()> {
         self.wait_for(Duration::from_millis(PAUSE))
@@ -66,38 +78,61 @@ impl Line {
         }
         wire.unread()
     }
+
+    /// A connection to an address, which may still be on its way.
+    fn dial<R: Dial>(&self, rt: &R, address: SocketAddrV4) -> io::Result<ServiceWire> {
+        let ready = self.ready.clone()?;
+        let stream = rt.dial::<Service>(address)?;
+        let mut wire: ServiceWire = SocketWire::new(stream, ready);
+        wire.register(self.poll.registry(), Token(0))?;
+        Ok(wire)
+    }
 }
 
 /// A connection that may carry a request.
 #[derive(Drop)]
 pub struct Connection {
     pub line: Line,
-    pub wire: ServiceWire,
-    /// Whether it carried one before.
-    pub is_used: bool,
+    /// None while a transaction has it.
+    pub wire: Option<Tap<ServiceWire>>,
 }
 
-/// Dials an address, and waits for so many seconds for the connection. An error where none can be had.
-pub fn connect<R: Net + Dial + Clock>(
+impl Connection {
+    /// Whether it may carry a request: nothing came on it since its last answer.
+    pub fn is_quiet(&mut self) -> bool {
+        match &self.wire {
+            Some(tap) => self.line.unread(tap.wire()) == Unread::Nothing,
+            None => false,
+        }
+    }
+}
+
+/// Dials an address, and waits for so many seconds for the connection.
+fn open<R: Net + Dial + Clock>(
     rt: &R,
     alloc: Global,
     address: SocketAddrV4,
     seconds: u64,
 ) -> io::Result<Connection> {
     let start = Instant::now(rt)?;
-    let ready = Arc::new(alloc, Readiness::dialled())?;
-    let mut line = Line {
-        poll: Poll::new(rt)?,
-        events: Events::with_capacity(alloc, 4)?,
-        ready: ready.clone()?,
-    };
-    let stream = rt.dial::<Service>(address)?;
-    let mut wire: ServiceWire = SocketWire::new(stream, ready);
-    wire.register(line.poll.registry(), Token(0))?;
+    let mut line = Line::new(rt, alloc)?;
+    let wire = line.dial(rt, address)?;
     line.arrive(rt, start, seconds)?;
     Ok(Connection {
         line,
-        wire,
-        is_used: false,
+        wire: Some(Tap::new(alloc, wire)),
     })
+}
+
+/// Dials an address, and waits for so many seconds for the connection. `None` where none can be had.
+pub fn connect<R: Net + Dial + Clock>(
+    rt: &R,
+    alloc: Global,
+    address: SocketAddrV4,
+    seconds: u64,
+) -> Option<Box<Connection>> {
+    match open(rt, alloc, address, seconds) {
+        Ok(connection) => Box::new(alloc, connection).ok(),
+        Err(_) => None,
+    }
 }

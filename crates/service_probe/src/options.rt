@@ -1,14 +1,14 @@
 //! A service's options: asked for, and said in words (RFC 3507, section 4.10).
 
-use crate::attempt::{Attempt, connection_of, failed, micros_since};
+use crate::attempt::{Attempt, failed, micros_since};
 use crate::bench::Bench;
 use crate::excerpt::{find, find_in_options};
-use crate::finding::{Came, Fault};
+use crate::finding::{Came, Fault, Finding};
+use crate::lane::{Lane, connection_of};
 use crate::line::{Connection, Line};
 use crate::tap::Tap;
 use crate::text::put_value;
 use adapt_bytes::has_item;
-use adapt_sides::ClientFault;
 use icap_client::OptionsSide;
 use icap_head::{Fields, IcapResponse};
 use options_book::{Record, read_record};
@@ -16,10 +16,9 @@ use proxy_config::ServicePoint;
 use proxy_rules::{ask_options, is_reusable_after_options};
 use socket_wire::{Dial, ServiceWire};
 use span_bank::Ledgers;
-use std::alloc::AllocError;
+use std::alloc::{AllocError, Global};
 use std::io;
 use std::net::Net;
-use std::sync::Wait;
 use std::time::{Clock, Instant};
 use trace_core::Point;
 use wire_kit::Wire;
@@ -28,35 +27,59 @@ use wire_kit::Wire;
 #[derive(Drop)]
 pub struct Told {
     pub attempt: Attempt,
-    /// Its answer and the record that it makes, where it serves.
-    pub record: Option<(IcapResponse, Record)>,
-    /// The connection, where it may carry another request.
-    pub kept: Option<Connection>,
+    /// Its options, where it serves.
+    pub said: Option<Said>,
+}
+
+/// The options of a service.
+#[derive(Drop)]
+pub struct Said {
+    /// In words, a line for each.
+    pub words: Vec<u8>,
+    /// The size of the previews that it wants, if it wants some.
+    pub preview: Option<u64>,
+}
+
+/// What came of a request for options.
+#[derive(Drop)]
+enum Heard {
+    /// An answer.
+    Answer(IcapResponse),
+    /// What broke a rule, or kept the answer away.
+    Fault(Fault),
+}
+
+/// What was made of it.
+#[derive(Drop)]
+enum Judged {
+    /// The options, and whether the connection may carry another request.
+    Serves(Said, bool),
+    /// A fault.
+    Broken(Finding),
 }
 
 /// What no answer was had to.
 fn untold(attempt: Attempt) -> Told {
     Told {
         attempt,
-        record: None,
-        kept: None,
+        said: None,
     }
 }
 
-/// Asks to the end. `None` after so many seconds in which nothing moved.
+/// Asks to the end, or until nothing moved for so many seconds.
 fn hear<R: Clock>(
     rt: &R,
     side: &mut OptionsSide,
     tap: &mut Tap<ServiceWire>,
     line: &mut Line,
     seconds: u64,
-) -> io::Result<Option<Result<IcapResponse, ClientFault>>> {
+) -> io::Result<Heard> {
     let mut moved = Instant::now(rt)?;
     for _ in 0..u64::MAX {
         let before = tap.counts();
         match side.turn(tap) {
-            Ok(Some(answer)) => return Ok(Some(Ok(answer))),
-            Err(fault) => return Ok(Some(Err(fault))),
+            Ok(Some(answer)) => return Ok(Heard::Answer(answer)),
+            Err(fault) => return Ok(Heard::Fault(Fault::of_side(fault))),
             Ok(None) if tap.counts() != before => moved = Instant::now(rt)?,
             Ok(None) => {
                 if moved.elapsed(rt)?.as_secs() >= seconds {
@@ -66,74 +89,111 @@ fn hear<R: Clock>(
             }
         }
     }
-    Ok(None)
+    Ok(Heard::Fault(Fault::Deadline))
 }
 
-/// Asks a service for its options over a fresh connection.
-pub fn ask<B: Ledgers, R: Wait + Net + Dial + Clock>(
-    bench: &Bench<'_, B, R>,
-    service: &ServicePoint,
+/// Judges an answer by the options that it says for a point, and by the bytes that were left over.
+fn judge_answer<W>(
+    alloc: Global,
+    answer: &IcapResponse,
     point: Point,
-) -> io::Result<Told> {
-    let (rt, alloc) = (bench.rt, bench.alloc);
-    let mut side = ask_options(alloc, service)?;
-    let Some(connection) = connection_of(bench, service, None) else {
-        return Ok(untold(failed(alloc, Fault::Refused)));
-    };
-    let Connection {
-        mut line,
-        wire,
-        is_used: _,
-    } = connection;
-    let mut tap = Tap::new(alloc, wire);
-    let start = Instant::now(rt)?;
-    let heard = hear(rt, &mut side, &mut tap, &mut line, bench.config.deadline);
-    let micros = micros_since(rt, start);
-    let broken = |came| {
-        untold(Attempt {
-            came,
-            micros,
-            serves: false,
-        })
-    };
-    let answer = match heard {
-        Ok(Some(Ok(answer))) => answer,
-        Ok(Some(Err(fault))) => {
-            let found = find(alloc, &tap, Fault::of_side(fault), side.raw_left())?;
-            return Ok(broken(Came::Broken(found)));
-        }
-        Ok(None) => {
-            let found = find(alloc, &tap, Fault::Deadline, side.raw_left())?;
-            return Ok(broken(Came::Broken(found)));
-        }
-        Err(_) => return Ok(untold(failed(alloc, Fault::System))),
-    };
-    let record = match read_record(alloc, &answer, point, 0) {
+    side: &OptionsSide,
+    tap: &Tap<W>,
+) -> Result<Judged, AllocError> {
+    let record = match read_record(alloc, answer, point, 0) {
         Ok(record) => record,
         Err(fault) => {
-            let found = find_in_options(alloc, &tap, Fault::of_options(fault))?;
-            return Ok(broken(Came::Broken(found)));
+            let found = find_in_options(alloc, tap, Fault::of_options(fault))?;
+            return Ok(Judged::Broken(found));
         }
     };
     if side.raw_left() > 0 {
-        let found = find(alloc, &tap, Fault::LeftOver, side.raw_left())?;
-        return Ok(broken(Came::Broken(found)));
+        let found = find(alloc, tap, Fault::LeftOver, side.raw_left())?;
+        return Ok(Judged::Broken(found));
     }
-    let serves = is_reusable_after_options(&side, &answer);
-    let kept = Connection {
-        line,
-        wire: tap.into_wire(),
-        is_used: true,
+    let said = Said {
+        words: words_of(alloc, answer, &record)?,
+        preview: record.preview(),
     };
-    Ok(Told {
+    Ok(Judged::Serves(said, is_reusable_after_options(side, answer)))
+}
+
+/// Judges what came.
+fn judge<W>(
+    alloc: Global,
+    heard: Heard,
+    point: Point,
+    side: &OptionsSide,
+    tap: &Tap<W>,
+) -> Result<Judged, AllocError> {
+    match heard {
+        Heard::Answer(answer) => judge_answer(alloc, &answer, point, side, tap),
+        Heard::Fault(fault) => {
+            let found = find(alloc, tap, fault, side.raw_left())?;
+            Ok(Judged::Broken(found))
+        }
+    }
+}
+
+/// What is told by what was made of an answer that came after so many microseconds.
+fn told_of(judged: Judged, micros: u64) -> Told {
+    let (came, serves, said) = match judged {
+        Judged::Serves(said, serves) => (Came::Options, serves, Some(said)),
+        Judged::Broken(found) => (Came::Broken(found), false, None),
+    };
+    Told {
         attempt: Attempt {
-            came: Came::Options,
+            came,
             micros,
             serves,
         },
-        record: Some((answer, record)),
-        kept: if serves { Some(kept) } else { None },
-    })
+        said,
+    }
+}
+
+/// Asks a service for its options over a connection.
+fn ask_over<B: Ledgers, R: Clock>(
+    bench: &Bench<'_, B, R>,
+    service: &ServicePoint,
+    point: Point,
+    connection: &mut Connection,
+) -> io::Result<Told> {
+    let (rt, alloc) = (bench.rt, bench.alloc);
+    let mut side = ask_options(alloc, service)?;
+    let Some(tap) = &mut connection.wire else {
+        return Ok(untold(failed(alloc, Fault::System)));
+    };
+    let start = Instant::now(rt)?;
+    let heard = hear(
+        rt,
+        &mut side,
+        tap,
+        &mut connection.line,
+        bench.config.deadline,
+    );
+    let micros = micros_since(rt, start);
+    match heard {
+        Ok(heard) => Ok(told_of(judge(alloc, heard, point, &side, tap)?, micros)),
+        Err(_) => Ok(untold(failed(alloc, Fault::System))),
+    }
+}
+
+/// Asks a service for its options over a fresh connection, which is kept where it may carry another request.
+pub fn ask<B: Ledgers, R: Net + Dial + Clock>(
+    bench: &Bench<'_, B, R>,
+    service: &ServicePoint,
+    point: Point,
+    lane: &mut Lane,
+) -> io::Result<Told> {
+    let Some(connection) = connection_of(bench, service, None) else {
+        return Ok(untold(failed(bench.alloc, Fault::Refused)));
+    };
+    let mut connection = connection;
+    let told = ask_over(bench, service, point, &mut connection)?;
+    if told.attempt.serves {
+        lane.keep(connection);
+    }
+    Ok(told)
 }
 
 /// Adds a line with the values of all fields of a name, where there are some.
@@ -185,18 +245,16 @@ const SAID: [(&[u8], &[u8]); 9] = [
     (b"Transfer-Ignore", b""),
 ];
 
-/// Adds what an answer says, in words.
-pub fn put_record(
-    out: &mut Vec<u8>,
-    answer: &IcapResponse,
-    record: &Record,
-) -> Result<(), AllocError> {
+/// What an answer says, in words.
+fn words_of(alloc: Global, answer: &IcapResponse, record: &Record) -> Result<Vec<u8>, AllocError> {
+    let mut words = Vec::new(alloc);
     for (name, unit) in SAID.iter() {
-        put_fields(out, &answer.fields, name, unit)?;
+        put_fields(&mut words, &answer.fields, name, unit)?;
     }
     let allows = answer
         .fields
         .values(b"Allow")
         .any(|value| has_item(value, b"204"));
-    out.extend_from_slice(where_204(record.preview().is_some(), allows))
+    words.extend_from_slice(where_204(record.preview().is_some(), allows))?;
+    Ok(words)
 }

@@ -44,6 +44,15 @@ pub const SAMPLES: [Sample; 11] = [
     Sample::Eicar,
 ];
 
+/// A sample for a service.
+#[derive(Clone, Copy)]
+pub struct Trial {
+    pub sample: Sample,
+    pub plan: Plan,
+    /// How many bytes its body has.
+    pub size: u64,
+}
+
 impl Sample {
     /// How many bytes its body has where a preview has so many. `None` where there is no such body, or it would be none.
     pub fn size(self, preview: u64) -> Option<u64>

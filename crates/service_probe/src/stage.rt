@@ -5,24 +5,37 @@ ghost use Rattle.std.specs.Prelude.{◌≡◌, ◌≤◌, IfSome};
 ghost use Rattle.span_bank.specs.declared.limits.TheConstants.{MAX_CAPACITY};
 ghost use Rattle.plan_rules.specs.Claims.{claim_of};
 
-use adapt_turn::{EndTypes, Ends, Outcome, ServiceEnd, Side, TurnAnswer, TxParts};
+use crate::finding::Came;
+use crate::tap::Tap;
+use crate::verdict::{Heard, judge};
+use adapt_turn::{EndTypes, Ends, Outcome, ServiceEnd, Side, TurnAnswer, Tx, TxParts};
 use http_side::{OriginUse, OriginWay};
 use plan_rules::{Limits, Pace, claim};
 use proxy_rules::{Beginning, Incoming, Offer, Running, Way, Wires, begin};
 use span_bank::{Bank, Ledgers, Pages, Stake};
-use std::alloc::Global;
+use std::alloc::{AllocError, Global};
+use std::boxed::Box;
 use std::sync::Wait;
 use trace_core::{Plan, Seen};
+use wire_kit::Wire;
 
 /// What is left of a transaction.
 #[derive(Drop)]
-pub struct Left<V, W> {
-    pub outcome: Outcome,
-    pub seen: Seen,
-    /// The service's side.
-    pub side: Option<V>,
-    /// Its connection.
-    pub wire: Option<W>,
+pub struct Left<W> {
+    /// What came of its message.
+    pub came: Came,
+    /// Whether the connection to the service may carry another request.
+    pub is_reusable: bool,
+    /// That connection.
+    pub tap: Tap<W>,
+}
+
+/// How a transaction ended, and the service's side with its connection.
+#[derive(Drop)]
+pub struct Ended<V, W> {
+    outcome: Outcome,
+    seen: Seen,
+    service: Option<(V, W)>,
 }
 
 /// A reservation for a transaction of this plan. `None` where the budget has none.
@@ -51,28 +64,44 @@ pub fn set_out<B: Ledgers, W: Wires>(
     rt: &impl Wait,
     alloc: Global,
     bank: &Bank<B>,
-    offer: Offer,
-    message: Incoming,
+    offer: Box<Offer>,
+    message: Box<Incoming>,
     way: Way<W>,
     limits: Limits,
     pace: Pace,
-) -> Option<Running<B, W>> {
+) -> Option<Box<Running<B, W>>> {
     let stake = reserve(rt, bank, offer.plan(), &limits)?;
     let beginning = Beginning {
-        offer,
+        offer: Box::into_inner(offer),
         limits,
         stake,
-        message,
+        message: Box::into_inner(message),
         way,
         pace,
         last: false,
         origin: OriginWay::straight(OriginUse::Once),
     };
     match begin(alloc, beginning) {
-        Ok(running) => Some(running),
+        Ok(running) => boxed(rt, alloc, bank, running),
         Err(beginning) => {
             let (stake, _way) = beginning.into_remains();
             bank.close(rt, stake, Pages::none());
+            None
+        }
+    }
+}
+
+/// A transaction on the heap. One for which there is no memory ends.
+fn boxed<B: Ledgers, W: Wires>(
+    rt: &impl Wait,
+    alloc: Global,
+    bank: &Bank<B>,
+    running: Running<B, W>,
+) -> Option<Box<Running<B, W>>> {
+    match Box::new(alloc, running) {
+        Ok(running) => Some(running),
+        Err(failed) => {
+            drop(close(rt, bank, failed.value.into_tx()));
             None
         }
     }
@@ -102,32 +131,42 @@ pub fn move_on<B: Ledgers, W: Wires>(
     false
 }
 
-/// Ends a transaction: one that isn't over fails. Its reservation is closed.
-pub fn end<B: Ledgers, W: Wires>(
+/// Closes the reservation of a transaction, which fails where it isn't over.
+fn close<B: Ledgers, E: EndTypes>(
     rt: &impl Wait,
     bank: &Bank<B>,
-    running: Running<B, W>,
-) -> Left<icap_client::ServiceSide, W::ServiceWire> {
-    let mut running = running;
-    running.halt(rt, bank);
-    match running.into_tx().into_parts() {
-        Ok(parts) => take_apart(rt, bank, parts),
-        Err(_) => unreachable!(),
-    }
-}
-
-/// Closes the reservation of a transaction that ended. What is left of it.
-fn take_apart<B: Ledgers, E: EndTypes>(
-    rt: &impl Wait,
-    bank: &Bank<B>,
-    parts: TxParts<B, E>,
-) -> Left<E::Client, E::ServiceWire>
+    tx: Tx<B, E>,
+) -> Ended<E::Client, E::ServiceWire>
 where
     E::Reader: Drop,
     E::Client: Drop,
     E::Writer: Drop,
     E::Maker: Drop,
     E::SourceWire: Drop,
+    E::ServiceWire: Drop,
+    E::NextWire: Drop,
+{
+    let mut tx = tx;
+    tx.halt(rt, bank);
+    match tx.into_parts() {
+        Ok(parts) => take_apart(rt, bank, parts),
+        Err(_) => unreachable!(),
+    }
+}
+
+/// Closes the reservation of a transaction that ended.
+fn take_apart<B: Ledgers, E: EndTypes>(
+    rt: &impl Wait,
+    bank: &Bank<B>,
+    parts: TxParts<B, E>,
+) -> Ended<E::Client, E::ServiceWire>
+where
+    E::Reader: Drop,
+    E::Client: Drop,
+    E::Writer: Drop,
+    E::Maker: Drop,
+    E::SourceWire: Drop,
+    E::ServiceWire: Drop,
     E::NextWire: Drop,
     requires { (parts.stake.held ≡ 0) × (parts.stake.pages ≡ 0) }
 {
@@ -147,14 +186,48 @@ where
         back: _,
         maker: _,
     } = ends;
-    let (side, wire) = match service {
-        Some(ServiceEnd { side, wire }) => (Some(side), wire),
-        None => (None, None),
-    };
-    Left {
+    Ended {
         outcome,
         seen,
-        side,
-        wire,
+        service: line_of(service),
     }
+}
+
+/// The service's side and its connection, where there are both.
+fn line_of<V: Drop, W: Drop>(service: Option<ServiceEnd<V, W>>) -> Option<(V, W)> {
+    let ServiceEnd { side, wire } = service?;
+    Some((side, wire?))
+}
+
+/// Judges what came of a message. `None` where its connection was given up.
+pub fn judged<V: Heard + Drop, W: Drop>(
+    alloc: Global,
+    ended: Ended<V, Tap<W>>,
+) -> Result<Option<Left<W>>, AllocError> {
+    let Ended {
+        outcome,
+        seen,
+        service,
+    } = ended;
+    let Some((side, tap)) = service else {
+        return Ok(None);
+    };
+    let came = judge(alloc, outcome, &seen, &side, &tap)?;
+    Ok(Some(Left {
+        came,
+        is_reusable: side.is_reusable(),
+        tap,
+    }))
+}
+
+/// Ends a transaction: one that isn't over fails. Its reservation is closed.
+pub fn end<B: Ledgers, W: Wires>(
+    rt: &impl Wait,
+    bank: &Bank<B>,
+    running: Box<Running<B, W>>,
+) -> Ended<icap_client::ServiceSide, W::ServiceWire>
+where
+    W::ServiceWire: Drop,
+{
+    close(rt, bank, Box::into_inner(running).into_tx())
 }

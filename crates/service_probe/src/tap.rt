@@ -8,7 +8,7 @@ use wire_kit::{Got, Put, Wire};
 /// As many bytes are kept at least, where so many came: more than a side keeps of what it hasn't framed.
 const KEPT: usize = 32_768;
 
-/// A wire, and the last bytes that it gave since it was tapped. Bytes for which there was no memory aren't kept, nor those before them.
+/// A wire, and the last bytes that it gave since a request began. Bytes for which there was no memory aren't kept, nor those before them.
 #[derive(Drop)]
 pub struct Tap<W> {
     alloc: Global,
@@ -28,18 +28,20 @@ impl<W> Tap<W> {
         }
     }
 
-    /// The wire itself.
-    pub fn into_wire(self) -> W {
-        let Tap {
-            alloc: _,
-            wire,
-            last: _,
-            given: _,
-        } = self;
-        wire
+    /// Forgets what came: a request begins.
+    pub fn forget(&mut self)
+        ensures { self.new.wire ≡ self.old.wire }
+    {
+        self.last = Vec::new(self.alloc);
+        self.given = 0;
     }
 
-    /// How many bytes came since it was tapped.
+    /// The wire itself.
+    pub fn wire(&self) -> &W {
+        &self.wire
+    }
+
+    /// How many bytes came since the request began.
     pub fn given(&self) -> u64 {
         self.given
     }
