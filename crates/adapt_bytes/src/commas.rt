@@ -6,7 +6,7 @@ ghost use Rattle.adapt_bytes.specs.Text.{comma_parts, comma_items, has_item, par
 use crate::text::trim;
 
 /// The parts of a list between its commas, without the spaces and tabs around each.
-#[derive(Debug, Drop)]
+#[derive(Drop)]
 pub struct CommaParts<'a> {
     rest: Option<&'a [u8]>,
 }
@@ -41,7 +41,7 @@ impl<'a> Iterator for CommaParts<'a> {
 }
 
 /// The items of a list: its non-empty parts.
-#[derive(Debug, Drop)]
+#[derive(Drop)]
 pub struct CommaItems<'a> {
     parts: CommaParts<'a>,
 }

@@ -3,7 +3,7 @@ ghost use Rattle.std.specs.Prelude.{◌≡◌, IfSome, IfNone};
 ghost use Rattle.adapt_bytes.specs.Methods.{method_name, NamesNoMethod};
 
 /// The ICAP method of a request, or of the request that a response answers (RFC 3507, sections 4.8 to 4.10).
-#[derive(Clone, Copy, Debug, PartialEq, Eq)]
+#[derive(Clone, Copy)]
 pub enum Method {
     /// `REQMOD`: an HTTP request is offered.
     Reqmod,

@@ -14,7 +14,7 @@ use std::marker::Model;
 /// room.put(b"200 ");
 /// assert_eq!(rt; room.into_vec(), b"HTTP/1.1 200 ");
 /// ```
-#[derive(Debug, Drop)]
+#[derive(Drop)]
 pub struct Room {
     bytes: Vec<u8>,
     written: usize,

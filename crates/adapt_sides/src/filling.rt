@@ -13,7 +13,7 @@ use wire_kit::{Got, Wire};
 pub const MAX_READ: usize = 4096;
 
 /// What a read gave.
-#[derive(Clone, Copy, Debug, PartialEq, Eq)]
+#[derive(Clone, Copy)]
 pub enum Filled {
     /// Bytes came.
     Bytes,

@@ -16,7 +16,7 @@ use std::sync::Wait;
 use trace_core::Cause;
 
 /// What a pass did.
-#[derive(Clone, Copy, Debug, PartialEq, Eq)]
+#[derive(Clone, Copy)]
 pub struct PassAnswer {
     /// Nothing moved, and nothing was stepped.
     pub waiting: bool,

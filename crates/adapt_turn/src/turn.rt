@@ -3,7 +3,7 @@
 use trace_core::Cause;
 
 /// Which side a turn is for.
-#[derive(Clone, Copy, Debug, PartialEq, Eq)]
+#[derive(Clone, Copy)]
 pub enum Side {
     /// Where the message comes from.
     Source,

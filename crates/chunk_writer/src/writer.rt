@@ -17,7 +17,7 @@ use std::marker::Model;
 use wire_kit::Put;
 
 /// What a turn wrote.
-#[derive(Clone, Copy, Debug, PartialEq, Eq)]
+#[derive(Clone, Copy)]
 pub struct Wrote {
     /// What the wire answered, or `None` if nothing was to be offered.
     pub answer: Option<Put>,

@@ -5,7 +5,7 @@ ghost use Rattle.encapsulated.specs.Faults.{fault_number};
 use thiserror::Error;
 
 /// Why a list is refused. The first that applies, in this order, is returned.
-#[derive(Clone, Copy, Debug, PartialEq, Eq, Error)]
+#[derive(Clone, Copy, Debug, Error)]
 pub enum EncFault {
     /// An item isn't a name, `=` and an offset of at most `2^64 - 1`, or there is no item.
     #[error("an item of the list isn't a name, = and an offset")]

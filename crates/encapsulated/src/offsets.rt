@@ -15,7 +15,7 @@ use crate::parts::BodyPart;
 /// assert_eq!(rt; layout.body, BodyPart::ReqBody);
 /// assert_eq!(rt; layout.offset, 147);
 /// ```
-#[derive(Clone, Copy, Debug, PartialEq, Eq)]
+#[derive(Clone, Copy)]
 pub struct Layout {
     /// The head of an HTTP request, where there is one.
     pub req_hdr: Option<u64>,

@@ -19,7 +19,7 @@ pub enum BodyPart {
 }
 
 /// A part that a list names (RFC 3507, section 4.4.1).
-#[derive(Clone, Copy, Debug, PartialEq, Eq)]
+#[derive(Clone, Copy)]
 pub enum Part {
     /// `req-hdr`: the head of an HTTP request.
     ReqHdr,

@@ -16,7 +16,7 @@ pub(crate) struct Seen {
 }
 
 /// A row of the RFC's table: heads, each of which may be missing, and a body, which may be null-body.
-#[derive(Clone, Copy, PartialEq, Eq)]
+#[derive(Clone, Copy)]
 pub(crate) struct Row {
     pub(crate) req_hdr: bool,
     pub(crate) res_hdr: bool,

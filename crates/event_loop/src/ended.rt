@@ -6,7 +6,7 @@ ghost use Rattle.std.specs.IoError.{error_kind};
 use std::io::{self, ErrorKind};
 
 /// Why a loop ends before it has to stop.
-#[derive(Clone, Copy, Debug, PartialEq, Eq)]
+#[derive(Clone, Copy)]
 pub enum LoopFault {
     /// The system fails it, as its poll or its clock.
     System,

@@ -14,7 +14,7 @@ use std::sync::Wait;
 use std::time::Clock;
 
 /// What an event says of a connection.
-#[derive(Clone, Copy, Debug, PartialEq, Eq)]
+#[derive(Clone, Copy, Debug)]
 pub struct Told {
     /// There may be bytes to read.
     pub readable: bool,
@@ -27,7 +27,7 @@ pub struct Told {
 }
 
 /// How far an exchange was driven.
-#[derive(Clone, Copy, Debug, PartialEq, Eq)]
+#[derive(Clone, Copy)]
 pub enum Driven {
     /// Each of its connections waits for an event.
     Waiting,

@@ -8,7 +8,7 @@ use crate::phase::Phase;
 use trace_core::Point;
 
 /// Where a user's connection stands, and what it holds: a lease, a reservation, and a connection to the origin.
-#[derive(Clone, Copy, Debug, PartialEq, Eq)]
+#[derive(Clone, Copy)]
 pub struct Course {
     pub phase: Phase,
     /// The service's connection.

@@ -1,7 +1,7 @@
 //! How a request's origin is dialed.
 
 /// How the origin of a request is to be dialed (RFC 9112, section 9.3.1).
-#[derive(Clone, Copy, Debug, PartialEq, Eq)]
+#[derive(Clone, Copy)]
 pub enum Dialing {
     /// Over a fresh connection alone.
     Fresh,

@@ -37,7 +37,7 @@ impl RefusalCause {
 
 /// What may happen to a user's connection. A message is a request on its way to the origin, or a response on its way to the
 /// user.
-#[derive(Clone, Copy, Debug, PartialEq, Eq)]
+#[derive(Clone, Copy, Debug)]
 pub enum Event {
     /// The first byte of a further request came.
     HeadBegun,

@@ -18,7 +18,7 @@ use std::marker::Model;
 /// }
 /// assert_eq!(rt; exchange.due(), Due::Plan);
 /// ```
-#[derive(Debug, Drop)]
+#[derive(Drop)]
 pub struct Exchange {
     course: Course,
 }

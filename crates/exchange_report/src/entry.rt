@@ -11,7 +11,7 @@ use adapt_bytes::three_digits;
 use std::alloc::AllocError;
 
 /// An IPv4 address.
-#[derive(Clone, Copy, Debug, PartialEq, Eq)]
+#[derive(Clone, Copy, Debug)]
 pub struct Address {
     pub first: u8,
     pub second: u8,
@@ -20,7 +20,7 @@ pub struct Address {
 }
 
 /// Where a request went.
-#[derive(Clone, Copy, Debug, PartialEq, Eq)]
+#[derive(Clone, Copy, Debug)]
 pub enum Destination {
     /// Straight to its origin, at this address.
     Origin(Address),

@@ -20,7 +20,7 @@ pub enum Kind {
 }
 
 /// Numbers of one name.
-#[derive(Clone, Copy, Debug)]
+#[derive(Clone, Copy)]
 pub struct Family {
     /// Letters, digits and underscores.
     pub name: &'static [u8],
@@ -30,7 +30,7 @@ pub struct Family {
 }
 
 /// A line or two of the text.
-#[derive(Clone, Copy, Debug)]
+#[derive(Clone, Copy)]
 pub enum Metric {
     /// A family begins: all its numbers follow.
     Family(Family),

@@ -22,7 +22,7 @@ use trace_core::State;
 use wire_kit::{Put, Wire};
 
 /// What the next hop gets.
-#[derive(Clone, Copy, Debug, PartialEq, Eq)]
+#[derive(Clone, Copy)]
 pub enum Stage {
     /// Nothing is known of it yet.
     Empty,

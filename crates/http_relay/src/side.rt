@@ -25,7 +25,7 @@ mod head;
 pub use head::{HeadProgress, MAX_INTERIMS};
 
 /// Which messages come: requests, or responses, to HEAD or to another request.
-#[derive(Clone, Copy, Debug, PartialEq, Eq)]
+#[derive(Clone, Copy)]
 pub enum Asks {
     Request,
     Response(bool),

@@ -25,13 +25,13 @@ pub enum Framing {
 }
 
 /// A reader of one body, fed in pieces of any size. It keeps numbers only and never allocates.
-#[derive(Clone, Copy, Debug, PartialEq, Eq)]
+#[derive(Clone, Copy)]
 pub struct BodyReader {
     place: Progress,
 }
 
 /// What is left of a body.
-#[derive(Clone, Copy, Debug, PartialEq, Eq)]
+#[derive(Clone, Copy, Debug)]
 enum Progress {
     /// This many bytes.
     Left(u64),

@@ -16,7 +16,7 @@ use crate::writing::{Extra, written_head};
 use std::alloc::{AllocError, Global};
 
 /// A head to forward: a request to an origin, or a response to the user.
-#[derive(Clone, Copy, Debug)]
+#[derive(Clone, Copy)]
 pub enum Message<'a> {
     /// A request, the user's or an adapted one.
     Request(&'a HttpRequest),
@@ -25,7 +25,7 @@ pub enum Message<'a> {
 }
 
 /// The body that follows the head.
-#[derive(Clone, Copy, Debug, PartialEq, Eq)]
+#[derive(Clone, Copy)]
 pub enum BodyKind {
     /// The message is the original: its own framing says.
     Own,
@@ -36,7 +36,7 @@ pub enum BodyKind {
 }
 
 /// The use of a connection to an origin or a parent that a request goes out on (RFC 9112, sections 9.3 and 9.6).
-#[derive(Clone, Copy, Debug, PartialEq, Eq)]
+#[derive(Clone, Copy)]
 pub enum OriginUse {
     /// It is closed after the answer to this request, and the request's head says so.
     Once,
@@ -47,7 +47,7 @@ pub enum OriginUse {
 }
 
 /// The server that a request goes to next (RFC 9110, section 3.7).
-#[derive(Clone, Copy, Debug, PartialEq, Eq)]
+#[derive(Clone, Copy)]
 pub enum NextServer {
     /// The origin of its target, which gets the target in origin form (RFC 9112, section 3.2.1).
     Origin,
@@ -56,7 +56,7 @@ pub enum NextServer {
 }
 
 /// How a request goes to its origin: to which server next, and over which connection.
-#[derive(Clone, Copy, Debug, PartialEq, Eq)]
+#[derive(Clone, Copy)]
 pub struct OriginWay {
     /// The server at the connection's other end.
     pub next: NextServer,
@@ -65,7 +65,7 @@ pub struct OriginWay {
 }
 
 /// A message on its way to the next hop.
-#[derive(Clone, Copy, Debug)]
+#[derive(Clone, Copy)]
 pub struct Forward<'u, 'm> {
     /// The user's own request: its target names the origin, and its version and Connection say what the user can take.
     pub user: &'u HttpRequest,
@@ -81,7 +81,7 @@ pub struct Forward<'u, 'm> {
 }
 
 /// A message on its way to a service, within an ICAP message.
-#[derive(Clone, Copy, Debug)]
+#[derive(Clone, Copy)]
 pub struct Encapsulated<'u, 'm> {
     /// The user's own request: its target names the origin.
     pub user: &'u HttpRequest,

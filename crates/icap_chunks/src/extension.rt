@@ -5,7 +5,7 @@ ghost use Rattle.icap_chunks.specs.Machine.{item_with, is_word};
 use adapt_bytes::is_blank;
 
 /// How much of `ieof` an item of a chunk extension has matched.
-#[derive(Clone, Copy, Debug, PartialEq, Eq)]
+#[derive(Clone, Copy, Debug)]
 pub enum Item {
     Blank,
     I,

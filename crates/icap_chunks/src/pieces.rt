@@ -24,7 +24,7 @@ pub enum Outcome {
 }
 
 /// A text read as a chunked body.
-#[derive(Debug, Drop)]
+#[derive(Drop)]
 pub struct Reading {
     /// The body's bytes, up to the end, the fault or the end of the text.
     pub body: Vec<u8>,

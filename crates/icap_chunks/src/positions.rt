@@ -9,7 +9,7 @@ use crate::fault::ChunkFault;
 use adapt_bytes::{COUNT_LIMIT, is_blank};
 
 /// The position of the next byte in a chunked body.
-#[derive(Clone, Copy, Debug, PartialEq, Eq)]
+#[derive(Clone, Copy, Debug)]
 pub enum Position {
     /// In the digits of a size line, or at its start: the bytes of the line so far, and the size so far.
     Digits(u16, u64),

@@ -13,7 +13,7 @@ use crate::positions::{
 use adapt_bytes::COUNT_LIMIT;
 
 /// What one call of `feed` found in its piece of input.
-#[derive(Clone, Copy, Debug, PartialEq, Eq)]
+#[derive(Clone, Copy)]
 pub struct Fed {
     /// The number of bytes of the piece that were read.
     pub used: usize,
@@ -33,7 +33,7 @@ pub struct Fed {
 /// let rest = reader.feed(&text[run.used..])?;
 /// assert_eq!(rt; rest.ended, Some(true));
 /// ```
-#[derive(Clone, Copy, Debug, PartialEq, Eq)]
+#[derive(Clone, Copy, Debug)]
 pub struct ChunkReader {
     sum: u64,
     place: Position,

@@ -27,7 +27,7 @@ use std::marker::Model;
 use wire_kit::{Put, Wire};
 
 /// How far the answer to an OPTIONS request is read.
-#[derive(Clone, Copy, Debug, PartialEq, Eq)]
+#[derive(Clone, Copy)]
 pub enum OptionsStage {
     /// Its ICAP head comes.
     Head,

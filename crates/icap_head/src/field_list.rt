@@ -19,7 +19,7 @@ pub struct Fields {
 }
 
 /// The values of all fields of one name, in order.
-#[derive(Debug, Drop)]
+#[derive(Drop)]
 pub struct Values<'a> {
     fields: &'a Fields,
     name: &'a [u8],

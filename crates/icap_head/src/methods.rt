@@ -6,14 +6,14 @@ use adapt_bytes::Method;
 use std::alloc::{AllocError, Global};
 
 /// A name that isn't one of ICAP's methods.
-#[derive(Debug, Drop)]
+#[derive(Drop)]
 pub struct OtherMethod {
     name: Vec<u8>,
     ghost other: { NamesNoMethod name.items },
 }
 
 /// The method of a request. Case matters.
-#[derive(Debug, Drop)]
+#[derive(Drop)]
 pub enum RequestMethod {
     /// One of ICAP's methods.
     Known(Method),

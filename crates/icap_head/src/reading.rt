@@ -10,7 +10,7 @@ use adapt_bytes::{MAX_HEAD, front};
 use std::alloc::AllocError;
 
 /// A head that was read, and its length in bytes, its empty line included.
-#[derive(Debug, Drop)]
+#[derive(Drop)]
 pub struct Head<T> {
     pub value: T,
     pub length: usize,
@@ -18,7 +18,7 @@ pub struct Head<T> {
 
 /// Why no head was read. Only the first 16,384 bytes are judged. Once the fault isn't `More` or `NoMemory`, more bytes
 /// don't change it, as long as memory is found for a request's URI.
-#[derive(Clone, Copy, Debug, PartialEq, Eq)]
+#[derive(Clone, Copy, Debug)]
 pub enum HeadFault {
     /// The head isn't complete yet, and nothing in it is wrong so far, except perhaps a request's URI that no memory
     /// was found to judge.

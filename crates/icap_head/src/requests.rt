@@ -21,7 +21,7 @@ use std::alloc::Global;
 /// assert_eq!(rt; head.value.method.name(), b"OPTIONS".as_slice());
 /// assert_eq!(rt; head.value.fields.first(b"host"), Some(b"scanner".as_slice()));
 /// ```
-#[derive(Debug, Drop)]
+#[derive(Drop)]
 pub struct IcapRequest {
     pub method: RequestMethod,
     /// The URI as received.

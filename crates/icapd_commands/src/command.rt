@@ -4,7 +4,7 @@ ghost use Rattle.icapd_commands.specs.declared.command.Command.{Command as AnyCo
 ghost use Rattle.icapd_commands.specs.Command.{word_of, IsCommand};
 
 /// What the program is asked to do.
-#[derive(Clone, Copy, Debug, PartialEq, Eq)]
+#[derive(Clone, Copy, Debug)]
 pub enum Command {
     /// `once`: serves standard input as one connection.
     Once,

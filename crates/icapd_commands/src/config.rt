@@ -38,7 +38,7 @@ pub(crate) const MAX_DEADLINE: u64 = 3600;
 /// // `max` is written, `deadline` has its default.
 /// assert_eq!(rt; (config.settings.max, config.deadline), (64, 60));
 /// ```
-#[derive(Debug, Drop)]
+#[derive(Drop)]
 pub struct Config {
     pub listen: SocketAddrV4,
     pub settings: Settings,

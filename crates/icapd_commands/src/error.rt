@@ -6,7 +6,7 @@ ghost use Rattle.icapd_commands.specs.Errors.{error_text, reason_text, key_text,
 use std::io::{self, Write};
 
 /// Why the program ends without an answer: its line on standard error, and its exit status.
-#[derive(Debug, Drop)]
+#[derive(Drop)]
 pub enum Error {
     /// The arguments name no command.
     Usage,
@@ -27,7 +27,7 @@ pub enum Error {
 }
 
 /// A key of the configuration.
-#[derive(Debug, Drop)]
+#[derive(Drop)]
 pub enum Key {
     Listen,
     Istag,

@@ -5,7 +5,7 @@ ghost use Rattle.icapd_commands.specs.Seats.{IsAt, IsLonger, IsLongest, IsToEnd,
 use std::alloc::{AllocError, Global};
 
 /// What the connection on a seat does.
-#[derive(Clone, Copy, PartialEq, Eq)]
+#[derive(Clone, Copy)]
 pub enum Doing {
     /// There is no connection: the seat is free.
     Nothing,

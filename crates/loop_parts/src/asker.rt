@@ -19,7 +19,7 @@ pub const MAX_ASKERS: usize = 16;
 const MAX_UNREAD: usize = 65_536;
 
 /// What is spoken on a connection.
-#[derive(Clone, Copy, Debug, PartialEq, Eq)]
+#[derive(Clone, Copy)]
 pub enum Speech {
     /// Lines of the administrator.
     Lines,

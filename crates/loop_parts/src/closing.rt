@@ -3,7 +3,7 @@
 use wire_kit::{Got, Wire};
 
 /// Whether a connection may be closed now.
-#[derive(Clone, Copy, Debug, PartialEq, Eq)]
+#[derive(Clone, Copy)]
 pub enum Closing {
     /// The other side has ended its bytes, or the connection has failed.
     Over,

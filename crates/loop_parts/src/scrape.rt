@@ -13,7 +13,7 @@ pub const MAX_SCRAPE: usize = 8_192;
 const FIELDS: usize = 64;
 
 /// What a text that came over HTTP asks for.
-#[derive(Clone, Copy, Debug, PartialEq, Eq)]
+#[derive(Clone, Copy)]
 pub enum Scrape {
     /// It is the beginning of a head.
     Unfinished,

@@ -4,7 +4,7 @@ ghost use Rattle.std.specs.Prelude.{◌≡◌, ◌↔◌, ℕ, true, None, IfSom
 ghost use Rattle.loop_parts.specs.Sparing.{IsRank, ComesBefore, IsIdle, youth};
 
 /// What a user's connection is in the midst of, as far as it may be spared for another one.
-#[derive(Clone, Copy, Debug, PartialEq, Eq)]
+#[derive(Clone, Copy, PartialEq, Eq)]
 pub enum Stay {
     /// An exchange: it isn't spared.
     Exchange,

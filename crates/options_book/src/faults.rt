@@ -6,7 +6,7 @@ ghost use Rattle.options_book.specs.Options.{fault_number};
 use thiserror::Error;
 
 /// Why an OPTIONS response is refused: the first of these that applies.
-#[derive(Clone, Copy, Debug, PartialEq, Eq, Error)]
+#[derive(Clone, Copy, Debug, Error)]
 pub enum OptFault {
     /// The status isn't 200.
     #[error("the status isn't 200")]

@@ -7,7 +7,7 @@ ghost use Rattle.options_book.specs.Transfer.{vec_bytes, listed, treat_of, kept_
 use adapt_bytes::same_ascii;
 
 /// How a service wants a message.
-#[derive(Clone, Copy, Debug, PartialEq, Eq)]
+#[derive(Clone, Copy)]
 pub enum Treat {
     /// Whole, with no preview.
     Complete,

@@ -8,7 +8,7 @@ ghost use Rattle.proxy_commands.specs.Errors.{error_text, status_of};
 use adapt_bytes::{Small, put_decimal};
 
 /// Why the program ends without an answer: its text on standard error, and its exit status.
-#[derive(Clone, Copy, Debug, PartialEq, Eq)]
+#[derive(Clone, Copy)]
 pub enum Error {
     /// The arguments name no command.
     Usage,

@@ -8,7 +8,7 @@ use crate::error::Error;
 use std::io::{self, Write};
 
 /// Why `serve` ends though nobody stopped it, or without its audit, and why `check` and `tell` fail: its line on standard error, and its exit status.
-#[derive(Debug, Drop)]
+#[derive(Drop)]
 pub enum ServeError {
     /// What any command may end with.
     Ended(Error),

@@ -5,7 +5,7 @@ ghost use Rattle.proxy_commands.specs.declared.task.Task.{Task as AnyTask};
 ghost use Rattle.proxy_commands.specs.Task.{IsTask, IsTaskAlone, IsTaskBefore};
 
 /// What the program is asked to do with a configuration, or to say of itself.
-#[derive(Clone, Copy, Debug, PartialEq, Eq)]
+#[derive(Clone, Copy, Debug)]
 pub enum Task {
     /// `serve`: is the proxy.
     Serve,

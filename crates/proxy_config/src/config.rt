@@ -31,7 +31,7 @@ use toml::Table;
 /// assert_eq!(rt; (config.rows, config.shards), (100, 2));
 /// assert!(rt; config.respmod.is_none());
 /// ```
-#[derive(Debug, Drop)]
+#[derive(Drop)]
 pub struct Config {
     /// Where users connect.
     pub listen: SocketAddrV4,

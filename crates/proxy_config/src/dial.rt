@@ -15,7 +15,7 @@ use std::alloc::Global;
 use toml::Table;
 
 /// When the connection to an origin is opened.
-#[derive(Debug, Clone, Copy, PartialEq, Eq)]
+#[derive(Debug, Clone, Copy)]
 pub enum Dial {
     /// Before the service of requests is asked.
     First,

@@ -8,7 +8,7 @@ ghost use Rattle.proxy_config.specs.declared.fault.ConfigFault.TheVariants.{NoMe
 use std::alloc::{AllocError, Global};
 
 /// Why a text is no configuration.
-#[derive(Debug, PartialEq, Eq, Drop)]
+#[derive(Drop)]
 pub enum ConfigFault {
     /// The text is no UTF-8, or no TOML document.
     Text,

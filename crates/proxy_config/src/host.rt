@@ -7,7 +7,7 @@ use std::alloc::{AllocError, Global};
 use std::net::SocketAddrV4;
 
 /// A host name and where it is.
-#[derive(Debug, Drop)]
+#[derive(Drop)]
 pub struct Host {
     pub name: String,
     pub address: SocketAddrV4,

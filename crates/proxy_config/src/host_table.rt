@@ -10,7 +10,7 @@ use std::alloc::AllocError;
 
 /// The host names that the configuration knows, each with its address. They stand in the order of their names' numbers, so
 /// that one is found without going through the others.
-#[derive(Debug, Drop)]
+#[derive(Drop)]
 pub struct Hosts {
     pub(crate) all: Vec<Host>,
     ghost rising: { IsNonDecreasingBy (λ (host : AnyHost). host.number) all.items } by { Prim.hlevel props },

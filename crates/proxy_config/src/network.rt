@@ -5,7 +5,7 @@ ghost use Rattle.std.specs.Prelude.{◌≤◌};
 use std::net::Ipv4Addr;
 
 /// A network: the addresses that have a prefix of so many bits in common.
-#[derive(Debug, Clone, Copy, PartialEq, Eq)]
+#[derive(Clone, Copy)]
 pub struct Network {
     /// One of its addresses.
     pub address: Ipv4Addr,

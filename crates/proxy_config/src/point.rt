@@ -6,7 +6,7 @@ ghost use Rattle.adapt_bytes.specs.declared.limits.TheConstants.{MAX_CONNECTIONS
 use std::net::SocketAddrV4;
 
 /// The service that a point's messages are offered to.
-#[derive(Debug, Drop)]
+#[derive(Drop)]
 pub struct ServicePoint {
     /// The service's host, an IPv4 address as text.
     pub host: String,

@@ -12,7 +12,7 @@ use std::net::Ipv4Addr;
 pub const MAX_HEADER: usize = 536;
 
 /// A header.
-#[derive(Clone, Copy, Debug, PartialEq, Eq)]
+#[derive(Clone, Copy, PartialEq, Eq)]
 pub struct Header {
     /// Where the user's connection comes from. `None` where that is the connection's own address.
     pub from: Option<Ipv4Addr>,
@@ -21,7 +21,7 @@ pub struct Header {
 }
 
 /// What the first bytes of a connection are.
-#[derive(Clone, Copy, Debug, PartialEq, Eq)]
+#[derive(Clone, Copy, PartialEq, Eq)]
 pub enum Reading {
     /// A header, and what stands behind it.
     Whole(Header),

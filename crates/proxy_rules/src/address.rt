@@ -10,7 +10,7 @@ use adapt_bytes::{COUNT_LIMIT, MAX_PORT, behind, front, read_decimal};
 use http_side::HttpRequest;
 
 /// The origin that a target names.
-#[derive(Clone, Copy, Debug)]
+#[derive(Clone, Copy)]
 pub struct Origin<'a> {
     /// The host as it came; an IPv6 address in its brackets.
     pub host: &'a [u8],

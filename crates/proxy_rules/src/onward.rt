@@ -16,7 +16,7 @@ use std::alloc::Global;
 use trace_core::Cause;
 
 /// A head that goes on.
-#[derive(Debug, Drop)]
+#[derive(Drop)]
 pub struct Headed {
     /// Its text.
     pub head: Vec<u8>,

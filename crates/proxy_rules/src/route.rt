@@ -39,7 +39,7 @@ fn is_denied(config: &Config, address: SocketAddrV4) -> bool
 }
 
 /// Where a request goes next.
-#[derive(Clone, Copy, Debug, PartialEq, Eq)]
+#[derive(Clone, Copy)]
 pub struct Route {
     /// Whether it goes straight to its origin, or to the parent.
     pub next: NextServer,
@@ -47,7 +47,7 @@ pub struct Route {
 }
 
 /// Why a request goes nowhere.
-#[derive(Clone, Copy, Debug, PartialEq, Eq)]
+#[derive(Clone, Copy)]
 pub enum Unrouted {
     /// Its host is unknown, or is the proxy itself.
     Unknown,

@@ -6,14 +6,14 @@ ghost use Rattle.service_lines.specs.Pauses.{is_same as is_one, is_past, is_clos
 use wait_queue::Waiter;
 
 /// After how many failures in a row a service is paused, and for how many seconds. It is never where that number is 0.
-#[derive(Clone, Copy, Debug, PartialEq, Eq, Drop)]
+#[derive(Clone, Copy, Drop)]
 pub struct PauseRule {
     pub failures: u64,
     pub seconds: u64,
 }
 
 /// What a message, or a question for options, came to at its service.
-#[derive(Clone, Copy, Debug, PartialEq, Eq, Drop)]
+#[derive(Clone, Copy, Drop)]
 pub enum ServiceEnd {
     /// The service answered.
     Answered,
@@ -24,7 +24,7 @@ pub enum ServiceEnd {
 }
 
 /// How a breaker stands.
-#[derive(Clone, Copy, Debug, PartialEq, Eq, Drop)]
+#[derive(Clone, Copy, Drop)]
 pub(crate) enum Standing {
     /// Messages go to the service. So many of the last ones failed.
     Closed(u64),
@@ -51,7 +51,7 @@ pub(crate) enum Standing {
 /// breaker.end(second, 132, ServiceEnd::Answered);
 /// assert!(rt; breaker.admit(first, 132));
 /// ```
-#[derive(Clone, Copy, Debug, Drop)]
+#[derive(Clone, Copy, Drop)]
 pub struct Breaker {
     rule: PauseRule,
     standing: Standing,

@@ -5,7 +5,7 @@ ghost use Rattle.service_lines.specs.declared.connector.Act.{Act as AnyAct};
 ghost use Rattle.service_lines.specs.Lending.{fault_in, IsOwn};
 
 /// Why no connection to a service can be lent.
-#[derive(Clone, Copy, Debug, PartialEq, Eq, Drop)]
+#[derive(Clone, Copy, Debug, Drop)]
 pub enum LendFault {
     /// As many are leased as may be, or others wait for theirs.
     Busy,
@@ -18,7 +18,7 @@ pub enum LendFault {
 }
 
 /// What a connector was asked, with its answer.
-#[derive(Clone, Copy, Debug, PartialEq, Eq, Drop)]
+#[derive(Clone, Copy, Drop)]
 pub enum Act {
     /// It opened a connection, or failed for this.
     Opened(Option<LendFault>),

@@ -8,7 +8,7 @@ use crate::connector::Act;
 
 /// What a connector was asked last, and what before that. Two acts tell whether a connection was looked at before it was used, or before
 /// it was laid down.
-#[derive(Clone, Copy, Debug, PartialEq, Eq, Drop)]
+#[derive(Clone, Copy, Drop)]
 pub struct Latest {
     last: Option<Act>,
     before: Option<Act>,

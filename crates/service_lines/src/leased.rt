@@ -45,7 +45,7 @@ pub enum Limit<Q: Ledger, A: Ledger> {
 }
 
 /// That the pool of a point was set to a maximum, and to which. It is made of a `Limit` alone.
-#[derive(Clone, Copy, Debug, PartialEq, Eq, Drop)]
+#[derive(Clone, Copy, Drop)]
 pub struct Maximum {
     point: Point,
     connections: u64,

@@ -6,7 +6,7 @@ use std::marker::Model;
 use std::sync::ledger::{Book, Ledger, Share};
 
 /// How the connection of a lease was found.
-#[derive(Clone, Copy, Debug, PartialEq, Eq)]
+#[derive(Clone, Copy, Debug)]
 pub(crate) enum Source {
     /// It was idle, and the test of the take picked it.
     Picked,

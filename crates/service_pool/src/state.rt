@@ -42,7 +42,7 @@ impl<C, J: Journal> Model for PoolState<C, J> {
 }
 
 /// The result of a `take`.
-#[derive(Debug, Drop, PartialEq, Eq)]
+#[derive(Debug, Drop)]
 pub enum Found<C> {
     /// The idle connection that was put last.
     Idle(C),
@@ -53,7 +53,7 @@ pub enum Found<C> {
 }
 
 /// The result of a `take_preferred`.
-#[derive(Debug, Drop, PartialEq, Eq)]
+#[derive(Debug, Drop)]
 pub enum Choice<C> {
     /// The first idle connection of those that the test picks.
     Picked(C),
@@ -66,7 +66,7 @@ pub enum Choice<C> {
 }
 
 /// The result of a look at an idle connection.
-#[derive(Debug, Drop, PartialEq, Eq)]
+#[derive(Drop)]
 pub enum Checked<C> {
     /// It left the pool, and is to be closed.
     Closed(C),

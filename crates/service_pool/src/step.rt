@@ -12,7 +12,7 @@ use thiserror::Error;
 pub const LEDGER_PARTS: u64 = MAX_CONNECTIONS + 1;
 
 /// The numbers of a pool. A connection is open while it is idle or leased.
-#[derive(Clone, Copy, PartialEq, Eq, Debug)]
+#[derive(Clone, Copy)]
 pub struct Numbers {
     /// Connections that wait in the pool.
     pub idle: u64,
@@ -23,7 +23,7 @@ pub struct Numbers {
 }
 
 /// A step of a pool.
-#[derive(Clone, Copy, PartialEq, Eq, Debug)]
+#[derive(Clone, Copy, Debug)]
 pub enum PoolStep {
     /// An idle connection is leased; if there is none, one is opened and leased.
     Take,
@@ -38,12 +38,12 @@ pub enum PoolStep {
 }
 
 /// A fresh connection in place of a broken one was refused: more than the maximum are open.
-#[derive(Clone, Copy, PartialEq, Eq, Debug, Error)]
+#[derive(Clone, Copy, Debug, Error)]
 #[error("more connections are open than the maximum")]
 pub struct Over;
 
 /// Why an audit was refused.
-#[derive(Clone, Copy, PartialEq, Eq, Debug, Error)]
+#[derive(Clone, Copy, Debug, Error)]
 pub enum AuditFault {
     /// Fewer leases were handed in than are out.
     #[error("a lease is missing")]

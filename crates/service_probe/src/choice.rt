@@ -10,7 +10,7 @@ use adapt_bytes::read_decimal;
 pub const MAX_COUNT: u64 = 100_000;
 
 /// Which samples are tried, and how often.
-#[derive(Clone, Copy, Debug, PartialEq, Eq)]
+#[derive(Clone, Copy, Debug)]
 pub struct Choice {
     /// The only one; all where there is none.
     pub only: Option<Sample>,

@@ -7,7 +7,7 @@ use adapt_sides::ClientFault;
 use options_book::OptFault;
 
 /// Which rule a service broke, or what else kept its answer away.
-#[derive(Clone, Copy, Debug, PartialEq, Eq)]
+#[derive(Clone, Copy, Debug)]
 pub enum Fault {
     /// No connection can be had.
     Refused,

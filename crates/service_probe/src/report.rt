@@ -10,7 +10,7 @@ use adapt_bytes::three_digits;
 use std::alloc::AllocError;
 
 /// Over which connection a message went.
-#[derive(Clone, Copy, Debug, PartialEq, Eq)]
+#[derive(Clone, Copy)]
 pub enum Way {
     /// Over the one that is kept.
     Kept,

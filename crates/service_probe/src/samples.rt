@@ -7,7 +7,7 @@ ghost use Rattle.service_probe.specs.Samples.{body_size, sample_kind, sample_len
 use trace_core::{Kind, Plan, Point};
 
 /// A message that a service is tried with, by its body, and whether the request has `Allow: 204` (RFC 3507, section 4.6).
-#[derive(Clone, Copy, Debug, PartialEq, Eq)]
+#[derive(Clone, Copy, Debug)]
 pub enum Sample {
     /// No body, with Allow.
     NoBody,

@@ -12,7 +12,7 @@ use std::collections::VecDeque;
 use std::net::SocketAddrV4;
 
 /// What was heard on an idle connection since it was laid down.
-#[derive(Clone, Copy, Debug, PartialEq, Eq)]
+#[derive(Clone, Copy)]
 pub enum Heard {
     /// No byte, no end and no failure.
     Nothing,
@@ -66,14 +66,14 @@ pub struct Moment {
 }
 
 /// Whether the system is asked of a connection of which it isn't known yet whether something was heard on it.
-#[derive(Clone, Copy, Debug, PartialEq, Eq)]
+#[derive(Clone, Copy)]
 enum Asking {
     Never,
     IfUnsure,
 }
 
 /// Whether an idle connection may be used.
-#[derive(Clone, Copy, Debug, PartialEq, Eq)]
+#[derive(Clone, Copy)]
 enum Fitness {
     /// It has lain idle for fewer seconds than one may, and nothing was heard on it.
     Fit,

@@ -7,7 +7,7 @@ use exchange_report::Reason;
 use icap_head::IcapResponse;
 
 /// What a turn at a head brought.
-#[derive(Clone, Copy, Debug, PartialEq, Eq)]
+#[derive(Clone, Copy)]
 pub enum HeadTurn {
     /// The head was read.
     Whole,
@@ -68,7 +68,7 @@ pub struct Marks {
 }
 
 /// How much of a text a user has taken.
-#[derive(Clone, Copy, Debug, PartialEq, Eq)]
+#[derive(Clone, Copy)]
 pub enum Said {
     /// All of it.
     Whole,
@@ -81,7 +81,7 @@ pub enum Said {
 }
 
 /// What came of a request whose origin's kept connection has ended before an answer was read.
-#[derive(Clone, Copy, Debug, PartialEq, Eq)]
+#[derive(Clone, Copy)]
 pub enum Withdrawal {
     /// It is the message again.
     Again,
@@ -92,7 +92,7 @@ pub enum Withdrawal {
 }
 
 /// What came of starting a message's transaction.
-#[derive(Clone, Copy, Debug, PartialEq, Eq)]
+#[derive(Clone, Copy)]
 pub enum Started {
     /// The message moves.
     Moves,
@@ -103,7 +103,7 @@ pub enum Started {
 }
 
 /// What a turn of a message's transaction, or a round of turns, did.
-#[derive(Clone, Copy, Debug, PartialEq, Eq)]
+#[derive(Clone, Copy, PartialEq, Eq)]
 pub enum Round {
     /// Something moved. So many of the bytes that the wires gave and took are no body's: heads, and what frames bodies.
     Moved { framing: u64 },
@@ -116,7 +116,7 @@ pub enum Round {
 }
 
 /// How far what the user still sends was dropped.
-#[derive(Clone, Copy, Debug, PartialEq, Eq)]
+#[derive(Clone, Copy)]
 pub enum Lingered {
     /// The user has ended its bytes, or its connection has failed.
     Over,

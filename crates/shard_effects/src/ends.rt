@@ -3,7 +3,7 @@
 use exchange_core::RefusalCause;
 
 /// What ends a transaction.
-#[derive(Clone, Copy, Debug, PartialEq, Eq)]
+#[derive(Clone, Copy)]
 pub enum EndedBy {
     /// Its own outcome.
     Itself,
@@ -35,7 +35,7 @@ pub enum End {
 }
 
 /// What the course is told of a transaction that is over.
-#[derive(Clone, Copy, Debug)]
+#[derive(Clone, Copy)]
 pub struct Report {
     /// Whether a byte of an answer went to the user.
     pub has_answered: bool,

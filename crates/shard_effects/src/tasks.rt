@@ -1,7 +1,7 @@
 //! What an exchange is told to do, and how far it came.
 
 /// What an exchange is to do.
-#[derive(Clone, Copy, PartialEq, Eq)]
+#[derive(Clone, Copy)]
 pub enum Task {
     /// What is due.
     Step,

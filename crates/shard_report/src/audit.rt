@@ -4,7 +4,7 @@ use std::error::Error;
 use std::fmt::{self, Display};
 
 /// What the audits of the buffer budget and of the pools found.
-#[derive(Clone, Copy, Debug, PartialEq, Eq)]
+#[derive(Clone, Copy, PartialEq, Eq)]
 pub struct StopAudit {
     /// Reservations that were still open.
     pub rows: u64,
@@ -15,7 +15,7 @@ pub struct StopAudit {
 }
 
 /// How the proxy stopped.
-#[derive(Clone, Copy, Debug, PartialEq, Eq)]
+#[derive(Clone, Copy, PartialEq, Eq)]
 pub struct Stopped {
     /// What was still out.
     pub audit: StopAudit,

@@ -10,7 +10,7 @@ use std::sync::atomic::{AtomicU64, Ordering};
 use trace_core::Point;
 
 /// The class of a status (RFC 9110, section 15).
-#[derive(Clone, Copy, Debug, PartialEq, Eq)]
+#[derive(Clone, Copy)]
 pub enum Class {
     /// 100 to 199.
     Informational,
@@ -27,7 +27,7 @@ pub enum Class {
 }
 
 /// How long an exchange took at most: the bounds of a histogram.
-#[derive(Clone, Copy, Debug, PartialEq, Eq)]
+#[derive(Clone, Copy)]
 pub enum Bound {
     Milliseconds5,
     Milliseconds10,
@@ -45,7 +45,7 @@ pub enum Bound {
 }
 
 /// What is counted.
-#[derive(Clone, Copy, Debug, PartialEq, Eq)]
+#[derive(Clone, Copy)]
 pub enum Count {
     /// Requests that were answered, refused or cut.
     Requests,
@@ -74,7 +74,7 @@ pub enum Count {
 }
 
 /// What is counted of connections to origins.
-#[derive(Clone, Copy, Debug, PartialEq, Eq)]
+#[derive(Clone, Copy)]
 pub enum Dealing {
     /// Connections that were opened, or prepared to be opened by the first byte on them.
     Opened,

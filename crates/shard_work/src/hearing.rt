@@ -5,7 +5,7 @@ use socket_wire::UserWire;
 use std::alloc::{AllocError, Global};
 
 /// What came of a connection's header.
-#[derive(Clone, Copy, Debug, PartialEq, Eq)]
+#[derive(Clone, Copy)]
 pub enum Hearing {
     /// It isn't whole yet.
     Waits,

@@ -39,7 +39,7 @@ impl Line {
 }
 
 /// What was noted of an idle connection since its line was laid down.
-#[derive(Clone, Copy, Debug, PartialEq, Eq)]
+#[derive(Clone, Copy)]
 pub enum SinceLaid {
     /// Nothing, and a poll was after it that reported all that there was: that is noted.
     Nothing,

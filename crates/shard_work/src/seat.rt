@@ -16,7 +16,7 @@ use std::sync::Arc;
 use trace_core::Point;
 
 /// What a seat is for.
-#[derive(Clone, Copy, Debug, PartialEq, Eq)]
+#[derive(Clone, Copy)]
 pub enum Purpose {
     /// The requests of a user.
     Requests,

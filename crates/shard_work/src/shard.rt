@@ -27,7 +27,7 @@ use std::time::Clock;
 use wire_kit::Gate;
 
 /// How far the loop's users are served.
-#[derive(Clone, Copy, PartialEq, Eq)]
+#[derive(Clone, Copy)]
 enum Serving {
     /// All of their requests.
     Full,

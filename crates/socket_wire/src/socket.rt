@@ -28,7 +28,7 @@ pub enum Dialled {
 }
 
 /// What lies unread on a connection.
-#[derive(Clone, Copy, Debug, PartialEq, Eq)]
+#[derive(Clone, Copy)]
 pub enum Unread {
     /// No byte, and the other side may still send.
     Nothing,

@@ -5,7 +5,7 @@ ghost use Rattle.socket_wire.specs.Token.{peer_number as number_of_peer};
 ghost use Rattle.socket_wire.specs.declared.token.Peer.{Peer as AnyPeer};
 
 /// A connection of an exchange.
-#[derive(Clone, Copy, Debug, PartialEq, Eq)]
+#[derive(Clone, Copy, PartialEq, Eq)]
 pub enum Peer {
     User,
     Origin,

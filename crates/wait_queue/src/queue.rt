@@ -6,7 +6,7 @@ ghost use Rattle.wait_queue.specs.Waiting.{is_another, is_first};
 use std::alloc::{AllocError, Global};
 
 /// Who waits: an exchange, by its thread and its key there. It waits once at most.
-#[derive(Clone, Copy, Debug, PartialEq, Eq, Drop)]
+#[derive(Clone, Copy, Drop, PartialEq, Eq)]
 pub struct Waiter {
     /// The number of its thread.
     pub thread: usize,
@@ -15,7 +15,7 @@ pub struct Waiter {
 }
 
 /// Who is first in a queue at a moment, if somebody is. Only a queue makes one.
-#[derive(Clone, Copy, Debug, PartialEq, Eq, Drop)]
+#[derive(Clone, Copy, Drop)]
 pub struct First {
     waiter: Option<Waiter>,
 }
@@ -37,7 +37,7 @@ impl First {
 }
 
 /// Whose turn it is once somebody has left, if it was that one's turn before. Only a queue makes one.
-#[derive(Clone, Copy, Debug, PartialEq, Eq, Drop)]
+#[derive(Clone, Copy, Drop)]
 pub struct Next {
     waiter: Option<Waiter>,
 }
@@ -52,7 +52,7 @@ impl Next {
 }
 
 /// Why an exchange can't wait.
-#[derive(Clone, Copy, Debug, PartialEq, Eq, Drop)]
+#[derive(Clone, Copy, Drop)]
 pub enum JoinFault {
     /// As many wait as may.
     Full,
@@ -72,7 +72,7 @@ pub enum JoinFault {
 /// // Once the first has left, it is the second one's turn.
 /// assert_eq!(rt; queue.leave(first).waiter(), Some(second));
 /// ```
-#[derive(Debug, Drop)]
+#[derive(Drop)]
 pub struct WaitQueue {
     waiting: Vec<Waiter>,
     most: usize,

@@ -8,7 +8,7 @@ use crate::memory::MemoryWire;
 use crate::wire::{Got, Put, Wire};
 
 /// The numbers of calls of a wire, as 64-bit counts.
-#[derive(Clone, Copy, Debug, Drop, PartialEq, Eq)]
+#[derive(Clone, Copy, Debug, Drop)]
 pub struct Calls {
     pub reads: u64,
     pub writes: u64,

@@ -7,7 +7,7 @@ use crate::wire::{Got, Put};
 use std::alloc::{AllocError, Global};
 
 /// The answer to a read.
-#[derive(Clone, Copy, Debug, PartialEq, Eq)]
+#[derive(Clone, Copy)]
 pub enum ReadAnswer {
     /// At most this many of the remaining bytes; `Wait` if none remain.
     Bytes(usize),
@@ -17,7 +17,7 @@ pub enum ReadAnswer {
 }
 
 /// The answer to a write.
-#[derive(Clone, Copy, Debug, PartialEq, Eq)]
+#[derive(Clone, Copy)]
 pub enum WriteAnswer {
     /// At most this many bytes are taken; `Wait` for 0.
     Took(usize),

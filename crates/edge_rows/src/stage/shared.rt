@@ -9,7 +9,7 @@ use test_rows::{NoMemory, put_all, put_line, put_number, put_shown};
 use wire_rows::{Scene, has_word};
 
 /// Whose connection it is. Those of origins and of services are numbered in the order in which they are opened.
-#[derive(Clone, Copy, Debug, PartialEq, Eq)]
+#[derive(Clone, Copy, PartialEq, Eq)]
 pub enum Peer {
     User,
     Origin(u64),

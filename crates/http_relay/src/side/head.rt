@@ -17,7 +17,7 @@ use wire_kit::Wire;
 pub const MAX_INTERIMS: u32 = 32;
 
 /// How far a turn at a head came.
-#[derive(Clone, Copy, Debug, PartialEq, Eq)]
+#[derive(Clone, Copy, PartialEq, Eq)]
 pub enum HeadProgress {
     /// More of it is to come.
     More,

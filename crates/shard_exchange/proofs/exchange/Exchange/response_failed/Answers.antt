@@ -1,4 +1,4 @@
-use Rattle.std.proofs.Common.{◌≡◌, ◌⊎◌, inr, Bool, true, false, ◌&&◌, Option, refl, ap, sym, ◌∙◌}
+use Rattle.std.proofs.Common.{◌≡◌, inr, Bool, true, false, ◌&&◌, Option, refl, ap, sym, ◌∙◌}
 use Rattle.std.proofs.lemmas.Bool.{false≢true}
 use Rattle.adapt_sides.specs.declared.fault.RelayFault.{RelayFault}
 use Rattle.exchange_core.specs.declared.course.Course.{Course}
@@ -13,7 +13,7 @@ use Rattle.exchange_report.specs.declared.reason.Reason.{Reason}
 use Rattle.shard_effects.specs.Reasons.{is_end_of_wire, origin_head_reason}
 use Rattle.shard_exchange.specs.Outcomes.{FaultLeads}
 use Rattle.shard_exchange.proofs.exchange.Exchange.response_failed.Goals as goal
-use Rattle.shard_exchange.proofs.exchange.Exchange.response_failed.Goals.{else-is_end_of_wire-via-then-is_end_of_wire+then-may+else-eq, else-is_end_of_wire-via-then-is_end_of_wire+else-may, else-is_end_of_wire-via-else-is_end_of_wire}
+use Rattle.shard_exchange.proofs.exchange.Exchange.response_failed.Goals.{else-is_end_of_wire-via-then-is_end_of_wire+then-may+else-withdraw-eq0, else-is_end_of_wire-via-then-is_end_of_wire+else-may, else-is_end_of_wire-via-else-is_end_of_wire}
 
 first_holds : (a b : Bool) → (a && b) ≡ true → a ≡ true
 first_holds true b h = refl
@@ -38,10 +38,10 @@ returns-clause-leads g c =
     let reason = c.origin_head_reason-reason in
     elim c.else-is_end_of_wire.branch [
       -- what is held answered that it isn't here
-      | else-is_end_of_wire-via-then-is_end_of_wire+then-may+else-eq w ↦
+      | else-is_end_of_wire-via-then-is_end_of_wire+then-may+else-withdraw-eq0 w ↦
           fails_so repeats asked c.args.fault c.args.self.now.course c.else-is_end_of_wire.self.course c.refuse.new.self.course c.head_fault.result
           reason.result (ap (λ e. e.course) w.self-is) reason.ensures.reason c.refuse.ensures.course
-          (λ both. (w.withdraw.result, (λ same. false≢true (sym w.if-eq.false ∙ rw same at w.eq.ensures)), w.withdraw.ensures.answers))
+          (λ both. (w.withdraw.result, (λ same. false≢true (sym (rw same at w.if-withdraw-eq0.false))), w.withdraw.ensures.answers))
       -- the course may not go there
       | else-is_end_of_wire-via-then-is_end_of_wire+else-may w ↦
           fails_so repeats asked c.args.fault c.args.self.now.course c.else-is_end_of_wire.self.course c.refuse.new.self.course c.head_fault.result
