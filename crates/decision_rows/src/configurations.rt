@@ -2,7 +2,8 @@
 use crate::listed::{index_of, put_counted};
 use crate::questions::{Subject, cut, put_lines};
 use proxy_config::{
-    Config, ConfigFault, Hosts, Network, ServicePoint, is_in, may_use, read_config,
+    Config, ConfigFault, Hosts, HostsFault, Network, ServicePoint, fixed_change, is_in, may_use,
+    read_config,
 };
 use std::alloc::Global;
 use std::net::{Ipv4Addr, SocketAddrV4};
@@ -36,13 +37,17 @@ fn put_service(out: &mut Vec<u8>, service: &Option<ServicePoint>) -> Result<(), 
     }
 }
 
-fn put_log(out: &mut Vec<u8>, log: &Option<String>) -> Result<(), NoMemory> {
-    match log {
+/// Adds the path that a key has.
+fn put_path(out: &mut Vec<u8>, key: &[u8], path: &Option<String>) -> Result<(), NoMemory> {
+    match path {
         Some(path) => {
-            out.extend_from_slice(b"log ")?;
+            put_all(out, &[key, b" "])?;
             put_line(out, path.as_bytes())
         }
-        None => put_line(out, b"no log"),
+        None => {
+            out.extend_from_slice(b"no ")?;
+            put_line(out, key)
+        }
     }
 }
 
@@ -114,7 +119,8 @@ fn put_access(out: &mut Vec<u8>, config: &Config) -> Result<(), NoMemory> {
     put_number(out, b"user_connections", config.user_connections)?;
     put_shown(out, b"client_ip", &config.client_ip)?;
     put_carried(out, &config.carry)?;
-    put_shown(out, b"proxy_protocol", &config.proxy_protocol)
+    put_shown(out, b"proxy_protocol", &config.proxy_protocol)?;
+    put_path(out, b"hosts_file", &config.hosts_file)
 }
 
 /// Adds the names of the fields that go on.
@@ -127,14 +133,19 @@ fn put_carried(out: &mut Vec<u8>, names: &[String]) -> Result<(), NoMemory> {
     put_line(out, b"")
 }
 
+/// Adds an address and its port, with a colon between them.
+fn put_socket(out: &mut Vec<u8>, address: SocketAddrV4) -> Result<(), NoMemory> {
+    put_address(out, *address.ip())?;
+    out.extend_from_slice(b":")?;
+    put_count(out, u64::from(address.port()))
+}
+
 /// Adds where the parent is.
 fn put_parent(out: &mut Vec<u8>, parent: &Option<SocketAddrV4>) -> Result<(), NoMemory> {
     match parent {
         Some(address) => {
             out.extend_from_slice(b"parent ")?;
-            put_address(out, *address.ip())?;
-            out.extend_from_slice(b":")?;
-            put_count(out, u64::from(address.port()))
+            put_socket(out, *address)
         }
         None => put_line(out, b"no parent"),
     }
@@ -166,7 +177,8 @@ fn put_tuning(out: &mut Vec<u8>, config: &Config) -> Result<(), NoMemory> {
     put_number(out, b"keep_origins", config.keep_origins)?;
     put_number(out, b"origin_idle", config.origin_idle)?;
     put_shown(out, b"dial", &config.dial)?;
-    put_times(out, config)
+    put_times(out, config)?;
+    put_path(out, b"refusal_pages", &config.refusal_pages)
 }
 
 /// Adds each value.
@@ -174,7 +186,7 @@ fn put_values(out: &mut Vec<u8>, config: &Config) -> Result<(), NoMemory> {
     put_numbers(out, config)?;
     put_shown(out, b"retry", &config.retry)?;
     put_number(out, b"wait", config.wait)?;
-    put_log(out, &config.log)?;
+    put_path(out, b"log", &config.log)?;
     put_tuning(out, config)?;
     put_service(out, &config.reqmod)?;
     put_service(out, &config.respmod)?;
@@ -194,7 +206,7 @@ impl<'a> Subject for Book<'a> {
             _ => None,
         };
         match self.0.resolve(name, port) {
-            Some(address) => put_count(out, u64::from(address.port())),
+            Some(address) => put_socket(out, address),
             None => put_line(out, b"unknown"),
         }
     }
@@ -248,6 +260,39 @@ fn put_good(
     }
 }
 
+/// Reads the row's hosts file, if it has one, and adds how many names it has, or which line is none, and where hosts are then.
+fn put_named(
+    alloc: Global,
+    config: &mut Config,
+    row: &Row<'_>,
+    out: &mut Vec<u8>,
+) -> Result<(), NoMemory> {
+    match config.name_hosts(alloc, row.get(b"file")) {
+        Ok(count) => put_number(out, b"names", count)?,
+        Err(HostsFault::Line(number)) => put_number(out, b"bad line", number)?,
+        Err(HostsFault::NoMemory) => return Err(NoMemory),
+    }
+    put_lines(&mut Book(&config.hosts), row.get(b"asked"), out)
+}
+
+/// Adds the first key that keeps the row's other configuration from taking the place of this one.
+fn put_change(
+    alloc: Global,
+    config: &Config,
+    row: &Row<'_>,
+    out: &mut Vec<u8>,
+) -> Result<(), NoMemory> {
+    let mut text = Vec::new(alloc);
+    put_all(&mut text, &[ADDRESSES, row.get(b"file")])?;
+    match read_config(alloc, &text) {
+        Ok(other) => match fixed_change(config, &other) {
+            Some(key) => put_line(out, key.as_bytes()),
+            None => put_line(out, b"no restart"),
+        },
+        Err(fault) => put_config_fault(out, &fault),
+    }
+}
+
 /// Adds what is said of the row's configuration, or its fault.
 pub fn put_config(
     alloc: Global,
@@ -257,7 +302,11 @@ pub fn put_config(
 ) -> Result<(), NoMemory> {
     let text = text_of(alloc, row)?;
     match read_config(alloc, &text) {
-        Ok(config) => put_good(out, call, &config, row),
+        Ok(mut config) => match index_of(b"hosts file|change", call) {
+            Some(0) => put_named(alloc, &mut config, row, out),
+            Some(1) => put_change(alloc, &config, row, out),
+            _ => put_good(out, call, &config, row),
+        },
         Err(fault) => put_config_fault(out, &fault),
     }
 }

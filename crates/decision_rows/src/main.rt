@@ -29,7 +29,7 @@ use test_rows::{Driver, NoMemory, Row, call_of, judge_files};
 /// The calls of rows, in the order of `put_answer`.
 const CALLS: &[u8] =
     b"history|plan in range|options|texts of faults|extension|plan of a message|limits in range|least claim|\
-world|read configuration|values|hosts|access|write_line|metrics_text|course|random histories";
+world|read configuration|values|hosts|access|hosts file|change|write_line|metrics_text|course|random histories|page_refusal";
 
 /// What runs the calls of the rows.
 #[derive(Drop)]
@@ -50,11 +50,12 @@ impl Driver for Decisions {
             Some(6) => plans::put_limits(row, out),
             Some(7) => plans::put_least(row, out),
             Some(8) => worlds::put_world(alloc, row, out),
-            Some(9..=12) => configurations::put_config(alloc, call, row, out),
-            Some(13) => reports::put_entry(row, out),
-            Some(14) => reports::put_metrics(alloc, row, out),
-            Some(15) => courses::put_course(row, out),
-            Some(16) => random::put_histories(row, out),
+            Some(9..=14) => configurations::put_config(alloc, call, row, out),
+            Some(15) => reports::put_entry(row, out),
+            Some(16) => reports::put_metrics(alloc, row, out),
+            Some(17) => courses::put_course(row, out),
+            Some(18) => random::put_histories(row, out),
+            Some(19) => reports::put_page(alloc, row, out),
             _ => Ok(()),
         }
     }

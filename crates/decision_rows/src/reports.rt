@@ -1,9 +1,9 @@
-//! The log's line of an exchange, and the text of the counters.
+//! The log's line of an exchange, the text of the counters, and the page of a refusal.
 use crate::listed::index_of;
 use crate::questions::cut;
 use exchange_report::{
     Address, Destination, Entry, Family, Kind, Metric, Reason, Reply, Verdict, Why, metrics_text,
-    write_line,
+    page_refusal, write_line,
 };
 use std::alloc::Global;
 use test_rows::{NoMemory, Row, number};
@@ -76,9 +76,17 @@ fn destination(row: &Row<'_>) -> Option<Destination> {
     }
 }
 
+/// Why the exchange of a row ended as it did.
+fn why_of(row: &Row<'_>) -> Why {
+    let why = row.number(b"why").unwrap_or(0);
+    match WHYS.get(why as usize) {
+        Some(why) => *why,
+        None => Why::Served,
+    }
+}
+
 /// The exchange of a row.
 fn entry_of<'a>(row: &Row<'a>) -> Entry<'a> {
-    let why = row.number(b"why").unwrap_or(0);
     Entry {
         ended: row.number(b"ended").unwrap_or(0),
         elapsed: row.number(b"elapsed").unwrap_or(0),
@@ -92,12 +100,10 @@ fn entry_of<'a>(row: &Row<'a>) -> Entry<'a> {
         kind: row.get(b"type"),
         reqmod: verdict(row.get(b"reqmod")),
         respmod: verdict(row.get(b"respmod")),
-        why: match WHYS.get(why as usize) {
-            Some(why) => *why,
-            None => Why::Served,
-        },
+        why: why_of(row),
         found: row.get(b"found"),
         received: row.number(b"in").unwrap_or(0),
+        refusal: row.number(b"number"),
     }
 }
 
@@ -153,4 +159,21 @@ pub fn put_metrics(alloc: Global, row: &Row<'_>, out: &mut Vec<u8>) -> Result<()
 /// Adds the line of the row's exchange.
 pub fn put_entry(row: &Row<'_>, out: &mut Vec<u8>) -> Result<(), NoMemory> {
     write_line(out, &entry_of(row))
+}
+
+/// Adds the refusal with the row's page, for the row's reason.
+pub fn put_page(alloc: Global, row: &Row<'_>, out: &mut Vec<u8>) -> Result<(), NoMemory> {
+    let why = why_of(row);
+    let Why::Failed(reason) = why else {
+        return Ok(());
+    };
+    let text = page_refusal(
+        alloc,
+        reason.status(),
+        row.get(b"page"),
+        why,
+        row.number(b"number").unwrap_or(0),
+        row.get(b"method") == b"HEAD".as_slice(),
+    )?;
+    out.extend_from_slice(text.as_slice())
 }

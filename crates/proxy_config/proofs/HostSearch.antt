@@ -10,7 +10,7 @@ use Rattle.proxy_config.specs.Hosts.{address_of_name}
 use Rattle.proxy_config.specs.Names.{number_from, number_of_name}
 
 -- names that differ in ASCII case alone have one number
-same_number : (a b : List ℕ) → str_eq_ignore_ascii_case a b ≡ true → number_of_name a ≡ number_of_name b
+pub same_number : (a b : List ℕ) → str_eq_ignore_ascii_case a b ≡ true → number_of_name a ≡ number_of_name b
 same_number a b same = ap (number_from 0) ((bytes_eq-Decides (str_to_ascii_lowercase a) (str_to_ascii_lowercase b)).0 same)
 
 false_unless : (b : Bool) → (b ≡ true → ⊥) → b ≡ false
@@ -18,7 +18,7 @@ false_unless true not_true = absurd (not_true refl)
 false_unless false not_true = refl
 
 -- a host with another number is passed over
-passes : (name : List ℕ) (host : Host) (hosts : List Host) → host.number ≢ number_of_name name
+pub passes : (name : List ℕ) (host : Host) (hosts : List Host) → host.number ≢ number_of_name name
     → address_of_name name (host ∷ hosts) ≡ address_of_name name hosts
 passes name host hosts other =
     let differs : str_eq_ignore_ascii_case (string_bytes host.name) name ≡ false

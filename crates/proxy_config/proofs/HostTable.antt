@@ -9,7 +9,7 @@ use Rattle.std.specs.declared.net.socket_addr.SocketAddrV4.{SocketAddrV4}
 use Rattle.toml.specs.Data.{Members}
 use Rattle.proxy_config.specs.declared.host.Host.{Host}
 use Rattle.proxy_config.specs.declared.host_table.Hosts.{Hosts}
-use Rattle.proxy_config.specs.Hosts.{address_of_name, found_host}
+use Rattle.proxy_config.specs.Hosts.{address_of_name}
 use Rattle.proxy_config.specs.HostNames.{host_names, HasEach, IsHostAt, IsHostsOf, IsBadName}
 use Rattle.proxy_config.specs.Order.{HasKey}
 use Rattle.proxy_config.specs.Values.{HasAddress}
@@ -17,7 +17,7 @@ use Rattle.proxy_config.proofs.Addresses.{one_address}
 use Rattle.proxy_config.proofs.TextOrder.{neither_before}
 
 -- a host of the list that has the name, and its address
-abbrev HasNamed : List Host → List ℕ → SocketAddrV4 → Type 0
+abbrev pub HasNamed : List Host → List ℕ → SocketAddrV4 → Type 0
 HasNamed hosts name address = (host : Host) × Contains hosts host × IsTrue (str_eq_ignore_ascii_case (string_bytes host.name) name) × (host.address ≡ address)
 
 named_here : (same : Bool) (host : Host) (hosts : List Host) (name : List ℕ) (address : SocketAddrV4) → str_eq_ignore_ascii_case (string_bytes host.name) name ≡ same
@@ -28,7 +28,7 @@ named_here true host hosts name address same is later =
 named_here false host hosts name address same is later =
     let (found, contains, same_name, at) = later is in (found, Contains-append_right (host ∷ []) hosts found contains, same_name, at)
 
-named : (name : List ℕ) (hosts : List Host) (address : SocketAddrV4) → address_of_name name hosts ≡ Some address → HasNamed hosts name address
+pub named : (name : List ℕ) (hosts : List Host) (address : SocketAddrV4) → address_of_name name hosts ≡ Some address → HasNamed hosts name address
 named name [] address is = absurd (search (rules, is))
 named name (host ∷ hosts) address is =
     named_here (str_eq_ignore_ascii_case (string_bytes host.name) name) host hosts name address refl is (named name hosts address)
@@ -41,7 +41,7 @@ other_here true host hosts name same is later = absurd (search (rules, is))
 other_here false host hosts name same is later = All-cons (λ (h : Host). str_eq_ignore_ascii_case (string_bytes h.name) name ≡ false) host hosts same (later is)
 
 -- where a name isn't found, each host has another one
-others : (name : List ℕ) (hosts : List Host) → address_of_name name hosts ≡ None → All (λ (h : Host). str_eq_ignore_ascii_case (string_bytes h.name) name ≡ false) hosts
+pub others : (name : List ℕ) (hosts : List Host) → address_of_name name hosts ≡ None → All (λ (h : Host). str_eq_ignore_ascii_case (string_bytes h.name) name ≡ false) hosts
 others name [] is = All-nil (λ (h : Host). str_eq_ignore_ascii_case (string_bytes h.name) name ≡ false)
 others name (host ∷ hosts) is =
     other_here (str_eq_ignore_ascii_case (string_bytes host.name) name) host hosts name refl is (others name hosts)
@@ -94,17 +94,19 @@ found_is names all hosts name address (Some found) each back forth is (written, 
     ap Some (one_address written names found address (subst Q one found_at) has)
 
 -- the table of these hosts, in whatever order, is that of the document
-pub tables : (document names : Members) (all : List Host) (hosts : Hosts) → host_names document ≡ Some names → HasEach names all → IsPermutation all hosts.all.items → IsHostsOf document hosts
-tables document names all hosts are_names each forth =
-    let back = IsPermutation-sym all hosts.all.items forth in
+pub tables : (document names : Members) (all : List Host) (hosts : Hosts) → host_names document ≡ Some names → HasEach names all → IsPermutation all hosts.all.entries.items → hosts.file.entries.items ≡ []
+    → IsHostsOf document hosts
+tables document names all hosts are_names each forth no_file =
+    let back = IsPermutation-sym all hosts.all.entries.items forth in
     record {
       names = names;
       are_names = are_names;
       none_bad = each.none_bad;
       found = λ name address. (
         λ is.
-            let (host, contains, same, at) = named name hosts.all.items address is in
-            host_at_name names all name address each.only (host, Contains-permutation hosts.all.items all host back contains, same, at),
-        λ has. found_is names all hosts.all.items name address (found_host hosts name) each back forth refl has,
+            let (host, contains, same, at) = named name hosts.all.entries.items address is in
+            host_at_name names all name address each.only (host, Contains-permutation hosts.all.entries.items all host back contains, same, at),
+        λ has. found_is names all hosts.all.entries.items name address (address_of_name name hosts.all.entries.items) each back forth refl has,
       );
+      no_file = no_file;
     }

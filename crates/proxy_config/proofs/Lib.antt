@@ -17,3 +17,9 @@ pub mod NetworkLists
 pub mod CarryLemmas
 pub mod ParentLemmas
 pub mod Said
+pub mod FirstHosts
+pub mod WordSplits
+pub mod NamedHosts
+pub mod ReadLines
+pub mod SameTexts
+pub mod FixedKeys

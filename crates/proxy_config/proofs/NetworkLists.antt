@@ -1,11 +1,11 @@
 -- Lists of networks, one after the other.
-use Rattle.std.proofs.Common.{◌≡◌, ◌<◌, ◌≤◌, ◌+◌, ℕ, ◌⊎◌, List, [], ◌∷◌, ◌++◌, length, drop, get_or, Option, Some, None, option_and_then, sym, ap, ◌∙◌, subst, append_assoc, inl, inr, arith, rules}
+use Rattle.std.proofs.Common.{◌≡◌, ◌<◌, ◌≤◌, ◌+◌, ℕ, List, [], ◌∷◌, ◌++◌, length, drop, get_or, Option, Some, None, option_and_then, sym, ap, ◌∙◌, subst, append_assoc, inl, inr, arith, rules}
 use Rattle.std.proofs.lemmas.List.{drop_more}
 use Rattle.std.specs.List.{after_first, before_first, position_or_len}
 use Rattle.std.specs.Net.Grammar.{IsIpv4Text}
 use Rattle.adapt_bytes.specs.Numeral.{Writes}
 use Rattle.std.specs.declared.net.ipv4_addr.Ipv4Addr.{Ipv4Addr}
-use Rattle.toml.specs.Data.{Data, Items, no_items, item, Members, get_member, as_array, as_str}
+use Rattle.toml.specs.Data.{Data, Items, Members, get_member, as_array, as_str}
 use Rattle.toml.specs.View.{view, items_view}
 use Rattle.toml.specs.declared.value.Value.{Value}
 use Rattle.proxy_config.specs.declared.network.Network.{Network}

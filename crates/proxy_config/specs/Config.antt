@@ -4,6 +4,7 @@ use Rattle.toml.specs.Data.{Members}
 use Rattle.toml.specs.Parse.{parse_document}
 use Rattle.proxy_config.specs.Keys.{Row, IsFaultOf, IsGood, Says, table}
 use Rattle.proxy_config.specs.Order.{IsFirst}
+use Rattle.proxy_config.specs.Pages.{page_of}
 use Rattle.proxy_config.specs.Unknown.{IsUnknown}
 use Rattle.proxy_config.specs.declared.fault.ConfigFault.{ConfigFault}
 use Rattle.proxy_config.specs.declared.fault.ConfigFault.TheVariants.{Text, Key, NoMemory}
@@ -14,10 +15,11 @@ abbrev pub AreSaid : List Row → Members → Config → Type 0
 AreSaid [] document config = Unit {0}
 AreSaid (row ∷ rows) document config = Says row.kind row.name document (row.goes config) × AreSaid rows document config
 
--- the document says these values, and has no other key
+-- the document says these values, and has no other key; no page is read
 pub record IsConfig (document : Members) (config : Config) : Type 0 where
   pub values : AreSaid table document config
   pub none_unknown : (key : List ℕ) → IsUnknown document key → ⊥
+  pub no_pages : (status : ℕ) → page_of config.pages status ≡ None
 
 -- the first key at fault of these rows, all before it being good, or else the first unknown key by its bytes
 unfoldable pub IsFirstIn : List Row → Members → List ℕ → Type 0

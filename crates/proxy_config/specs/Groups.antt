@@ -16,7 +16,7 @@ HasSizes c s = (c.shards ≡ s.shards) × (c.capacity ≡ s.capacity) × (c.rows
 
 abbrev pub HasEntrance : Config → Entrance → Type 0
 HasEntrance c e = (c.users ≡ e.users) × (c.denied ≡ e.denied) × (c.user_connections ≡ e.user_connections) × (c.client_ip ≡ e.client_ip)
-    × (c.carry ≡ e.carry) × (c.proxy_protocol ≡ e.proxy_protocol)
+    × (c.carry ≡ e.carry) × (c.proxy_protocol ≡ e.proxy_protocol) × (c.hosts_file ≡ e.hosts_file)
 
 abbrev pub HasTimes : Config → Times → Type 0
 HasTimes c t = (c.keep_origins ≡ t.keep_origins) × (c.origin_idle ≡ t.origin_idle) × (c.dial ≡ t.dial) × (c.service_idle ≡ t.service_idle)

@@ -1,5 +1,5 @@
 -- The host names of a document, and which of them is at fault.
-use Rattle.std.specs.Prelude.{◌≡◌, ℕ, ◌⊎◌, ◌↔◌, List, Bool, Contains, All, ◌||◌, String, string_bytes, Option, Some, None, IsTrue, codes, MatchOption}
+use Rattle.std.specs.Prelude.{◌≡◌, ℕ, ◌⊎◌, ◌↔◌, List, [], Bool, Contains, All, ◌||◌, String, string_bytes, Option, Some, None, IsTrue, codes, MatchOption}
 use Rattle.std.specs.Str.{str_eq_ignore_ascii_case, str_to_ascii_lowercase}
 use Rattle.std.specs.BTreeSet.{BTreeSet, contains_text}
 use Rattle.std.specs.declared.alloc.Global.{Global}
@@ -7,7 +7,7 @@ use Rattle.std.specs.declared.net.socket_addr.SocketAddrV4.{SocketAddrV4}
 use Rattle.toml.specs.Data.{Data, Members, no_members, get_member, as_table}
 use Rattle.proxy_config.specs.Values.{HasAddress}
 use Rattle.proxy_config.specs.Order.{HasKey, IsFirst, comes_before, nested}
-use Rattle.proxy_config.specs.Hosts.{found_host}
+use Rattle.proxy_config.specs.Hosts.{address_of_name}
 use Rattle.proxy_config.specs.declared.host.Host.{Host}
 use Rattle.proxy_config.specs.declared.host_table.Hosts.{Hosts}
 
@@ -50,12 +50,13 @@ pub record HasEach (names : Members) (hosts : List Host) : Type 0 where
 abbrev pub IsHostAt : Members → List ℕ → SocketAddrV4 → Type 0
 IsHostAt names name address = (written : List ℕ) × IsTrue (str_eq_ignore_ascii_case written name) × HasAddress written names address
 
--- the hosts are the document's: no name is bad, and each is found where the document says, and no other is
+-- the hosts are the document's: no name is bad, and each is found where the document says, and no other is; no hosts file is read
 pub record IsHostsOf (document : Members) (hosts : Hosts) : Type 0 where
   pub names : Members
   pub are_names : host_names document ≡ Some names
   pub none_bad : (name : List ℕ) → IsBadName names name → ⊥
-  pub found : (name : List ℕ) (address : SocketAddrV4) → (found_host hosts name ≡ Some address) ↔ IsHostAt names name address
+  pub found : (name : List ℕ) (address : SocketAddrV4) → (address_of_name name hosts.all.entries.items ≡ Some address) ↔ IsHostAt names name address
+  pub no_file : hosts.file.entries.items ≡ []
 
 -- whether a name was seen, ASCII case ignored
 abbrev pub is_seen : BTreeSet (String Global) → List ℕ → Bool

@@ -15,9 +15,14 @@ address_of_name name [] = None
 address_of_name name (host ∷ hosts) =
     if str_eq_ignore_ascii_case (string_bytes host.name) name then Some host.address else address_of_name name hosts
 
--- the address of a name in the configured table
+-- the first address, else the other
+abbrev pub first_address : Option SocketAddrV4 → Option SocketAddrV4 → Option SocketAddrV4
+first_address (Some address) other = Some address
+first_address None other = other
+
+-- the address of a name: that of the configured table, else that of the hosts file
 abbrev pub found_host : Hosts → List ℕ → Option SocketAddrV4
-found_host hosts name = address_of_name name hosts.all.items
+found_host hosts name = first_address (address_of_name name hosts.all.entries.items) (address_of_name name hosts.file.entries.items)
 
 -- the port that is written, else the other
 abbrev pub port_or : ℕ → Option ℕ → ℕ
@@ -29,7 +34,7 @@ pub record IsLiteral (host : List ℕ) (port : Option ℕ) (address : SocketAddr
   pub ip : IsIpv4Text host (v4_ip address)
   pub of_port : v4_port address ≡ port_or HTTP_PORT port
 
--- any other name is where the table says, but for the port where the target has one
+-- any other name is where the table or else the hosts file says, but for the port where the target has one
 pub record IsNamed (hosts : Hosts) (host : List ℕ) (port : Option ℕ) (address : SocketAddrV4) : Type 0 where
   pub no_literal : (ip : Ipv4Addr) → IsIpv4Text host ip → ⊥
   pub entry : SocketAddrV4

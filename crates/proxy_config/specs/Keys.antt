@@ -12,7 +12,7 @@ use Rattle.proxy_config.specs.declared.network.Network.{Network}
 use Rattle.proxy_config.specs.declared.point.ServicePoint.{ServicePoint}
 use Rattle.proxy_config.specs.Values.{number_at, truth_or, HasAddress}
 use Rattle.proxy_config.specs.Ports.{IsAdmin, IsMetrics}
-use Rattle.proxy_config.specs.Log.{path_or_none}
+use Rattle.proxy_config.specs.FilePath.{path_or_none}
 use Rattle.proxy_config.specs.Dial.{dial_or}
 use Rattle.proxy_config.specs.HostNames.{IsHostsOf, IsHostFault}
 use Rattle.proxy_config.specs.Carry.{carry_or}
@@ -27,7 +27,7 @@ pub data Kind : Type 0 where
   address : Kind
   admin_address : Kind
   metrics_address : Kind
-  log_path : Kind
+  file_path : Kind
   user_networks : Kind
   denied_networks : Kind
   field_names : Kind
@@ -43,7 +43,7 @@ ValueOf (truth other) = Bool
 ValueOf address = SocketAddrV4
 ValueOf admin_address = SocketAddrV4
 ValueOf metrics_address = Option SocketAddrV4
-ValueOf log_path = Option (List ℕ)
+ValueOf file_path = Option (List ℕ)
 ValueOf user_networks = Option (List Network)
 ValueOf denied_networks = List Network
 ValueOf field_names = List (List ℕ)
@@ -59,7 +59,7 @@ Says (truth other) name document value = truth_or other (get_member name documen
 Says address name document value = HasAddress name document value
 Says admin_address name document value = IsAdmin document value
 Says metrics_address name document value = IsMetrics document value
-Says log_path name document value = path_or_none (get_member name document) ≡ Some value
+Says file_path name document value = path_or_none (get_member name document) ≡ Some value
 Says user_networks name document value = SaysNetworks name document value
 Says denied_networks name document value = SaysNetworksOrNone name document value
 Says field_names name document value = carry_or (get_member name document) ≡ Some value
@@ -113,7 +113,7 @@ abbrev pub message_rows : List Row
 message_rows =
     row (codes "retry") (truth true) (λ c. c.retry)
     ∷ row (codes "wait") (number 0 3600 0) (λ c. c.wait)
-    ∷ row (codes "log") log_path (λ c. option_map string_bytes c.log)
+    ∷ row (codes "log") file_path (λ c. option_map string_bytes c.log)
     ∷ row (codes "log_query") (truth true) (λ c. c.log_query)
     ∷ row (codes "metrics") metrics_address (λ c. c.metrics)
     ∷ []
@@ -127,6 +127,7 @@ entrance_rows =
     ∷ row (codes "client_ip") (truth false) (λ c. c.client_ip)
     ∷ row (codes "carry") field_names (λ c. map string_bytes c.carry.items)
     ∷ row (codes "proxy_protocol") (truth false) (λ c. c.proxy_protocol)
+    ∷ row (codes "hosts_file") file_path (λ c. option_map string_bytes c.hosts_file)
     ∷ []
 
 -- how long connections lie idle and may take to open, and when a service is paused
@@ -143,6 +144,12 @@ time_rows =
     ∷ row (codes "service_pause") (number 1 3600 30) (λ c. c.service_pause)
     ∷ []
 
+-- what refusals say
+abbrev pub page_rows : List Row
+page_rows =
+    row (codes "refusal_pages") file_path (λ c. option_map string_bytes c.refusal_pages)
+    ∷ []
+
 -- where requests and messages go
 abbrev pub place_rows : List Row
 place_rows =
@@ -153,7 +160,7 @@ place_rows =
     ∷ []
 
 abbrev pub table : List Row
-table = port_rows ++ (size_rows ++ (message_rows ++ (entrance_rows ++ (time_rows ++ place_rows))))
+table = port_rows ++ (size_rows ++ (message_rows ++ (entrance_rows ++ (time_rows ++ (page_rows ++ place_rows)))))
 
 -- the names of the keys
 abbrev pub document_keys : List (List ℕ)

@@ -8,7 +8,7 @@ pub mod Services
 pub mod Hosts
 pub mod HostNames
 pub mod Unknown
-pub mod Log
+pub mod FilePath
 pub mod Names
 pub mod Ports
 pub mod Dial
@@ -17,3 +17,6 @@ pub mod Carry
 pub mod Reach
 pub mod Parent
 pub mod Groups
+pub mod Pages
+pub mod HostsFile
+pub mod Changes

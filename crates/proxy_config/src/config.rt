@@ -8,9 +8,10 @@ ghost use Rattle.proxy_config.specs.declared.limits.TheConstants.{MAX_SHARDS};
 use crate::dial::Dial;
 use crate::entrance::Entrance;
 use crate::fault::ConfigFault;
+use crate::file_path::read_path;
 use crate::host_table::Hosts;
-use crate::log::read_log;
 use crate::network::Network;
+use crate::pages::Pages;
 use crate::places::Places;
 use crate::point::ServicePoint;
 use crate::ports::{read_admin, read_metrics};
@@ -76,6 +77,8 @@ pub struct Config {
     pub carry: Vec<String>,
     /// Whether each user's connection begins with a header of the PROXY protocol, which says where it comes from.
     pub proxy_protocol: bool,
+    /// The file of further host names, a path as that of `log`; none where there is no such file.
+    pub hosts_file: Option<String>,
     /// The most idle connections to origins that each thread keeps: 0 to 1,024; 0 where each is closed after its answer.
     pub keep_origins: u64,
     /// Seconds after which an idle connection to an origin is closed: 1 to 3,600.
@@ -94,6 +97,10 @@ pub struct Config {
     pub service_failures: u64,
     /// Seconds for which it is paused then: 1 to 3,600.
     pub service_pause: u64,
+    /// The folder of the pages of refusals, a path as that of `log`; none where refusals have their plain texts.
+    pub refusal_pages: Option<String>,
+    /// The pages of refusals: none as the configuration is read.
+    pub pages: Pages,
     /// Where named hosts are.
     pub hosts: Hosts,
     /// The service of requests; none where they aren't adapted.
@@ -111,7 +118,7 @@ pub struct Config {
 }
 
 /// The names of the keys.
-pub(crate) const KEYS: [&str; 34] = [
+pub(crate) const KEYS: [&str; 36] = [
     "listen",
     "admin",
     "shards",
@@ -133,6 +140,7 @@ pub(crate) const KEYS: [&str; 34] = [
     "client_ip",
     "carry",
     "proxy_protocol",
+    "hosts_file",
     "keep_origins",
     "origin_idle",
     "dial",
@@ -142,6 +150,7 @@ pub(crate) const KEYS: [&str; 34] = [
     "connect_deadline",
     "service_failures",
     "service_pause",
+    "refusal_pages",
     "hosts",
     "reqmod",
     "respmod",
@@ -164,7 +173,7 @@ impl Config {
         let sizes = Sizes::read(alloc, table)?;
         let retry = read_truth(alloc, table, "retry", true)?;
         let wait = read_number(alloc, table, "wait", 0, 3_600, 0)?;
-        let log = read_log(alloc, table)?;
+        let log = read_path(alloc, table, "log")?;
         let log_query = read_truth(alloc, table, "log_query", true)?;
         let metrics = read_metrics(alloc, table, listen, admin)?;
         let Entrance {
@@ -174,8 +183,10 @@ impl Config {
             client_ip,
             carry,
             proxy_protocol,
+            hosts_file,
         } = Entrance::read(alloc, table)?;
         let times = Times::read(alloc, table)?;
+        let refusal_pages = read_path(alloc, table, "refusal_pages")?;
         let Places {
             hosts,
             reqmod,
@@ -205,6 +216,7 @@ impl Config {
             client_ip,
             carry,
             proxy_protocol,
+            hosts_file,
             keep_origins: times.keep_origins,
             origin_idle: times.origin_idle,
             dial: times.dial,
@@ -214,6 +226,8 @@ impl Config {
             connect_deadline: times.connect_deadline,
             service_failures: times.service_failures,
             service_pause: times.service_pause,
+            refusal_pages,
+            pages: Pages::new(),
             hosts,
             reqmod,
             respmod,

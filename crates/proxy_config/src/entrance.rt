@@ -4,6 +4,7 @@ ghost use Rattle.proxy_config.specs.Values.{IsWithin};
 
 use crate::carry::read_carry;
 use crate::fault::ConfigFault;
+use crate::file_path::read_path;
 use crate::network::Network;
 use crate::networks::{read_denied, read_users};
 use crate::values::{read_number, read_truth};
@@ -19,6 +20,7 @@ pub(crate) struct Entrance {
     pub client_ip: bool,
     pub carry: Vec<String>,
     pub proxy_protocol: bool,
+    pub hosts_file: Option<String>,
     ghost in_range: { IsWithin 0 4096 user_connections },
 }
 
@@ -35,7 +37,7 @@ impl Entrance {
     pub(crate) fn read(alloc: Global, table: &Table) -> Result<Entrance, ConfigFault>
         requires next { IsPast (codes "metrics") (table_view table.now) }
         ensures ok { IfOk result (AreSaidOf HasEntrance entrance_rows (table_view table.now)) }
-        ensures past { IfOk result (λ _. IsPast (codes "proxy_protocol") (table_view table.now)) }
+        ensures past { IfOk result (λ _. IsPast (codes "hosts_file") (table_view table.now)) }
         ensures err { IfErr result (Names (IsFirstFault (table_view table.now))) }
     {
         Ok(Entrance {
@@ -45,6 +47,7 @@ impl Entrance {
             client_ip: read_truth(alloc, table, "client_ip", false)?,
             carry: read_carry(alloc, table)?,
             proxy_protocol: read_truth(alloc, table, "proxy_protocol", false)?,
+            hosts_file: read_path(alloc, table, "hosts_file")?,
         })
     }
 }

@@ -18,7 +18,8 @@ ghost use Rattle.proxy_config.specs.declared.host.Host.{Host as AnyHost};
 
 use crate::fault::{ConfigFault, at_nested, needed};
 use crate::host::{Host, host_at, number_of};
-use crate::host_table::{Hosts, sorted};
+use crate::host_table::{HostTable, Hosts};
+use crate::sorting::sorted;
 use crate::values::{address_of, value_of};
 use adapt_bytes::same_ascii;
 use std::alloc::{AllocError, Global};
@@ -44,7 +45,7 @@ fn among(hosts: &[Host], number: u64, name: &[u8]) -> Option<SocketAddrV4>
 }
 
 /// The port of `http` where none is written (RFC 9110, section 4.2.1).
-const HTTP_PORT: u16 = 80;
+pub(crate) const HTTP_PORT: u16 = 80;
 
 /// The port that is written, else the other.
 fn port_or(other: u16, port: Option<u16>) -> u16
@@ -56,20 +57,33 @@ fn port_or(other: u16, port: Option<u16>) -> u16
     }
 }
 
+impl HostTable {
+    /// The address of a name, ASCII case ignored.
+    fn find(&self, name: &[u8]) -> Option<SocketAddrV4>
+        ensures { result ≡ address_of_name name.now self.now.entries.items }
+    {
+        let number = number_of(name);
+        let first = self.entries.partition_point(|host| host.number < number);
+        among(&self.entries[first..], number, name)
+    }
+}
+
 impl Hosts {
     /// The address of a name, ASCII case ignored.
     fn find(&self, name: &[u8]) -> Option<SocketAddrV4>
         ensures { result ≡ found_host self.now name.now }
     {
-        let number = number_of(name);
-        let first = self.all.partition_point(|host| host.number < number);
-        among(&self.all[first..], number, name)
+        match self.all.find(name) {
+            Some(address) => Some(address),
+            None => self.file.find(name),
+        }
     }
 
     /// Where a host of a request's target is, with the target's port where one is written.
     ///
-    /// An IPv4 literal is itself, its port 80 where none is written. Another name is looked up, ASCII case ignored; the
-    /// table's port stands where the target has none. `None` where the name isn't there.
+    /// An IPv4 literal is itself, its port 80 where none is written. Another name is looked up, ASCII case ignored, first in
+    /// the table, then in the hosts file; the port that is found stands where the target has none. `None` where the name
+    /// isn't there.
     pub fn resolve(&self, host: &[u8], port: Option<u16>) -> Option<SocketAddrV4>
         ensures found { IfSome result (IsAt self.now host.now port) }
         ensures none { IfNone result ((address : AnyAddress) → IsAt self.now host.now port address → ⊥) }
@@ -158,5 +172,8 @@ pub(crate) fn read_hosts(alloc: Global, table: &Table) -> Result<Hosts, ConfigFa
     ensures err { IfErr result (Names (IsFirstFault (table_view table.now))) }
 {
     let all = read_names(alloc, table)?;
-    Ok(sorted(all)?)
+    Ok(Hosts {
+        all: sorted(all)?,
+        file: HostTable::empty(alloc),
+    })
 }

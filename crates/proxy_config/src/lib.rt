@@ -7,18 +7,21 @@
 #![tactic(auto)]
 
 mod carry;
+mod changes;
 mod config;
 mod dial;
 mod entrance;
 mod fault;
+mod file_path;
 mod host;
 mod host_table;
 mod hosts;
+mod hosts_file;
 mod limits;
-mod log;
 mod membership;
 mod network;
 mod networks;
+mod pages;
 mod parent;
 mod places;
 mod point;
@@ -27,17 +30,22 @@ mod reach;
 mod reading;
 mod services;
 mod sizes;
+mod sorting;
 mod times;
 mod unknown;
 mod values;
+mod words;
 
+pub use changes::fixed_change;
 pub use config::Config;
 pub use dial::Dial;
 pub use fault::ConfigFault;
 pub use host_table::Hosts;
+pub use hosts_file::HostsFault;
 pub use limits::MAX_SHARDS;
 pub use membership::{is_in, may_use};
 pub use network::Network;
+pub use pages::{MAX_PAGE, OWN_STATUSES, Pages};
 pub use point::ServicePoint;
 pub use reach::reaches;
 pub use reading::read_config;

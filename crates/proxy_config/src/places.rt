@@ -30,7 +30,7 @@ impl Places {
 
     /// Reads them, a line a key.
     pub(crate) fn read(alloc: Global, table: &Table) -> Result<Places, ConfigFault>
-        requires next { IsPast (codes "service_pause") (table_view table.now) }
+        requires next { IsPast (codes "refusal_pages") (table_view table.now) }
         ensures ok { IfOk result (AreSaidOf HasPlaces place_rows (table_view table.now)) }
         ensures past { IfOk result (λ _. IsPast (codes "parent") (table_view table.now)) }
         ensures err { IfErr result (Names (IsFirstFault (table_view table.now))) }

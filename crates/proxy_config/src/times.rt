@@ -35,7 +35,7 @@ impl Times {
 
     /// Reads them, a line a key.
     pub(crate) fn read(alloc: Global, table: &Table) -> Result<Times, ConfigFault>
-        requires next { IsPast (codes "proxy_protocol") (table_view table.now) }
+        requires next { IsPast (codes "hosts_file") (table_view table.now) }
         ensures ok { IfOk result (AreSaidOf HasTimes time_rows (table_view table.now)) }
         ensures past { IfOk result (λ _. IsPast (codes "service_pause") (table_view table.now)) }
         ensures err { IfErr result (Names (IsFirstFault (table_view table.now))) }

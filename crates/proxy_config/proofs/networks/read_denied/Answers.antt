@@ -1,5 +1,5 @@
 -- The key is good where it has networks, or is missing, and else it is the first at fault.
-use Rattle.std.proofs.Common.{◌≡◌, List, [], Option, Vec, Global, None, option_map, codes, inl, inr, refl, subst, rules}
+use Rattle.std.proofs.Common.{◌≡◌, List, [], Option, Vec, Global, None, option_map, codes, inl, inr, refl, subst}
 use Rattle.toml.specs.Data.{get_member}
 use Rattle.toml.specs.View.{table_view}
 use Rattle.proxy_config.specs.declared.network.Network.{Network}

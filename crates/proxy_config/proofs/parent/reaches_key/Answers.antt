@@ -1,5 +1,4 @@
 -- The key has one address, or none.
-use Rattle.std.proofs.Common.{sym}
 use Rattle.std.proofs.lemmas.Bool.{false≢true}
 use Rattle.toml.specs.View.{table_view}
 use Rattle.proxy_config.proofs.ParentLemmas.{at_its_address}

@@ -13,9 +13,11 @@ returns-clause-ok c =
     (c.in_ok-retry.ensures.ok & c.in_ok-wait.ensures.ok & c.in_ok-log.ensures.ok & c.in_ok-log_query.ensures.ok & c.in_ok-metrics.ensures.ok & tt)
     c.in_ok-users.ensures.ok
     c.in_ok-times.ensures.ok
+    (c.in_ok-refusal_pages.ensures.ok & tt)
     c.in_ok-hosts.ensures.ok
     c.in_ok-check_keys.ensures.ok
+    c.new.ensures
     (refl, refl, refl, refl, refl, refl, refl, refl)
-    (refl, refl, refl, refl, refl, refl)
+    (refl, refl, refl, refl, refl, refl, refl)
     (refl, refl, refl, refl, refl, refl, refl, refl, refl)
     (refl, refl, refl, refl)

@@ -1,5 +1,5 @@
 -- Each number lies in its range, and is what its key says.
-use Rattle.std.proofs.Common.{◌≡◌, Some, ap, sym, ◌∙◌}
+use Rattle.std.proofs.Common.{Some, ap, sym, ◌∙◌}
 use Rattle.proxy_config.proofs.Judging.{◌&◌}
 use Rattle.proxy_config.proofs.sizes.Sizes.read.Goals as goal
 

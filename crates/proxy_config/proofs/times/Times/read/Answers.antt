@@ -1,5 +1,5 @@
 -- Each value is what its key says.
-use Rattle.std.proofs.Common.{◌≡◌, Some, ap, sym, ◌∙◌}
+use Rattle.std.proofs.Common.{Some, ap, sym, ◌∙◌}
 use Rattle.proxy_config.proofs.Judging.{◌&◌}
 use Rattle.proxy_config.proofs.times.Times.read.Goals as goal
 

@@ -6,11 +6,11 @@ use Rattle.proxy_config.specs.declared.host.Host.{Host as AnyHost}
 use Rattle.proxy_config.specs.Hosts.{address_of_name}
 use Rattle.proxy_config.specs.Names.{number_of_name}
 use Rattle.proxy_config.proofs.HostSearch.{passes_lower}
-use Rattle.proxy_config.proofs.host_table.Hosts.find.Goals as goal
+use Rattle.proxy_config.proofs.host_table.HostTable.find.Goals as goal
 
 pub returns : goal.returns
 returns c =
-    let hosts : List AnyHost = c.args.self.now.all.items in
+    let hosts : List AnyHost = c.args.self.now.entries.items in
     let name : List ℕ = c.args.name.now in
     let number : ℕ = c.number_of-number.result in
     let first : ℕ = c.partition_point-first.result in

@@ -1,0 +1,59 @@
+-- Comparing the values of keys, one after the other.
+use Rattle.std.proofs.Common.{◌≡◌, ◌↔◌, ◌==◌, ℕ, List, [], ◌∷◌, ◌++◌, Bool, true, false, if◌then◌else◌, Option, Some, None, IsTrue, inl, inr, refl, ap, rules}
+use Rattle.std.proofs.lemmas.Bool.{false≢true}
+use Rattle.std.proofs.lemmas.Bool.Decides.{Decides-eqb}
+use Rattle.std.proofs.Math.Bool.{beq}
+use Rattle.std.specs.Cmp.{booleans_Decides}
+use Rattle.proxy_config.specs.Changes.{first_other, Agrees, IsFirstChange}
+use Rattle.proxy_config.specs.Keys.{Row}
+use Rattle.proxy_config.specs.declared.config.Config.{Config}
+
+-- the checks are those of these keys
+abbrev pub AreChecks : List Row → Config → Config → List (List ℕ × Bool) → Type 0
+AreChecks [] old new [] = Unit {0}
+AreChecks [] old new (check ∷ checks) = ⊥
+AreChecks (row ∷ rows) old new [] = ⊥
+AreChecks (row ∷ rows) old new (check ∷ checks) = (check.0 ≡ row.name) × (IsTrue check.1 ↔ Agrees row old new) × AreChecks rows old new checks
+
+-- two numbers, and two truth values, are compared
+pub same_number : (a b : ℕ) → IsTrue (a == b) ↔ (a ≡ b)
+same_number a b = ((Decides-eqb a b).0, (Decides-eqb a b).1)
+
+pub same_truth : (a b : Bool) → IsTrue (beq a b) ↔ (a ≡ b)
+same_truth a b = ((booleans_Decides a b).0, (booleans_Decides a b).1)
+
+first_here : (same : Bool) (row : Row) (rows : List Row) (old new : Config) (name : List ℕ) (later : Option (List ℕ)) → name ≡ row.name → (IsTrue same ↔ Agrees row old new)
+    → IsFirstChange rows old new later → IsFirstChange (row ∷ rows) old new (if same then later else Some name)
+unfolding IsFirstChange
+first_here true row rows old new name later is agrees first = inl (agrees.0 refl, first)
+first_here false row rows old new name later is agrees first = inr (λ same. false≢true (agrees.1 same), ap Some is)
+
+none_first : (old new : Config) → IsFirstChange [] old new None
+unfolding IsFirstChange
+none_first old new = refl
+
+pub first_is : (rows : List Row) (old new : Config) (checks : List (List ℕ × Bool)) → AreChecks rows old new checks → IsFirstChange rows old new (first_other checks)
+first_is [] old new [] are = none_first old new
+first_is [] old new (check ∷ checks) are = absurd are
+first_is (row ∷ rows) old new [] are = absurd are
+first_is (row ∷ rows) old new (check ∷ checks) are =
+    first_here check.1 row rows old new check.0 (first_other checks) are.0 are.1 (first_is rows old new checks are.2)
+
+-- keys on which they agree, before others
+pub none_before : (rows more : List Row) (old new : Config) (found : Option (List ℕ)) → IsFirstChange rows old new None → IsFirstChange more old new found
+    → IsFirstChange (rows ++ more) old new found
+unfolding IsFirstChange
+none_before [] more old new found none first = first
+none_before (row ∷ rows) more old new found none first = elim none as (λ _. IsFirstChange (row ∷ rows ++ more) old new found) [
+  | inl agreed ↦ inl (agreed.0, none_before rows more old new found agreed.1 first)
+  | inr other ↦ search (rules, other.1)
+]
+
+-- the first of some keys is that of more
+pub some_before : (rows more : List Row) (old new : Config) (key : List ℕ) → IsFirstChange rows old new (Some key) → IsFirstChange (rows ++ more) old new (Some key)
+unfolding IsFirstChange
+some_before [] more old new key first = search (rules, first)
+some_before (row ∷ rows) more old new key first = elim first as (λ _. IsFirstChange (row ∷ rows ++ more) old new (Some key)) [
+  | inl agreed ↦ inl (agreed.0, some_before rows more old new key agreed.1)
+  | inr other ↦ inr other
+]
