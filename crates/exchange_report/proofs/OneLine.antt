@@ -11,7 +11,7 @@ use Rattle.adapt_bytes.proofs.Written.{Writes-numeral}
 use Rattle.exchange_report.specs.Reasons.{reason_word}
 use Rattle.exchange_report.specs.Words.{word_of}
 use Rattle.exchange_report.specs.Lines.{HasNoEnd, IsOneLine}
-use Rattle.exchange_report.specs.Entry.{address_text, user_text, destination_text, tag_text, status_text, head_text, request_text, reply_word, verdict_text, why_word, end_text, line_text}
+use Rattle.exchange_report.specs.Entry.{address_text, user_text, destination_text, tag_text, status_text, head_text, request_text, reply_word, verdict_text, why_word, verdicts_text, refusal_text, end_text, line_text}
 use Rattle.exchange_report.specs.declared.entry.Address.{Address}
 use Rattle.exchange_report.specs.declared.entry.Destination.{Destination}
 use Rattle.exchange_report.specs.declared.entry.Destination.TheVariants.{Origin, Parent}
@@ -128,8 +128,7 @@ request e method target kind =
 
 -- the end's fields, before the byte that ends the line
 abbrev fields : Entry → List ℕ
-fields e = codes " reqmod=" ++ verdict_text e.reqmod ++ codes " respmod=" ++ verdict_text e.respmod ++ codes " why=" ++ why_word e.why
-    ++ codes " found=" ++ word_of (take MAX_FOUND e.found.now) ++ codes " in=" ++ numeral 10 e.received
+fields e = verdicts_text e ++ codes " found=" ++ word_of (take MAX_FOUND e.found.now) ++ codes " in=" ++ numeral 10 e.received ++ refusal_text e.refusal
 
 threes : (a m b t c o : List ℕ) → HasNoEnd a → HasNoEnd m → HasNoEnd b → HasNoEnd t → HasNoEnd c → HasNoEnd o
     → HasNoEnd (a ++ m ++ b ++ t ++ c ++ o)
@@ -137,18 +136,18 @@ threes a m b t c o ha hm hb ht hc ho =
     joined (a ++ m ++ b ++ t ++ c) o (joined (a ++ m ++ b ++ t) c (joined (a ++ m ++ b) t (joined (a ++ m) b (joined a m ha hm) hb) ht) hc) ho
 
 -- the first three of them
-verdicts : (e : Entry) → HasNoEnd (codes " reqmod=" ++ verdict_text e.reqmod ++ codes " respmod=" ++ verdict_text e.respmod ++ codes " why=" ++ why_word e.why)
+verdicts : (e : Entry) → HasNoEnd (verdicts_text e)
+unfolding verdicts_text
 verdicts e = threes (codes " reqmod=") (verdict_text e.reqmod) (codes " respmod=") (verdict_text e.respmod) (codes " why=") (why_word e.why)
     (const (codes " reqmod=") refl) (verdict e.reqmod) (const (codes " respmod=") refl) (verdict e.respmod) (const (codes " why=") refl) (why e.why)
 
--- texts after one that ends no line
-after : (v f w i n : List ℕ) → HasNoEnd v → HasNoEnd f → HasNoEnd w → HasNoEnd i → HasNoEnd n → HasNoEnd (v ++ f ++ w ++ i ++ n)
-after v f w i n hv hf hw hi hn = joined (v ++ f ++ w ++ i) n (joined (v ++ f ++ w) i (joined (v ++ f) w (joined v f hv hf) hw) hi) hn
+refusal : (n : Option ℕ) → HasNoEnd (refusal_text n)
+refusal (Some n) = joined (codes " refusal=") (numeral 10 n) (const (codes " refusal=") refl) (number n)
+refusal None = All-nil (λ b. b ≢ 10)
 
 last : (e : Entry) → All (λ b. b < 256) e.found.now → HasNoEnd (fields e)
-last e found = after (codes " reqmod=" ++ verdict_text e.reqmod ++ codes " respmod=" ++ verdict_text e.respmod ++ codes " why=" ++ why_word e.why)
-    (codes " found=") (word_of (take MAX_FOUND e.found.now)) (codes " in=") (numeral 10 e.received)
-    (verdicts e) (const (codes " found=") refl) (word MAX_FOUND e.found.now found) (const (codes " in=") refl) (number e.received)
+last e found = threes (verdicts_text e) (codes " found=") (word_of (take MAX_FOUND e.found.now)) (codes " in=") (numeral 10 e.received) (refusal_text e.refusal)
+    (verdicts e) (const (codes " found=") refl) (word MAX_FOUND e.found.now found) (const (codes " in=") refl) (number e.received) (refusal e.refusal)
 
 pub ends_once : (e : Entry) → All (λ b. b < 256) e.method.now → All (λ b. b < 256) e.target.now → All (λ b. b < 256) e.kind.now
     → All (λ b. b < 256) e.found.now → IsOneLine (line_text e)

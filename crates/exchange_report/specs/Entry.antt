@@ -1,4 +1,4 @@
--- The log's line of an exchange: the fields of Squid's native format in their order, and five more.
+-- The log's line of an exchange: the fields of Squid's native format in their order, and five or six more.
 use Rattle.std.specs.Prelude.{ℕ, ◌/◌, ◌%◌, Bool, List, [], ◌++◌, Option, Some, None, take, nat_lt, if◌then◌else◌, codes}
 use Rattle.adapt_bytes.specs.Numeral.{numeral, three_digits}
 use Rattle.exchange_report.specs.Reasons.{reason_word}
@@ -66,11 +66,19 @@ why_word Served = codes "-"
 why_word UserGone = codes "user-gone"
 why_word (Failed reason) = reason_word reason
 
--- what a service made of the request and of the response, why the exchange ended otherwise than by its answer, what a service found,
--- and the bytes of the request's body
+-- what a service made of the request and of the response, and why the exchange ended otherwise than by its answer
+unfoldable pub verdicts_text : Entry → List ℕ
+verdicts_text e = codes " reqmod=" ++ verdict_text e.reqmod ++ codes " respmod=" ++ verdict_text e.respmod ++ codes " why=" ++ why_word e.why
+
+-- the number in the page of a refusal; nothing where it has no page
+abbrev pub refusal_text : Option ℕ → List ℕ
+refusal_text (Some number) = codes " refusal=" ++ numeral 10 number
+refusal_text None = []
+
+-- those, what a service found, the bytes of the request's body, and the number in the page of a refusal
 unfoldable pub end_text : Entry → List ℕ
-end_text e = codes " reqmod=" ++ verdict_text e.reqmod ++ codes " respmod=" ++ verdict_text e.respmod ++ codes " why=" ++ why_word e.why
-    ++ codes " found=" ++ word_of (take MAX_FOUND e.found.now) ++ codes " in=" ++ numeral 10 e.received ++ codes "\n"
+end_text e = verdicts_text e ++ codes " found=" ++ word_of (take MAX_FOUND e.found.now) ++ codes " in=" ++ numeral 10 e.received
+    ++ refusal_text e.refusal ++ codes "\n"
 
 -- the whole line
 abbrev pub line_text : Entry → List ℕ

@@ -1,8 +1,8 @@
-//! The log's line of an exchange, in the native format of Squid's `access.log`, with five fields after it.
+//! The log's line of an exchange, in the native format of Squid's `access.log`, with five fields after it, and a sixth where the user got a page.
 
 ghost use Rattle.std.specs.Prelude.{◌≡◌, ◌++◌, ◌<◌, OnOk, codes, take};
 ghost use Rattle.exchange_report.specs.Words.{word_of};
-ghost use Rattle.exchange_report.specs.Entry.{address_text, moment_text, user_text, destination_text, tag_text, status_text, head_text, request_text, end_text, line_text};
+ghost use Rattle.exchange_report.specs.Entry.{address_text, moment_text, user_text, destination_text, tag_text, status_text, head_text, request_text, verdicts_text, refusal_text, end_text, line_text};
 
 use crate::verdict::{Verdict, write_verdict};
 use crate::why::Why;
@@ -47,6 +47,7 @@ pub enum Destination {
 ///     why: Why::Served,
 ///     found: b"",
 ///     received: 0,
+///     refusal: None,
 /// };
 /// write_line(&mut out, &entry)?;
 /// // 1066036250.603 310 192.0.2.7 TCP_MISS/200 1015 GET http://o.test/a%20b - HIER_NONE/- text/html
@@ -79,6 +80,8 @@ pub struct Entry<'a> {
     pub found: &'a [u8],
     /// How many bytes of the request's body came.
     pub received: u64,
+    /// The number in the page of the proxy's own answer; none where that has no page.
+    pub refusal: Option<u64>,
 }
 
 /// Adds an address, as `192.0.2.1`.
@@ -186,21 +189,43 @@ fn write_request(out: &mut Vec<u8>, entry: &Entry<'_>) -> Result<(), AllocError>
     write_field(out, MAX_KIND, entry.kind)
 }
 
-/// Adds the fields that Squid's format hasn't, and the line's end.
-#[tactic(auto, unfolding(crate::specs::Entry::end_text))]
-fn write_end(out: &mut Vec<u8>, entry: &Entry<'_>) -> Result<(), AllocError>
-    ensures { OnOk result (out.new.items ≡ out.old.items ++ end_text entry.now) }
+/// Adds what services made of the messages, and why the exchange ended as it did.
+#[tactic(auto, unfolding(crate::specs::Entry::verdicts_text))]
+fn write_verdicts(out: &mut Vec<u8>, entry: &Entry<'_>) -> Result<(), AllocError>
+    ensures { OnOk result (out.new.items ≡ out.old.items ++ verdicts_text entry.now) }
 {
     out.extend_from_slice(b" reqmod=")?;
     write_verdict(out, entry.reqmod)?;
     out.extend_from_slice(b" respmod=")?;
     write_verdict(out, entry.respmod)?;
     out.extend_from_slice(b" why=")?;
-    out.extend_from_slice(entry.why.word())?;
+    out.extend_from_slice(entry.why.word())
+}
+
+/// Adds the number in the page of a refusal, where it has one.
+fn write_refusal(out: &mut Vec<u8>, refusal: Option<u64>) -> Result<(), AllocError>
+    ensures { OnOk result (out.new.items ≡ out.old.items ++ refusal_text refusal) }
+{
+    match refusal {
+        Some(number) => {
+            out.extend_from_slice(b" refusal=")?;
+            write_number(out, number)
+        }
+        None => Ok(()),
+    }
+}
+
+/// Adds the fields that Squid's format hasn't, and the line's end.
+#[tactic(auto, unfolding(crate::specs::Entry::end_text))]
+fn write_end(out: &mut Vec<u8>, entry: &Entry<'_>) -> Result<(), AllocError>
+    ensures { OnOk result (out.new.items ≡ out.old.items ++ end_text entry.now) }
+{
+    write_verdicts(out, entry)?;
     out.extend_from_slice(b" found=")?;
     write_word(out, MAX_FOUND, entry.found)?;
     out.extend_from_slice(b" in=")?;
     write_number(out, entry.received)?;
+    write_refusal(out, entry.refusal)?;
     out.extend_from_slice(b"\n")
 }
 

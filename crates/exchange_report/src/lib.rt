@@ -1,4 +1,5 @@
-//! What operators read: the log's line of an exchange, and the text of the counters; and the table of the reasons that both name.
+//! What operators read: the log's line of an exchange, and the text of the counters; and the table of the reasons that both name. What a
+//! user reads of a reason is here too: the page of a refusal.
 //!
 //! The texts are functions of records. No value from outside can end a line or begin a field: it is written as one word.
 //!
@@ -8,6 +9,7 @@
 mod entry;
 pub mod laws;
 mod metrics;
+mod page;
 mod reason;
 mod verdict;
 mod why;
@@ -15,6 +17,7 @@ mod words;
 
 pub use entry::{Address, Destination, Entry, write_line};
 pub use metrics::{Family, Kind, Metric, metrics_text};
+pub use page::page_refusal;
 pub use reason::{REASONS, Reason};
 pub use verdict::{Reply, Verdict};
 pub use why::Why;

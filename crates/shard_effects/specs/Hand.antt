@@ -1,5 +1,15 @@
 -- What an exchange holds of what its course counts, and how much it has said itself.
-use Rattle.std.specs.Prelude.{◌≡◌, ℕ, Bool, true, false}
+use Rattle.std.specs.Prelude.{◌≡◌, ℕ, Bool, true, false, List, Option, None}
+
+-- What was said of a refusal.
+pub record Refused : Type 0 where
+  -- its text with a page, where that was laid
+  pub page : Option (List ℕ)
+  -- how many bytes are out
+  pub out : ℕ
+
+abbrev pub refused_of : Option (List ℕ) → ℕ → Refused
+refused_of page out = record { page = page; out = out }
 
 pub record Hand : Type 0 where
   -- the right to a connection of a service
@@ -12,10 +22,9 @@ pub record Hand : Type 0 where
   pub moving : Bool
   -- how many bytes of the text that tells the user to send its body are out
   pub told : ℕ
-  -- how many bytes of the refusal are out
-  pub refused : ℕ
+  pub refused : Refused
 
-abbrev pub hand_of : (leased room origin moving : Bool) → (told refused : ℕ) → Hand
+abbrev pub hand_of : (leased room origin moving : Bool) → (told : ℕ) → Refused → Hand
 hand_of a b c d e f = record { leased = a; room = b; origin = c; moving = d; told = e; refused = f }
 
 -- nothing is held
@@ -24,7 +33,7 @@ IsEmpty h = (h.leased ≡ false) × (h.room ≡ false) × (h.origin ≡ false) �
 
 -- nor is anything said
 abbrev pub IsFresh : Hand → Type 0
-IsFresh h = IsEmpty h × (h.told ≡ 0) × (h.refused ≡ 0)
+IsFresh h = IsEmpty h × (h.told ≡ 0) × (h.refused.page ≡ None) × (h.refused.out ≡ 0)
 
 -- no more is said
 abbrev pub SaysNothing : (old new : Hand) → Type 0

@@ -1,5 +1,8 @@
 -- What goes out to a user of a text that the proxy itself says.
-use Rattle.std.specs.Prelude.{◌≡◌, ℕ, ◌+◌, ◌<◌, ◌≤◌, ⊤, List, length, drop, codes, Option, Some, None}
+use Rattle.std.specs.Prelude.{◌≡◌, ℕ, ◌+◌, ◌<◌, ◌≤◌, ◌==◌, ◌&&◌, ⊤, Bool, true, false, not, List, length, drop, codes, Option, Some, None, is_some, IfSome}
+use Rattle.exchange_report.specs.Pages.{IsPageRefusal}
+use Rattle.http_side.specs.Refusals.{refusal}
+use Rattle.shard_effects.specs.Hand.{Refused}
 use Rattle.wire_kit.specs.declared.wire.Put.{Put}
 use Rattle.wire_kit.specs.declared.wire.Put.TheVariants as put
 use Rattle.wire_kit.specs.Past.{Past, Offers}
@@ -39,3 +42,18 @@ pub record SaysOn (old new : Past → Type 0) (text : List ℕ) (before out : �
 -- what tells a user to send its body (RFC 9110, section 15.2.1)
 abbrev pub interim_text : List ℕ
 interim_text = codes "HTTP/1.1 100 Continue\r\n\r\n"
+
+-- the refusal of a status: the one with a page, where it was laid, or the plain one
+abbrev pub refusal_by : (status : ℕ) → (page : Option (List ℕ)) → List ℕ
+refusal_by status None = refusal status
+refusal_by status (Some text) = text
+
+-- one with a page may still be laid: no byte of a refusal is out
+abbrev pub may_lay : Refused → Bool
+may_lay old = (old.out == 0) && not (is_some old.page)
+
+-- A refusal with a page that is laid is one of this status, with a page that refusals of it have. Once it is laid, or a byte of the plain
+-- one is out, the text of the refusal stays what it is.
+pub record LaysPage (has_page : List ℕ → Type 0) (status : ℕ) (old : Refused) (new : Option (List ℕ)) : Type 0 where
+  pub laid : may_lay old ≡ true → IfSome new (λ text. (page : List ℕ) × has_page page × IsPageRefusal status page text)
+  pub stays : may_lay old ≡ false → new ≡ old.page

@@ -1,6 +1,6 @@
 //! What an exchange asks of what it holds.
 
-ghost use Rattle.std.specs.Prelude.{◌≡◌, ◌&&◌, Bool, IsTrue, Some, Option, Result, is_ok, true, false, IfSome, IfOk, IfErr};
+ghost use Rattle.std.specs.Prelude.{◌≡◌, ◌&&◌, ℕ, Bool, List, IsTrue, Some, Option, Result, is_ok, true, false, IfSome, IfOk, IfErr};
 ghost use Rattle.exchange_core.specs.Course.{is_ready};
 ghost use Rattle.exchange_core.specs.declared.course.Course.{Course as AnyCourse};
 ghost use Rattle.exchange_core.specs.declared.dialing.Dialing.{Dialing as AnyDialing};
@@ -10,7 +10,7 @@ ghost use Rattle.exchange_core.specs.Dues.{due_of, is_for_telling, refusal_due};
 ghost use Rattle.exchange_core.specs.declared.event.RefusalCause.TheVariants.{Scarce};
 ghost use Rattle.exchange_core.specs.Log.{is_silent};
 ghost use Rattle.exchange_core.specs.May.{is_gone, may_come, may_keep_origin};
-ghost use Rattle.http_side.specs.Refusals.{is_own_status, refusal};
+ghost use Rattle.http_side.specs.Refusals.{is_own_status};
 ghost use Rattle.icap_head.specs.Heads.{Response as AnyResponse, response_parts};
 ghost use Rattle.trace_core.specs.declared.history.Point.{Point as AnyPoint};
 ghost use Rattle.wire_kit.specs.Past.{Past};
@@ -20,7 +20,7 @@ ghost use Rattle.shard_effects.specs.Ends.{EndsBy, IfItself};
 ghost use Rattle.shard_effects.specs.Leases.{Renews};
 ghost use Rattle.exchange_report.specs.Reasons.{cause_of};
 ghost use Rattle.shard_effects.specs.Reasons.{lies_elsewhere, unplanned_reason};
-ghost use Rattle.shard_effects.specs.Saying.{SaysOn, interim_text};
+ghost use Rattle.shard_effects.specs.Saying.{LaysPage, SaysOn, interim_text, refusal_by};
 ghost use Rattle.shard_effects.specs.declared.answers.HeadTurn.{HeadTurn as AnyHeadTurn};
 ghost use Rattle.shard_effects.specs.declared.answers.Marks.{Marks as AnyMarks};
 ghost use Rattle.shard_effects.specs.declared.answers.Round.{Round as AnyRound};
@@ -124,14 +124,6 @@ pub trait Holder: InHand {
         ensures says { SaysOn (user_past self.old) (user_past self.new) interim_text (Self.hand self.old).told (Self.hand self.new).told result }
         ensures kept { KeepsButTold (Self.hand self.old) (Self.hand self.new) };
 
-    /// Says the refusal of this status to the user, as far as it takes it, from where the last call ended. At this course it is due, so
-    /// no byte of an answer or of another text is out. The proxy has a refusal of that status.
-    fn refuse(&mut self, course: &Exchange, status: u16) -> Said
-        requires due { refusal_due (due_of course.now) ≡ Some status }
-        requires own { IsTrue (is_own_status status) }
-        ensures says { SaysOn (user_past self.old) (user_past self.new) (refusal status) (Self.hand self.old).refused (Self.hand self.new).refused result }
-        ensures kept { KeepsButRefused (Self.hand self.old) (Self.hand self.new) };
-
     // the user was told that nothing more comes
     ghost finished: { Self → Bool };
 
@@ -216,6 +208,9 @@ pub trait Effects<P>: Holder {
 
     // it is there, beside its lease
     ghost has_line: { Self → Bool };
+
+    // refusals of this status have this page
+    ghost has_page: { Self.Outside → P → (status : ℕ) → List ℕ → Type 0 };
 
     /// Whether no byte moved for longer than the deadline.
     fn is_late(at: &P, out: &Self::Outside) -> bool
@@ -385,6 +380,17 @@ pub trait Effects<P>: Holder {
         requires { (Self.hand self.old).room ≡ true }
         ensures released { (Self.hand self.new).room ≡ false }
         ensures kept { KeepsButRoom (Self.hand self.old) (Self.hand self.new) };
+
+    /// Says the refusal of this status to the user, as far as it takes it, from where the last call ended. At this course it is due, so
+    /// no byte of an answer or of another text is out. The proxy has a refusal of that status. It is the one with a page where refusals of
+    /// the status have one, and memory is found for it; once a byte is out it stays what it is.
+    fn refuse(&mut self, at: &P, out: &mut Self::Outside, course: &Exchange, status: u16) -> Said
+        requires due { refusal_due (due_of course.now) ≡ Some status }
+        requires own { IsTrue (is_own_status status) }
+        ensures lays { LaysPage (has_page out.old at.now status) status (Self.hand self.old).refused (Self.hand self.new).refused.page }
+        ensures says { SaysOn (Self.user_past self.old) (Self.user_past self.new) (refusal_by status (Self.hand self.new).refused.page)
+            (Self.hand self.old).refused.out (Self.hand self.new).refused.out result }
+        ensures kept { KeepsButRefused (Self.hand self.old) (Self.hand self.new) };
 
     /// Says to the user that nothing more comes. At this course all is said to it, also the refusal.
     fn close(&mut self, at: &P, course: &Exchange)

@@ -1,5 +1,5 @@
 -- What a plan and a refusal come to.
-use Rattle.std.specs.Prelude.{◌≡◌, ◌⊎◌, ℕ, Bool, true, false, ⊤, not, ◌&&◌, ◌||◌, if◌then◌else◌, Option, Some, None, Result, Ok, Err}
+use Rattle.std.specs.Prelude.{◌≡◌, ◌⊎◌, ℕ, List, Bool, true, false, ⊤, not, ◌&&◌, ◌||◌, if◌then◌else◌, Option, Some, None, Result, Ok, Err}
 use Rattle.trace_core.specs.declared.history.Point.{Point}
 use Rattle.exchange_core.specs.declared.course.Course.{Course}
 use Rattle.exchange_core.specs.declared.connection.Connection.TheVariants.{InUse}
@@ -13,7 +13,6 @@ use Rattle.exchange_core.specs.Course.{after, point_of, is_in_use, is_offered, i
 use Rattle.exchange_core.specs.May.{dialing_of, may_come, may_keep_origin, may_take_kept, is_request, is_idle, is_at_gate, is_withdrawing, is_refusing, is_closing, is_gone}
 use Rattle.adapt_sides.specs.declared.fault.RelayFault.{RelayFault}
 use Rattle.http_side.specs.declared.fault.HttpFault.{HttpFault}
-use Rattle.http_side.specs.Refusals.{refusal}
 use Rattle.icap_head.specs.Heads.{Response}
 use Rattle.service_lines.specs.declared.connector.LendFault.{LendFault}
 use Rattle.service_lines.specs.declared.connector.LendFault.TheVariants.{Busy}
@@ -34,7 +33,7 @@ use Rattle.shard_effects.specs.Hand.{Hand}
 use Rattle.shard_effects.specs.Reasons.{is_end_of_wire, lend_reason, origin_head_reason, unplanned_reason, user_head_reason}
 use Rattle.shard_effects.specs.declared.ends.End.{End}
 use Rattle.shard_exchange.specs.Ends.{moves, IsEnded, IsOwed, IsServedBy}
-use Rattle.shard_effects.specs.Saying.{SaysOn, interim_text}
+use Rattle.shard_effects.specs.Saying.{LaysPage, SaysOn, interim_text, refusal_by}
 
 -- What a message's plan leads to: a user that was told to send its body isn't told again, nor one whose response comes; and a service is
 -- asked for its options once.
@@ -57,10 +56,10 @@ SaidLeads (Part out) phase = is_refusing phase ≡ true
 SaidLeads Nothing phase = (is_refusing phase || is_gone phase) ≡ true
 SaidLeads Broken phase = is_gone phase ≡ true
 
--- A user gets what is left of the refusal of this status.
+-- A user gets what is left of the refusal of this status: the plain one, or the one with a page that was laid.
 pub record SaysRefusal (user later : Past → Type 0) (old new : Hand) (status : ℕ) (phase : Phase) : Type 0 where
   pub said : Said
-  pub text : SaysOn user later (refusal status) old.refused new.refused said
+  pub text : SaysOn user later (refusal_by status new.refused.page) old.refused.out new.refused.out said
   pub leads : SaidLeads said phase
 
 -- where the text leads of which so much was said that tells the user to send its body; and, where it takes nothing now, to this
@@ -236,22 +235,22 @@ IsGated ends follows answered old new = (new ≡ after old LetPass) ⊎ IsEnded 
 -- What a step does where this is due: it reads the head of a request, plans the message, leases a connection, asks its service and hears its
 -- options, reserves what that may need, tells the user to send its body, dials the origin, starts the transaction, asks the gate, takes a round
 -- of turns, reads the head of the origin's response, gives the service's connection back, hangs up, or says what is left of the refusal.
-abbrev pub Does : (requested planned lent awaited asked heard dialed started gated turned read given hung : Type 0) → (user later : Past → Type 0) → (held holds : Hand) → (late : Bool) → (old new : Course) → Due → Type 0
-Does requested _ _ _ _ _ _ _ _ _ _ _ _ _ _ _ _ _ _ _ ReadRequest = requested
-Does _ planned _ _ _ _ _ _ _ _ _ _ _ _ _ _ _ _ _ _ Plan = planned
-Does _ _ lent _ _ _ _ _ _ _ _ _ _ _ _ _ _ _ _ _ Lend = lent
-Does _ _ _ awaited _ _ _ _ _ _ _ _ _ _ _ _ _ _ _ _ Await = awaited
-Does _ _ _ _ asked _ _ _ _ _ _ _ _ _ _ _ _ _ _ _ Ask = asked
-Does _ _ _ _ _ heard _ _ _ _ _ _ _ _ _ _ _ _ _ _ Hear = heard
-Does _ _ _ _ _ _ _ _ _ _ _ _ _ _ _ _ _ _ old new Reserve = IsReserved old new
-Does _ _ _ _ _ _ _ _ _ _ _ _ _ user later held holds _ old new TryTell = SaysInterim user later held holds (after old Stuck) old new
-Does _ _ _ _ _ _ _ _ _ _ _ _ _ user later held holds late old new Tell = SaysInterim user later held holds (if late then after old (Failed Deadline) else old) old new
-Does _ _ _ _ _ _ dialed _ _ _ _ _ _ _ _ _ _ _ _ _ Dial = dialed
-Does _ _ _ _ _ _ _ started _ _ _ _ _ _ _ _ _ _ _ _ Start = started
-Does _ _ _ _ _ _ _ _ gated _ _ _ _ _ _ _ _ _ _ _ AskGate = gated
-Does _ _ _ _ _ _ _ _ _ turned _ _ _ _ _ _ _ _ _ _ Turn = turned
-Does _ _ _ _ _ _ _ _ _ _ read _ _ _ _ _ _ _ _ _ ReadResponse = read
-Does _ _ _ _ _ _ _ _ _ _ _ given _ _ _ _ _ _ _ _ GiveBack = given
-Does _ _ _ _ _ _ _ _ _ _ _ _ hung _ _ _ _ _ _ _ HangUp = hung
-Does _ _ _ _ _ _ _ _ _ _ _ _ _ user later held holds _ _ new (Refuse status) = SaysRefusal user later held holds status new.phase
-Does _ _ _ _ _ _ _ _ _ _ _ _ _ _ _ _ _ _ _ _ _ = ⊤
+abbrev pub Does : (requested planned lent awaited asked heard dialed started gated turned read given hung : Type 0) → (pages : (status : ℕ) → List ℕ → Type 0) → (user later : Past → Type 0) → (held holds : Hand) → (late : Bool) → (old new : Course) → Due → Type 0
+Does requested _ _ _ _ _ _ _ _ _ _ _ _ _ _ _ _ _ _ _ _ ReadRequest = requested
+Does _ planned _ _ _ _ _ _ _ _ _ _ _ _ _ _ _ _ _ _ _ Plan = planned
+Does _ _ lent _ _ _ _ _ _ _ _ _ _ _ _ _ _ _ _ _ _ Lend = lent
+Does _ _ _ awaited _ _ _ _ _ _ _ _ _ _ _ _ _ _ _ _ _ Await = awaited
+Does _ _ _ _ asked _ _ _ _ _ _ _ _ _ _ _ _ _ _ _ _ Ask = asked
+Does _ _ _ _ _ heard _ _ _ _ _ _ _ _ _ _ _ _ _ _ _ Hear = heard
+Does _ _ _ _ _ _ _ _ _ _ _ _ _ _ _ _ _ _ _ old new Reserve = IsReserved old new
+Does _ _ _ _ _ _ _ _ _ _ _ _ _ _ user later held holds _ old new TryTell = SaysInterim user later held holds (after old Stuck) old new
+Does _ _ _ _ _ _ _ _ _ _ _ _ _ _ user later held holds late old new Tell = SaysInterim user later held holds (if late then after old (Failed Deadline) else old) old new
+Does _ _ _ _ _ _ dialed _ _ _ _ _ _ _ _ _ _ _ _ _ _ Dial = dialed
+Does _ _ _ _ _ _ _ started _ _ _ _ _ _ _ _ _ _ _ _ _ Start = started
+Does _ _ _ _ _ _ _ _ gated _ _ _ _ _ _ _ _ _ _ _ _ AskGate = gated
+Does _ _ _ _ _ _ _ _ _ turned _ _ _ _ _ _ _ _ _ _ _ Turn = turned
+Does _ _ _ _ _ _ _ _ _ _ read _ _ _ _ _ _ _ _ _ _ ReadResponse = read
+Does _ _ _ _ _ _ _ _ _ _ _ given _ _ _ _ _ _ _ _ _ GiveBack = given
+Does _ _ _ _ _ _ _ _ _ _ _ _ hung _ _ _ _ _ _ _ _ HangUp = hung
+Does _ _ _ _ _ _ _ _ _ _ _ _ _ pages user later held holds _ _ new (Refuse status) = LaysPage (pages status) status held.refused holds.refused.page × SaysRefusal user later held holds status new.phase
+Does _ _ _ _ _ _ _ _ _ _ _ _ _ _ _ _ _ _ _ _ _ _ = ⊤

@@ -16,6 +16,7 @@ impl<H: Holder> Exchange<H> {
     ghost use Rattle.exchange_core.specs.May.{is_gone};
     ghost use Rattle.exchange_core.specs.declared.due.Due.TheVariants as dues;
     ghost use Rattle.shard_effects.specs.Hand.{Keeps};
+    ghost use Rattle.shard_effects.specs.Saying.{LaysPage};
     ghost use Rattle.shard_exchange.specs.Ends.{IsOwed};
     ghost use Rattle.shard_exchange.specs.Outcomes.{SaysInterim, SaysRefusal};
     ghost use Rattle.shard_exchange.specs.Steps.{Heeds, is_moved};
@@ -103,11 +104,12 @@ impl<H: Holder> Exchange<H> {
     where
         H: Effects<P>,
         requires due { due_of self.old.course ≡ dues.Refuse status }
+        ensures lays { LaysPage (H.has_page out.old at.now status) status (H.hand self.old.holdings).refused (H.hand self.new.holdings).refused.page }
         ensures says { SaysRefusal (H.user_past self.old.holdings) (H.user_past self.new.holdings) (H.hand self.old.holdings) (H.hand self.new.holdings) status self.new.course.phase }
         ensures goes { Goes self.old.course self.new.course }
         ensures heeds { Heeds (H.is_late out.new at.now) self.new.course result }
     {
-        match self.holdings.refuse(&self.course, status) {
+        match self.holdings.refuse(at, out, &self.course, status) {
             Said::Whole => {
                 self.course.done(Event::Refused);
                 Step::On

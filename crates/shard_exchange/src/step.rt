@@ -47,7 +47,7 @@ impl<H: Holder> Exchange<H> {
             (IsGivenBack (H.puts self.old.holdings out.old out.new at.now) (H.gives_up self.old.holdings out.old out.new at.now) (H.has_line self.old.holdings)
             self.old.course)
             (IsHungUp (H.lays self.old.holdings out.old out.new at.now) (H.closes self.old.holdings out.old out.new at.now) self.old.course)
-            (H.user_past self.old.holdings) (H.user_past self.new.holdings) (H.hand self.old.holdings) (H.hand self.new.holdings) (H.is_late out.old at.now)
+            (H.has_page out.old at.now) (H.user_past self.old.holdings) (H.user_past self.new.holdings) (H.hand self.old.holdings) (H.hand self.new.holdings) (H.is_late out.old at.now)
             self.old.course self.new.course (due_of self.old.course) }
         ensures stops { task ≡ Task.Halt → is_closing self.old.course.phase ≡ false → Halts self.old.course self.new.course (H.has_begun self.old.holdings) }
         ensures alone { task ≡ Task.Halt → moves self.old.course ≡ true → H.answered self.old.holdings ≡ true → is_refusing self.new.course.phase ≡ false }
@@ -93,7 +93,7 @@ impl<H: Holder> Exchange<H> {
             (IsGivenBack (H.puts self.old.holdings out.old out.new at.now) (H.gives_up self.old.holdings out.old out.new at.now) (H.has_line self.old.holdings)
             self.old.course)
             (IsHungUp (H.lays self.old.holdings out.old out.new at.now) (H.closes self.old.holdings out.old out.new at.now) self.old.course)
-            (H.user_past self.old.holdings) (H.user_past self.new.holdings) (H.hand self.old.holdings) (H.hand self.new.holdings) (H.is_late out.old at.now)
+            (H.has_page out.old at.now) (H.user_past self.old.holdings) (H.user_past self.new.holdings) (H.hand self.old.holdings) (H.hand self.new.holdings) (H.is_late out.old at.now)
             self.old.course self.new.course (due_of self.old.course) }
     {
         let step = self.do_due(rt, at, out);
@@ -129,7 +129,7 @@ impl<H: Holder> Exchange<H> {
             (IsGivenBack (H.puts self.old.holdings out.old out.new at.now) (H.gives_up self.old.holdings out.old out.new at.now) (H.has_line self.old.holdings)
             self.old.course)
             (IsHungUp (H.lays self.old.holdings out.old out.new at.now) (H.closes self.old.holdings out.old out.new at.now) self.old.course)
-            (H.user_past self.old.holdings) (H.user_past self.new.holdings) (H.hand self.old.holdings) (H.hand self.new.holdings) (H.is_late out.old at.now)
+            (H.has_page out.old at.now) (H.user_past self.old.holdings) (H.user_past self.new.holdings) (H.hand self.old.holdings) (H.hand self.new.holdings) (H.is_late out.old at.now)
             self.old.course self.new.course (due_of self.old.course) }
     {
         match self.course.due() {

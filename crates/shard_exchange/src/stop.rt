@@ -152,7 +152,7 @@ impl<H: Holder> Exchange<H> {
         ensures over { result ≡ Said.Whole → is_over self.new.course ≡ true }
         ensures broken { result ≡ Said.Broken → is_over self.new.course ≡ true }
     {
-        let said = self.holdings.refuse(&self.course, status);
+        let said = self.holdings.refuse(at, out, &self.course, status);
         if matches!(said, Said::Whole | Said::Broken) {
             self.course.done(Event::Tried);
             self.holdings.close(at, &self.course);

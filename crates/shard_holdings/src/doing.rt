@@ -20,7 +20,8 @@ use exchange_core::{Course, Dialing, Exchange};
 use icap_head::IcapResponse;
 use service_lines::LendFault;
 use shard_effects::{
-    Effects, End, EndedBy, Lingered, Marks, Reason, Report, Round, Started, Unplanned, Withdrawal,
+    Effects, End, EndedBy, Lingered, Marks, Reason, Report, Round, Said, Started, Unplanned,
+    Withdrawal,
 };
 use shard_message::{
     Accounted, Connection, Moves, Moving, Settled, begin_anew, dial_for, has_given_none, is_fresh,
@@ -28,7 +29,8 @@ use shard_message::{
 };
 use shard_outside::{
     Dialed, LastingOrigin, Outside, Reusable, begin_asking, clear, finish_user, is_reusable, keep,
-    keep_plan, lay, leave_queue, linger_on, note_refused, note_stopped, put_in, take_out,
+    keep_plan, lay, lay_page, leave_queue, linger_on, note_refused, note_stopped, put_in,
+    refusal_by, say_to, take_out,
 };
 use span_bank::Pages;
 use std::sync::Wait;
@@ -94,6 +96,8 @@ impl<P, O: Outside<P>> Effects<P> for Holdings<O> {
     ghost puts = { λ held old new at. IfSome held.connection (λ leased. IfSome leased.wire (λ wire. O.puts old new at wire leased.lease)) };
 
     ghost has_line = { λ held. is_some (line_in (λ leased. leased.wire) held.connection) };
+
+    ghost has_page = { λ out at status page. O.has_page out at status page };
 
     ghost gives_up = { λ held old new at. IfSome held.connection (λ leased. O.gives_up old new at leased.lease) };
 
@@ -291,6 +295,12 @@ impl<P, O: Outside<P>> Effects<P> for Holdings<O> {
     fn release<R: Wait>(&mut self, rt: &R, _at: &P, out: &mut O) {
         let room = take_out(&mut self.room);
         out.bank().close(rt, room.into_stake(), Pages::none());
+    }
+
+    fn refuse(&mut self, at: &P, out: &mut O, _course: &Exchange, status: u16) -> Said {
+        lay_page(at, out, status, self.refused, &mut self.page);
+        let text = refusal_by(status, &self.page);
+        say_to(&mut self.user, text, &mut self.refused)
     }
 
     fn close(&mut self, _at: &P, _course: &Exchange) {

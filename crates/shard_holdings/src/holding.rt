@@ -1,10 +1,10 @@
 //! What is done over what is held alone.
 
-ghost use Rattle.std.specs.Prelude.{◌≡◌, ◌++◌, ℕ, List, is_some, true, false, None, Some, IfSome, ⊤};
+ghost use Rattle.std.specs.Prelude.{◌≡◌, ◌++◌, ℕ, List, is_some, option_map, true, false, None, Some, IfSome, ⊤};
 ghost use Rattle.proxy_rules.specs.Arrivals.{Came};
 ghost use Rattle.shard_message.specs.Ended.{HasGiven, HasGivenSince, IsBarred};
 ghost use Rattle.shard_message.specs.Outset.{BeginsClean, Outset};
-ghost use Rattle.shard_effects.specs.Hand.{hand_of};
+ghost use Rattle.shard_effects.specs.Hand.{hand_of, refused_of};
 ghost use Rattle.shard_effects.specs.Saying.{past_of};
 ghost use Rattle.shard_outside.specs.Usable.{usable_by};
 ghost use Rattle.shard_holdings.specs.Freed.{IsFreed};
@@ -14,14 +14,14 @@ ghost use Rattle.shard_holdings.specs.Settled.{WithdrawsAs};
 use crate::holdings::Holdings;
 use adapt_turn::FreedConnection;
 use exchange_core::Exchange;
-use http_side::{HttpFault, own_refusal};
+use http_side::HttpFault;
 use proxy_rules::interim_continue;
 use shard_effects::{HeadTurn, Holder, InHand, OptionsTurn, Said};
 use shard_message::{Accounted, Moving, OnItsWay, hear_on, lay_wire};
 use shard_outside::{Kinds, clear, fault_of, say_to, turn_on};
 
 impl<O: Kinds> InHand for Holdings<O> {
-    ghost hand = { λ held. hand_of (is_some held.connection) (is_some held.room) (is_some held.origin) (is_some held.tx) held.told held.refused };
+    ghost hand = { λ held. hand_of (is_some held.connection) (is_some held.room) (is_some held.origin) (is_some held.tx) held.told (refused_of (option_map (λ text. text.items) held.page) held.refused) };
 }
 
 impl<O: Kinds> Holder for Holdings<O> {
@@ -109,10 +109,6 @@ impl<O: Kinds> Holder for Holdings<O> {
 
     fn tell(&mut self, _course: &Exchange) -> Said {
         say_to(&mut self.user, interim_continue(), &mut self.told)
-    }
-
-    fn refuse(&mut self, _course: &Exchange, status: u16) -> Said {
-        say_to(&mut self.user, own_refusal(status), &mut self.refused)
     }
 
     ghost finished = { λ held. held.is_finished };

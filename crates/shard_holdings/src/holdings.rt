@@ -28,6 +28,8 @@ pub struct Holdings<O: Kinds> {
     pub(crate) told: usize,
     /// How many bytes went out of the refusal.
     pub(crate) refused: usize,
+    /// The refusal with a page, where one was laid.
+    pub(crate) page: Option<Vec<u8>>,
     /// Whether the user was told that nothing more comes.
     pub(crate) is_finished: bool,
     /// The leased connection of the service.
@@ -58,7 +60,7 @@ impl<O: Kinds> Holdings<O> {
     /// The user's connection, and the message whose head is to be read.
     pub fn new(user: O::User, message: Option<Box<Incoming>>) -> Holdings<O>
         ensures none { (result.connection ≡ None) × (result.room ≡ None) × (result.origin ≡ None) × (result.tx ≡ None) }
-        ensures silent { (result.told ≡ 0) × (result.refused ≡ 0) }
+        ensures silent { (result.told ≡ 0) × (result.refused ≡ 0) × (result.page ≡ None) }
     {
         Holdings {
             user: Some(user),
@@ -67,6 +69,7 @@ impl<O: Kinds> Holdings<O> {
             asking: None,
             told: 0,
             refused: 0,
+            page: None,
             is_finished: false,
             connection: None,
             room: None,
@@ -96,6 +99,7 @@ impl<O: Kinds> Holdings<O> {
             asking: _,
             told: _,
             refused: _,
+            page: _,
             is_finished: _,
             connection,
             room,
@@ -114,7 +118,7 @@ impl<O: Kinds> Holdings<O> {
         requires { (is_some self.old.room ≡ false) × (is_some self.old.tx ≡ false) }
         ensures leased { is_some self.new.connection ≡ is_some self.old.connection }
         ensures back { (is_some self.new.room ≡ true) × (self.new.origin ≡ Some remains.connections.origin) × (self.new.tx ≡ None) }
-        ensures said { (self.new.told ≡ self.old.told) × (self.new.refused ≡ self.old.refused) }
+        ensures said { (self.new.told ≡ self.old.told) × (self.new.refused ≡ self.old.refused) × (self.new.page ≡ self.old.page) }
         ensures message { self.new.message ≡ self.old.message }
     {
         let Remains { room, connections } = remains;
@@ -139,6 +143,7 @@ impl<O: Kinds> Holdings<O> {
             asking: _,
             told: _,
             refused: _,
+            page: _,
             is_finished: _,
             connection,
             room,

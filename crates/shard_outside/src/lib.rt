@@ -24,6 +24,6 @@ pub use outside::{
 pub use planning::{Planned, keep_plan, service_of};
 pub use refusal_causes::refusal_cause_after;
 pub use reusable::Reusable;
-pub use saying::say_to;
+pub use saying::{lay_page, refusal_by, say_to};
 pub use slots::{clear, lay, put_in, take_out};
 pub use users::{finish_user, leave_queue, linger_on, note_refused, note_stopped};

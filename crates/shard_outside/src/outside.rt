@@ -1,6 +1,8 @@
 //! What an exchange asks of its surroundings: connections, the budget, the clock, and what is noted of it.
 
-ghost use Rattle.std.specs.Prelude.{◌≡◌, ◌⊎◌, ℕ, Bool, Option as AnyOption, IfOk, IfErr, true, false, ⊤};
+ghost use Rattle.std.specs.Prelude.{◌≡◌, ◌⊎◌, ℕ, Bool, List, Option as AnyOption, IfOk, IfErr, IfSome, IsTrue, true, false, ⊤};
+ghost use Rattle.exchange_report.specs.Pages.{IsPageRefusal};
+ghost use Rattle.http_side.specs.Refusals.{is_own_status};
 ghost use Rattle.options_book.specs.Options.{Options as AnyOptions};
 ghost use Rattle.plan_rules.specs.declared.limits.Limits.{Limits as AnyLimits};
 ghost use Rattle.proxy_config.specs.declared.config.Config.{Config as AnyConfig};
@@ -259,6 +261,9 @@ pub trait UserEnd: Kinds {
 
 /// What is noted of an exchange.
 pub trait Noting<P>: Kinds {
+    // refusals of this status have this page, where the surroundings say what pages they have
+    ghost has_page: { Self → P → (status : ℕ) → List ℕ → Type 0 } = { λ _ _ _ _. ⊤ };
+
     /// The head of a request was read.
     fn note_request(&mut self, at: &P, request: &Incoming);
 
@@ -283,6 +288,12 @@ pub trait Noting<P>: Kinds {
         message: Option<&Incoming>,
         reason: Reason,
     );
+
+    /// The refusal of this status that goes out, with its page: what is noted of it stands in the page. `None` where refusals of this
+    /// status have no page, or no memory was found.
+    fn refusal_page(&mut self, at: &P, status: u16) -> Option<Vec<u8>>
+        requires { IsTrue (is_own_status status) }
+        ensures { IfSome result (λ text. (page : List ℕ) × has_page self.old at.now status page × IsPageRefusal status page text.items) };
 
     /// The transaction of a message is over.
     fn note_end(&mut self, at: &P, user: &Self::User, end: MessageEnd<'_>);

@@ -1,13 +1,13 @@
 //! What is noted of an exchange while it goes on: what its line in the log says, and what is counted.
 
-ghost use Rattle.std.specs.Prelude.{◌≡◌, ◌↔◌, ◌<◌, ◌-◌, None, Some, IsSome, IsTrue};
-ghost use Rattle.exchange_report.specs.declared.why.Why.{Why};
-ghost use Rattle.exchange_report.specs.declared.why.Why.TheVariants.{UserGone};
-ghost use Rattle.shard_report.specs.Notes.{IsOpen};
+ghost use Rattle.std.specs.Prelude.{◌≡◌, ◌↔◌, ◌<◌, ◌-◌, IfNone, IfSome, IsSome, IsSomeAnd, IsTrue, slice_get};
+ghost use Rattle.http_side.specs.Refusals.{is_own_status};
+ghost use Rattle.shard_report.specs.Notes.{IsOpen, SaysPage, noted_why};
 
 use adapt_bytes::front;
 use exchange_report::{
     Address, Destination, Entry, MAX_FOUND, MAX_KIND, MAX_METHOD, MAX_TARGET, Reason, Verdict, Why,
+    page_refusal,
 };
 use std::alloc::{AllocError, Global};
 use std::net::SocketAddrV4;
@@ -42,6 +42,10 @@ pub struct Note {
     pub why: Option<Why>,
     /// Why a service can't serve, where that was found.
     pub blamed: Option<Reason>,
+    /// Whether it is a HEAD request.
+    pub is_head: bool,
+    /// The number in the page of its refusal, where that has a page.
+    pub page: Option<u64>,
 }
 
 /// Texts from outside: the method, the target and the answer's media type, one after another; and what a service found.
@@ -93,6 +97,8 @@ fn blank() -> Note {
         respmod: Verdict::none(),
         why: None,
         blamed: None,
+        is_head: false,
+        page: None,
     }
 }
 
@@ -210,6 +216,7 @@ impl Notes {
             note.read = read;
             note.begun = moment;
             note.taken = taken;
+            note.is_head = method == b"HEAD".as_slice();
         }
         if let Some(words) = self.words.get_mut(key) {
             words.begin(method, target);
@@ -278,8 +285,38 @@ impl Notes {
         Some(*note)
     }
 
-    /// What the log says of an exchange that ended at this moment, when so many bytes had gone to the user.
-    pub fn entry(&self, key: usize, note: &Note, ended: u64, sent: u64) -> Entry<'_> {
+    /// The refusal of this status, with this page. It says the reason that is noted of the exchange, and this number, which is noted too.
+    /// `None` where no memory was found, or no refusal is noted: then nothing has changed.
+    pub fn refuse_with(
+        &mut self,
+        alloc: Global,
+        key: usize,
+        status: u16,
+        page: &[u8],
+        number: u64,
+    ) -> Option<Vec<u8>>
+        requires { IsTrue (is_own_status status) }
+        ensures says { IfSome result (λ text. IsSomeAnd (slice_get self.new.notes.items key) (λ note. SaysPage status page.now number note text.items)) }
+        ensures none { IfNone result (self.new ≡ self.old) }
+    {
+        let note = self.notes.get(key)?;
+        if !note.refused {
+            return None;
+        }
+        let (why, is_head) = (why_of(note), note.is_head);
+        let Ok(text) = page_refusal(alloc, status, page, why, number, is_head) else {
+            return None;
+        };
+        let note = self.notes.get_mut(key)?;
+        note.page = Some(number);
+        Some(text)
+    }
+
+    /// What the log says of an exchange that ended at this moment, when so many bytes had gone to the user: among it the reason and the
+    /// number that are noted.
+    pub fn entry(&self, key: usize, note: &Note, ended: u64, sent: u64) -> Entry<'_>
+        ensures { (result.why ≡ noted_why note.now) × (result.refusal ≡ note.now.page) }
+    {
         let nothing: &[u8] = b"";
         let ((method, target, kind), found) = match self.words.get(key) {
             Some(words) => (words.all(), words.found.as_slice()),
@@ -301,6 +338,7 @@ impl Notes {
             why: why_of(note),
             found,
             received: note.received,
+            refusal: note.page,
         }
     }
 }
@@ -334,8 +372,7 @@ pub fn status_of(note: &Note) -> u16
 
 /// Why an exchange ended as it did.
 pub fn why_of(note: &Note) -> Why
-    ensures known { (why : Why) → note.now.why ≡ Some why → result ≡ why }
-    ensures gone { note.now.why ≡ None → result ≡ UserGone }
+    ensures { result ≡ noted_why note.now }
 {
     note.why.unwrap_or(Why::UserGone)
 }

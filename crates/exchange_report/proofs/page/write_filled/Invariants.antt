@@ -1,0 +1,9 @@
+use Rattle.std.proofs.Common.{◌≡◌, ◌++◌, length}
+use Rattle.exchange_report.specs.Pages.{filled}
+use Rattle.exchange_report.proofs.page.write_filled.Given as goal
+
+abbrev pub invariant-loop-rest : goal.invariant-loop-rest
+invariant-loop-rest l = l.out.items ++ filled l.word l.number l.rest ≡ l.initial.out.items ++ filled l.word l.number l.page
+
+abbrev pub decreases-loop-rest : goal.decreases-loop-rest
+decreases-loop-rest l = length l.rest
