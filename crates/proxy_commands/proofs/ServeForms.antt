@@ -9,7 +9,7 @@ use Rattle.proxy_config.specs.declared.fault.ConfigFault.TheVariants.{Text as No
 use Rattle.adapt_bytes.specs.declared.limits.TheConstants.{MAX_INPUT}
 use Rattle.proxy_commands.specs.declared.error.Error.TheVariants.{Usage, ReadFailed, WriteFailed, InputTooLong, Line, NoMemory}
 use Rattle.proxy_commands.specs.declared.serve_error.ServeError.{ServeError}
-use Rattle.proxy_commands.specs.declared.serve_error.ServeError.TheVariants.{Ended, Config, Key, CannotListen, CannotListenOn, NoAnswer, AuditMissing}
+use Rattle.proxy_commands.specs.declared.serve_error.ServeError.TheVariants.{Ended, Config, Key, KeyLine, CannotListen, CannotListenOn, NoAnswer, AuditMissing}
 use Rattle.proxy_commands.specs.Serve.{IsConfigured, IsRefusedAs, IsUnconfigured}
 use Rattle.proxy_commands.proofs.Runs.{whole, more}
 
@@ -49,6 +49,7 @@ refused bytes input Config read h =
     subst (λ (x : List ℕ). (length x ≤ MAX_INPUT) × Refuses x NoDocument) (sym (whole bytes input read h.0)) h
 refused bytes input (Key key) read h =
     subst (λ (x : List ℕ). (length x ≤ MAX_INPUT) × Refuses x (AtKey key)) (sym (whole bytes input read h.0)) h
+refused bytes input (KeyLine key number) read h = absurd h
 refused bytes input CannotListen read h = absurd h
 refused bytes input (CannotListenOn address) read h = absurd h
 refused bytes input NoAnswer read h = absurd h

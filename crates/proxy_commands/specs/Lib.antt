@@ -14,3 +14,4 @@ pub mod Descriptors
 pub mod Endings
 pub mod Telling
 pub mod Memory
+pub mod Whole

@@ -1,5 +1,5 @@
 -- The commands of the proxy itself.
-use Rattle.std.specs.Prelude.{◌≡◌, ℕ, List, [], ◌∷◌, codes}
+use Rattle.std.specs.Prelude.{◌≡◌, ◌≢◌, ◌⊎◌, ℕ, List, [], ◌∷◌, codes, bytes_eq, if◌then◌else◌, Option, Some, None}
 use Rattle.proxy_commands.specs.declared.task.Task.{Task}
 use Rattle.proxy_commands.specs.declared.task.Task.TheVariants.{Serve, Check, Tell, Probe, Help, Version}
 
@@ -18,9 +18,28 @@ IsTaskBefore word Tell = word ≡ codes "tell"
 IsTaskBefore word Probe = word ≡ codes "probe"
 IsTaskBefore word _ = ⊥
 
--- the arguments are `tell` and one word or more
+-- the word is that of a task that may stand before `--config` and a path alone
+abbrev pub IsTaskWithPath : List ℕ → Task → Type 0
+IsTaskWithPath word Serve = word ≡ codes "serve"
+IsTaskWithPath word Check = word ≡ codes "check"
+IsTaskWithPath word Probe = word ≡ codes "probe"
+IsTaskWithPath word _ = ⊥
+
+-- the word is that of a task before two words, of which this is the first
+abbrev pub IsTaskOfThree : List ℕ → List ℕ → Task → Type 0
+IsTaskOfThree word option task = ((option ≡ codes "--config") × IsTaskWithPath word task) ⊎ ((option ≢ codes "--config") × IsTaskBefore word task)
+
+-- the arguments are a word, `--config` and a path
+abbrev pub HasPathAlone : List (List ℕ) → List ℕ → Type 0
+HasPathAlone words word = (path : List ℕ) × (words ≡ word ∷ codes "--config" ∷ path ∷ [])
+
+-- the arguments are a word, which stands alone or before `--config` and a path
+abbrev pub IsAlone : List (List ℕ) → List ℕ → Type 0
+IsAlone words word = (words ≡ word ∷ []) ⊎ HasPathAlone words word
+
+-- the arguments are `tell` and one word or more, beside `--config` and a path
 abbrev pub IsTelling : List (List ℕ) → Type 0
-IsTelling words = (first : List ℕ) × (rest : List (List ℕ)) × (words ≡ codes "tell" ∷ first ∷ rest)
+IsTelling words = (first : List ℕ) × (rest : List (List ℕ)) × (words ≡ codes "tell" ∷ first ∷ rest) × (HasPathAlone words (codes "tell") → ⊥)
 
 -- the arguments are `probe`, and its choice
 abbrev pub IsProbing : List (List ℕ) → Type 0
@@ -30,7 +49,19 @@ IsProbing words = (choice : List (List ℕ)) × (words ≡ codes "probe" ∷ cho
 abbrev pub IsTask : List (List ℕ) → Task → Type 0
 IsTask words Tell = IsTelling words
 IsTask words Probe = IsProbing words
-IsTask words Serve = (word : List ℕ) × (words ≡ word ∷ []) × IsTaskAlone word Serve
-IsTask words Check = (word : List ℕ) × (words ≡ word ∷ []) × IsTaskAlone word Check
+IsTask words Serve = IsAlone words (codes "serve")
+IsTask words Check = IsAlone words (codes "check")
 IsTask words Help = (word : List ℕ) × (words ≡ word ∷ []) × IsTaskAlone word Help
 IsTask words Version = (word : List ℕ) × (words ≡ word ∷ []) × IsTaskAlone word Version
+
+-- the path of the configuration that the arguments give
+abbrev pub config_path : List (List ℕ) → Option (List ℕ)
+config_path (task ∷ option ∷ path ∷ rest) = if bytes_eq option (codes "--config") then Some path else None
+config_path _ = None
+
+-- the words after a task, and after `--config` and its path
+abbrev pub words_after : List (List ℕ) → List (List ℕ)
+words_after [] = []
+words_after (task ∷ []) = []
+words_after (task ∷ word ∷ []) = word ∷ []
+words_after (task ∷ option ∷ path ∷ rest) = if bytes_eq option (codes "--config") then rest else option ∷ path ∷ rest

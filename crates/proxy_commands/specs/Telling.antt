@@ -1,5 +1,5 @@
 -- What is said to the administrator's port, and what its answer means.
-use Rattle.std.specs.Prelude.{ℕ, List, ◌++◌, Bool, if◌then◌else◌, String, codes, nat_eq, string_bytes, bytes_eq}
+use Rattle.std.specs.Prelude.{ℕ, List, ◌++◌, Bool, ◌||◌, if◌then◌else◌, String, codes, nat_eq, string_bytes, bytes_eq}
 use Rattle.std.specs.List.{starts_with, ends_with, join_by}
 use Rattle.std.specs.declared.alloc.Global.{Global}
 
@@ -11,11 +11,17 @@ line_of_words words = join_by string_bytes (codes " ") words ++ codes "\n"
 abbrev pub is_whole : List ℕ → Bool
 is_whole answer = if starts_with nat_eq answer (codes "#") then ends_with nat_eq answer (codes "\n# EOF\n") else ends_with nat_eq answer (codes "\n")
 
+-- the answer refuses a line, or its memory or file
+abbrev pub is_refused : List ℕ → Bool
+is_refused answer =
+    starts_with nat_eq answer (codes "refused ") || (bytes_eq answer (codes "out of memory\n") || bytes_eq answer (codes "cannot open\n"))
+
+-- the answer refuses a new configuration
+abbrev pub is_kept : List ℕ → Bool
+is_kept answer =
+    starts_with nat_eq answer (codes "bad line ")
+    || (starts_with nat_eq answer (codes "restart ") || (starts_with nat_eq answer (codes "config") || starts_with nat_eq answer (codes "input too long")))
+
 -- the status that an answer gives: 2 where the line is none that the port takes, 1 where nothing was done, else 0
 abbrev pub told_status : List ℕ → ℕ
-told_status answer =
-    if bytes_eq answer (codes "bad\n") then 2
-    else if starts_with nat_eq answer (codes "refused ") then 1
-    else if bytes_eq answer (codes "out of memory\n") then 1
-    else if bytes_eq answer (codes "cannot open\n") then 1
-    else 0
+told_status answer = if bytes_eq answer (codes "bad\n") then 2 else if is_refused answer then 1 else if is_kept answer then 1 else 0

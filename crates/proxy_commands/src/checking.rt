@@ -3,13 +3,14 @@
 use crate::descriptors::{descriptors, limit_in};
 use crate::keys::value_of_key;
 use crate::memory::{memory, memory_in};
-use crate::run::read_input;
-use crate::serve::{configuration_of, say};
+use crate::serve::say;
 use crate::serve_error::{ServeError, put_error};
-use proxy_config::Config;
+use crate::source::{Source, read_source};
+use crate::whole::read_whole;
+use proxy_config::{Config, OWN_STATUSES};
 use std::alloc::Global;
 use std::fs;
-use std::io::{self, Read, Write};
+use std::io::{self, Write};
 use std::net::Ipv4Addr;
 use std::rt::Files;
 
@@ -102,6 +103,23 @@ fn warn_of_users<E: Write>(config: &Config, errors: &mut E) -> io::Result<()> {
     )
 }
 
+/// Warns where there is no page of a refusal in the folder of pages.
+fn warn_of_pages<E: Write>(config: &Config, errors: &mut E) -> io::Result<()> {
+    let Some(folder) = &config.refusal_pages else {
+        return Ok(());
+    };
+    for status in OWN_STATUSES {
+        if config.pages.of(status).is_some() {
+            return Ok(());
+        }
+    }
+    let folder = folder.as_str();
+    writeln!(
+        errors,
+        "adaptproxy: refusal_pages: no page is in {folder:?}"
+    )
+}
+
 /// Says what is at fault: where a text is no document, and what the value of a key may be.
 fn explain<E: Write>(
     alloc: Global,
@@ -115,7 +133,7 @@ fn explain<E: Write>(
             Ok(_) => Ok(()),
             Err(fault) => write!(errors, "adaptproxy: {fault}"),
         },
-        ServeError::Key(key) => {
+        ServeError::Key(key) | ServeError::KeyLine(key, _) => {
             let key = key.as_str();
             let value = value_of_key(key);
             writeln!(errors, "adaptproxy: {key}: {value}")
@@ -125,44 +143,40 @@ fn explain<E: Write>(
 }
 
 /// Judges a text, says that it is a configuration, and warns of what may be meant otherwise.
-fn judge<O: Write, E: Write>(
+fn judge<O: Write, E: Write, R: Files>(
+    rt: &R,
     alloc: Global,
     text: &[u8],
     output: &mut O,
     errors: &mut E,
     machine: Machine<'_>,
 ) -> Result<(), ServeError> {
-    let config = configuration_of(alloc, text)?;
+    let config = read_whole(rt, alloc, text)?;
     // A warning that can't be written changes nothing.
     let _ = warn_of_needs(&config, machine, errors);
     let _ = warn_of_users(&config, errors);
     let _ = warn_of_hosts(alloc, text, errors);
+    let _ = warn_of_pages(&config, errors);
     say(output, b"ok\n")
 }
 
-/// Reads a configuration, and says that it is one; or why not, beginning with the line with which `serve` would end. Answers the
-/// exit status, which is that of `serve`. Warns if the configuration may need more descriptors or memory than there are, as far
-/// as the system says how many, of users who may come from
-/// everywhere, and of hosts that no request names.
-pub fn check_with<I: Read + Drop, O: Write, E: Write>(
+/// Judges the text of a configuration, with the files that it names, and says that it is one; or why not, beginning with the line
+/// with which `serve` would end. Answers the exit status, which is that of `serve`. Warns if the configuration may need more
+/// descriptors or memory than there are, as far as the system says how many, of users who may come from everywhere, of hosts that no
+/// request names, and of a folder without pages.
+pub fn check_with<O: Write, E: Write, R: Files>(
+    rt: &R,
     alloc: Global,
-    reader: I,
+    text: &[u8],
     output: &mut O,
     errors: &mut E,
     machine: Machine<'_>,
 ) -> u8 {
-    let text = match read_input(alloc, reader) {
-        Ok(text) => text,
-        Err(error) => {
-            let _ = put_error(&ServeError::Ended(error), errors);
-            return error.status();
-        }
-    };
-    match judge(alloc, &text, output, errors, machine) {
+    match judge(rt, alloc, text, output, errors, machine) {
         Ok(()) => 0,
         Err(error) => {
             // If standard error can't be written, nothing is left to report it to.
-            let _ = explain(alloc, &error, &text, errors);
+            let _ = explain(alloc, &error, text, errors);
             error.status()
         }
     }
@@ -176,19 +190,26 @@ fn text_of<R: Files + AllocGlobal>(rt: &R, path: &str) -> Vec<u8> {
     }
 }
 
-/// Checks a configuration against this machine.
-pub fn check_from<I: Read + Drop, O: Write, E: Write, R: Files + AllocGlobal>(
+/// Checks the configuration of a source against this machine.
+pub fn check_from<O: Write, E: Write, R: Files + AllocGlobal>(
     rt: &R,
-    reader: I,
+    source: &Source,
     output: &mut O,
     errors: &mut E,
 ) -> u8 {
+    let text = match read_source(rt, rt.alloc(), source) {
+        Ok(text) => text,
+        Err(error) => {
+            let _ = put_error(&error, errors);
+            return error.status();
+        }
+    };
     let (limits, memory) = (text_of(rt, LIMITS), text_of(rt, MEMORY));
     let machine = Machine {
         limits: &limits,
         memory: &memory,
     };
-    check_with(rt.alloc(), reader, output, errors, machine)
+    check_with(rt, rt.alloc(), &text, output, errors, machine)
 }
 
 /// Whether the machine has the memory for a configuration's pages, as far as it says how much it has.

@@ -58,7 +58,7 @@ impl Error {
 }
 
 /// Adds bytes to a short text that has room for them.
-fn put(bytes: &[u8], text: &mut Small)
+pub fn put(bytes: &[u8], text: &mut Small)
     requires { array_vec_len text.old + length bytes.now ≤ MAX_SMALL }
     ensures items { text.new.items ≡ text.old.items ++ bytes.now }
     ensures len { array_vec_len text.new ≡ array_vec_len text.old + length bytes.now }

@@ -4,7 +4,7 @@
 type Entry = (&'static str, &'static str);
 
 /// The keys of the document.
-const OF_THE_DOCUMENT: [Entry; 34] = [
+const OF_THE_DOCUMENT: [Entry; 36] = [
     (
         "listen",
         "an IPv4 address and a port, as \"127.0.0.1:3128\"",
@@ -50,6 +50,10 @@ const OF_THE_DOCUMENT: [Entry; 34] = [
         "at most eight names of ICAP fields, each once, as [\"X-ICAP-E2G\"] (default none)",
     ),
     ("proxy_protocol", "true or false (default false)"),
+    (
+        "hosts_file",
+        "the path of a file that can be opened, of 1 to 4096 bytes, in which each line has an IPv4 address and names, at most 67108864 bytes in all (default: none)",
+    ),
     ("keep_origins", "0 to 1024 connections (default 0: none)"),
     ("origin_idle", "1 to 3600 seconds (default 30)"),
     ("dial", "\"first\" or \"late\" (default \"first\")"),
@@ -68,6 +72,10 @@ const OF_THE_DOCUMENT: [Entry; 34] = [
         "0 to 1024 failures (default 0: no pause)",
     ),
     ("service_pause", "1 to 3600 seconds (default 30)"),
+    (
+        "refusal_pages",
+        "the path of a folder, of 1 to 4096 bytes, whose pages can be opened, each of at most 16384 bytes (default: plain texts)",
+    ),
     (
         "hosts",
         "a table of host names, each with an IPv4 address and a port",

@@ -14,7 +14,7 @@ use std::alloc::Global;
 use std::io::{self, ErrorKind, Read, Write};
 
 /// The error that a failed read ends the program with: want of memory, or a failed read.
-fn read_error(error: &io::Error) -> Error
+pub fn read_error(error: &io::Error) -> Error
     ensures { (result ≡ Error.NoMemory) ⊎ (result ≡ Error.ReadFailed) }
 {
     if error.kind() == ErrorKind::OutOfMemory {

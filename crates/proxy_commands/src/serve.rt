@@ -1,4 +1,4 @@
-//! What `adaptproxy serve` reads from standard input, and how it prints a line.
+//! What `adaptproxy serve` reads, and how it prints a line.
 
 ghost use Rattle.std.specs.Prelude.{◌≡◌, IfOk, IfErr, IfSome};
 ghost use Rattle.proxy_commands.specs.Serve.{IsRefusedAs, IsConfigured, IsUnconfigured};
@@ -23,7 +23,7 @@ fn refused_as(fault: ConfigFault) -> ServeError
 }
 
 /// The configuration that a text says.
-pub(crate) fn configuration_of(alloc: Global, text: &[u8]) -> Result<Config, ServeError>
+pub fn configuration_of(alloc: Global, text: &[u8]) -> Result<Config, ServeError>
     ensures ok { IfOk result (IsConfigured text.now) }
     ensures err { IfErr result (IsUnconfigured text.now) }
 {

@@ -2,9 +2,10 @@
 
 ghost use Rattle.std.specs.Prelude.{◌≡◌, OnOk};
 ghost use Rattle.std.specs.Io.KnownBytes.{Appends};
-ghost use Rattle.proxy_commands.specs.ServeErrors.{serve_error_text, serve_status_of};
+ghost use Rattle.proxy_commands.specs.ServeErrors.{line_end, serve_error_text, serve_status_of};
 
-use crate::error::Error;
+use crate::error::{Error, put};
+use adapt_bytes::{Small, put_decimal};
 use std::io::{self, Write};
 
 /// Why `serve` ends though nobody stopped it, or without its audit, and why `check` and `tell` fail: its line on standard error, and its exit status.
@@ -16,6 +17,8 @@ pub enum ServeError {
     Config,
     /// This key of the configuration is missing, unknown, of another kind or out of its range.
     Key(String),
+    /// In the file of this key this line, counted from 1, is the first that can't be read.
+    KeyLine(String, u64),
     /// The system gives no poll, or fails a loop that listens.
     CannotListen,
     /// This address, an IPv4 address and its port as text, can't be listened on.
@@ -33,13 +36,24 @@ impl ServeError {
     {
         match self {
             ServeError::Ended(error) => error.status(),
-            ServeError::Config | ServeError::Key(_) => 2,
+            ServeError::Config | ServeError::Key(_) | ServeError::KeyLine(..) => 2,
             ServeError::CannotListen
             | ServeError::CannotListenOn(_)
             | ServeError::NoAnswer
             | ServeError::AuditMissing => 1,
         }
     }
+}
+
+/// The end of a line that names another one: ` line `, the number and LF.
+fn line_end(number: u64) -> Small
+    ensures { result.items ≡ line_end number }
+{
+    let mut text = Small::new();
+    put(b" line ", &mut text);
+    put_decimal(number, &mut text);
+    put(b"\n", &mut text);
+    text
 }
 
 /// Writes the line for standard error: `adaptproxy: `, the reason and LF.
@@ -53,6 +67,11 @@ pub fn put_error<W: Write>(error: &ServeError, errors: &mut W) -> io::Result<()>
             errors.write_all(b"adaptproxy: config ")?;
             errors.write_all(key.as_bytes())?;
             errors.write_all(b"\n")
+        }
+        ServeError::KeyLine(key, number) => {
+            errors.write_all(b"adaptproxy: config ")?;
+            errors.write_all(key.as_bytes())?;
+            errors.write_all(line_end(*number).as_slice())
         }
         ServeError::CannotListen => errors.write_all(b"adaptproxy: cannot listen\n"),
         ServeError::CannotListenOn(address) => {

@@ -1,7 +1,7 @@
 //! `adaptproxy tell`: a line for the administrator's port, and what its answer means.
 
 ghost use Rattle.std.specs.Prelude.{◌≡◌, IfOk};
-ghost use Rattle.proxy_commands.specs.Telling.{is_whole, line_of_words, told_status};
+ghost use Rattle.proxy_commands.specs.Telling.{is_kept, is_refused, is_whole, line_of_words, told_status};
 
 use crate::error::Error;
 use crate::run::write_out;
@@ -35,16 +35,32 @@ fn is_whole(answer: &[u8]) -> bool
     }
 }
 
+/// Whether an answer refuses a line, or says that its memory or file can't be had.
+fn is_refused(answer: &[u8]) -> bool
+    ensures { result ≡ is_refused answer.now }
+{
+    answer.starts_with(b"refused ")
+        || answer == b"out of memory\n".as_slice()
+        || answer == b"cannot open\n".as_slice()
+}
+
+/// Whether an answer refuses a new configuration.
+fn is_kept(answer: &[u8]) -> bool
+    ensures { result ≡ is_kept answer.now }
+{
+    answer.starts_with(b"bad line ")
+        || answer.starts_with(b"restart ")
+        || answer.starts_with(b"config")
+        || answer.starts_with(b"input too long")
+}
+
 /// The exit status that an answer gives: 2 where the line is none that the port takes, 1 where nothing was done, else 0.
 fn told_status(answer: &[u8]) -> u8
     ensures { result ≡ told_status answer.now }
 {
     if answer == b"bad\n".as_slice() {
         2
-    } else if answer.starts_with(b"refused ")
-        || answer == b"out of memory\n".as_slice()
-        || answer == b"cannot open\n".as_slice()
-    {
+    } else if is_refused(answer) || is_kept(answer) {
         1
     } else {
         0

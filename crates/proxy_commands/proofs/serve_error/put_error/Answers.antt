@@ -1,6 +1,6 @@
-use Rattle.std.proofs.Common.{◌≡◌, ◌∙◌, ◌++◌, List, ℕ, codes, sym, ap, subst}
+use Rattle.std.proofs.Common.{◌≡◌, ◌∙◌, ◌++◌, List, ℕ, codes, sym, ap, subst, rules}
 use Rattle.std.specs.Io.KnownBytes.{Appends}
-use Rattle.proxy_commands.specs.ServeErrors.{serve_error_text}
+use Rattle.proxy_commands.specs.ServeErrors.{line_end, serve_error_text}
 use Rattle.proxy_commands.proofs.Runs.{on_ok}
 use Rattle.proxy_commands.proofs.ServeForms.{chain}
 use Rattle.proxy_commands.proofs.serve_error.put_error.Goals as goal
@@ -10,6 +10,14 @@ returns-in_ok-write_all-in-Key-2 g c =
     let text : serve_error_text c.args.error.now ≡ (codes "adaptproxy: config " ++ c.as_bytes.result.now) ++ codes "\n" =
     ap serve_error_text c.in-Key.is ∙ ap (λ (t : List ℕ). (codes "adaptproxy: config " ++ t) ++ codes "\n") (sym c.as_bytes.ensures.value) in
     on_ok _ _ c.write_all-in-Key-3.result (λ last. chain _ _ _ _ _ _ _ _ text c.in_ok-write_all-in-Key.ensures.bytes c.in_ok-write_all-in-Key-2.ensures.bytes last) c.write_all-in-Key-3.ensures.bytes
+
+pub returns-in_ok-write_all-in-KeyLine-2 : goal.returns-in_ok-write_all-in-KeyLine-2
+returns-in_ok-write_all-in-KeyLine-2 g c =
+    let end : c.as_slice-in-KeyLine.result.now ≡ line_end c.in-KeyLine.number = search rules in
+    let text : serve_error_text c.args.error.now ≡ (codes "adaptproxy: config " ++ c.as_bytes-in-KeyLine.result.now) ++ c.as_slice-in-KeyLine.result.now =
+    ap serve_error_text c.in-KeyLine.is ∙ ap (λ (t : List ℕ). (codes "adaptproxy: config " ++ t) ++ line_end c.in-KeyLine.number) (sym c.as_bytes-in-KeyLine.ensures.value)
+    ∙ ap (λ (t : List ℕ). (codes "adaptproxy: config " ++ c.as_bytes-in-KeyLine.result.now) ++ t) (sym end) in
+    on_ok _ _ c.write_all-in-KeyLine-3.result (λ last. chain _ _ _ _ _ _ _ _ text c.in_ok-write_all-in-KeyLine.ensures.bytes c.in_ok-write_all-in-KeyLine-2.ensures.bytes last) c.write_all-in-KeyLine-3.ensures.bytes
 
 pub returns-in_ok-write_all-in-CannotListenOn-2 : goal.returns-in_ok-write_all-in-CannotListenOn-2
 returns-in_ok-write_all-in-CannotListenOn-2 g c =

@@ -1,0 +1,174 @@
+//! A configuration with the files that it names: its hosts file, and the pages of its refusals.
+
+ghost use Rattle.std.specs.Prelude.{◌≡◌, IfOk, OnOk};
+ghost use Rattle.proxy_commands.specs.Whole.{IsWhole, SetsNames, SetsPages};
+ghost use Rattle.proxy_commands.specs.declared.whole.WholeFault.TheVariants.{NoMemory as NothingLeft};
+
+use crate::error::Error;
+use crate::serve::configuration_of;
+use crate::serve_error::ServeError;
+use proxy_config::{Config, HostsFault, MAX_PAGE, OWN_STATUSES, Pages};
+use std::alloc::{AllocError, Global};
+use std::fs::File;
+use std::io::{self, ErrorKind, Read};
+use std::rt::Files;
+
+/// The most bytes of a hosts file.
+const MAX_HOSTS_FILE: usize = 67_108_864;
+
+/// Why a text and the files that it names are no configuration.
+#[derive(Drop)]
+pub(crate) enum WholeFault {
+    /// The text is none.
+    Refused(ServeError),
+    /// The hosts file can't be read, or is too long.
+    Hosts,
+    /// This line of the hosts file, counted from 1, can't be read.
+    HostsLine(u64),
+    /// A page can't be read, or is too long.
+    Page,
+    /// Memory ran out.
+    NoMemory,
+}
+
+impl From<AllocError> for WholeFault {
+    ghost from_gives = { λ _ fault. fault ≡ NothingLeft };
+
+    fn from(_: AllocError) -> WholeFault {
+        WholeFault::NoMemory
+    }
+}
+
+/// The fault of a file that can't be read: the one that is given, unless memory ran out.
+fn file_fault(error: &io::Error, other: WholeFault) -> WholeFault {
+    if error.kind() == ErrorKind::OutOfMemory {
+        WholeFault::NoMemory
+    } else {
+        other
+    }
+}
+
+/// Reads the text of a hosts file.
+fn read_hosts_file<R: Files>(rt: &R, alloc: Global, path: &str) -> Result<Vec<u8>, WholeFault> {
+    let file = match File::open(rt, path) {
+        Ok(file) => file,
+        Err(error) => return Err(file_fault(&error, WholeFault::Hosts)),
+    };
+    let mut text = Vec::new(alloc);
+    match file.take(MAX_HOSTS_FILE as u64 + 1).read_to_end(&mut text) {
+        Ok(_) if text.len() <= MAX_HOSTS_FILE => Ok(text),
+        Ok(_) => Err(WholeFault::Hosts),
+        Err(error) => Err(file_fault(&error, WholeFault::Hosts)),
+    }
+}
+
+/// Reads the hosts file, where there is one, and answers how many names it has.
+fn take_hosts<R: Files>(rt: &R, alloc: Global, config: &mut Config) -> Result<u64, WholeFault>
+    ensures { OnOk result (SetsNames config.old config.new) }
+{
+    let Some(path) = &config.hosts_file else {
+        return Ok(0);
+    };
+    let text = read_hosts_file(rt, alloc, path.as_str())?;
+    match config.name_hosts(alloc, &text) {
+        Ok(count) => Ok(count),
+        Err(HostsFault::Line(number)) => Err(WholeFault::HostsLine(number)),
+        Err(HostsFault::NoMemory) => Err(WholeFault::NoMemory),
+    }
+}
+
+/// Reads the page of a status. `None` where its file isn't there.
+fn read_page<R: Files>(
+    rt: &R,
+    alloc: Global,
+    folder: &str,
+    status: u16,
+) -> Result<Option<Vec<u8>>, WholeFault> {
+    let path = format!(in alloc; "{folder}/{status}.html")?;
+    let file = match File::open(rt, path.as_str()) {
+        Ok(file) => file,
+        Err(error) if error.kind() == ErrorKind::NotFound => return Ok(None),
+        Err(error) => return Err(file_fault(&error, WholeFault::Page)),
+    };
+    let mut page = Vec::new(alloc);
+    match file.take(MAX_PAGE as u64 + 1).read_to_end(&mut page) {
+        Ok(_) if page.len() <= MAX_PAGE => Ok(Some(page)),
+        Ok(_) => Err(WholeFault::Page),
+        Err(error) => Err(file_fault(&error, WholeFault::Page)),
+    }
+}
+
+/// Reads the pages of a folder.
+fn read_pages<R: Files>(rt: &R, alloc: Global, folder: &str) -> Result<Pages, WholeFault> {
+    let mut pages = Pages::new();
+    for status in OWN_STATUSES {
+        if let Some(page) = read_page(rt, alloc, folder, status)? {
+            pages.set(status, page);
+        }
+    }
+    Ok(pages)
+}
+
+/// Reads the pages of refusals, where there are some.
+fn take_pages<R: Files>(rt: &R, alloc: Global, config: &mut Config) -> Result<(), WholeFault>
+    ensures { OnOk result (SetsPages config.old config.new) }
+{
+    let Some(folder) = &config.refusal_pages else {
+        return Ok(());
+    };
+    let pages = read_pages(rt, alloc, folder.as_str())?;
+    config.pages = pages;
+    Ok(())
+}
+
+/// The configuration that a text says, with the files that it names, and how many names its hosts file has.
+pub(crate) fn whole_of<R: Files>(
+    rt: &R,
+    alloc: Global,
+    text: &[u8],
+) -> Result<(Config, u64), WholeFault>
+    ensures { IfOk result (λ whole. IsWhole text.now whole.0) }
+{
+    let mut config = match configuration_of(alloc, text) {
+        Ok(config) => config,
+        Err(error) => return Err(WholeFault::Refused(error)),
+    };
+    let count = take_hosts(rt, alloc, &mut config)?;
+    take_pages(rt, alloc, &mut config)?;
+    Ok((config, count))
+}
+
+/// The error of a key.
+fn key_error(alloc: Global, key: &str) -> ServeError {
+    match String::from_str(alloc, key) {
+        Ok(key) => ServeError::Key(key),
+        Err(_) => ServeError::Ended(Error::NoMemory),
+    }
+}
+
+/// The error that a fault ends the program with.
+fn error_of_whole(alloc: Global, fault: WholeFault) -> ServeError {
+    match fault {
+        WholeFault::Refused(error) => error,
+        WholeFault::Hosts => key_error(alloc, "hosts_file"),
+        WholeFault::HostsLine(number) => match String::from_str(alloc, "hosts_file") {
+            Ok(key) => ServeError::KeyLine(key, number),
+            Err(_) => ServeError::Ended(Error::NoMemory),
+        },
+        WholeFault::Page => key_error(alloc, "refusal_pages"),
+        WholeFault::NoMemory => ServeError::Ended(Error::NoMemory),
+    }
+}
+
+/// The configuration that a text says, with the names of its hosts file and the pages of its refusals.
+///
+/// `KeyLine` with the first line of the hosts file that can't be read; `Key` where that file can't be, or a page can't be, or
+/// is longer than [`MAX_PAGE`]. A page that isn't there is no fault. Else as [`configuration_of`].
+pub fn read_whole<R: Files>(rt: &R, alloc: Global, text: &[u8]) -> Result<Config, ServeError>
+    ensures { IfOk result (IsWhole text.now) }
+{
+    match whole_of(rt, alloc, text) {
+        Ok((config, _)) => Ok(config),
+        Err(fault) => Err(error_of_whole(alloc, fault)),
+    }
+}
