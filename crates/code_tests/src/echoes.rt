@@ -260,7 +260,7 @@ fn make(
         room,
         loops: 2,
         admission: Admission {
-            networks: None,
+            users: None,
             most: 0,
         },
     };

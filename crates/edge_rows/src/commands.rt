@@ -8,10 +8,12 @@ mod runs;
 mod servers;
 
 use std::alloc::Global;
+use std::rt::Files;
 use test_rows::{NoMemory, Row};
 
 /// Adds the answer to a row of these calls; nothing for another one.
-pub fn put_answer(
+pub fn put_answer<R: Files + AllocGlobal>(
+    rt: &R,
     alloc: Global,
     call: &[u8],
     row: &Row<'_>,
@@ -20,6 +22,6 @@ pub fn put_answer(
     arguments::put_answer(alloc, call, row, out)?;
     probes::put_answer(alloc, call, row, out)?;
     runs::put_answer(alloc, call, row, out)?;
-    configurations::put_answer(alloc, call, row, out)?;
+    configurations::put_answer(rt, alloc, call, row, out)?;
     servers::put_answer(alloc, call, row, out)
 }

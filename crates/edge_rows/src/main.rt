@@ -14,6 +14,7 @@ mod stage;
 
 use std::alloc::Global;
 use std::io;
+use std::rt::Files;
 use std::sync::Wait;
 use test_rows::{Driver, NoMemory, Row, call_of, judge_files};
 use wire_rows::{Player, Scene, Values, put_runs};
@@ -31,7 +32,7 @@ impl<'r, R: Wait> Player for Edge<'r, R> {
     }
 }
 
-impl<'r, R: Wait> Driver for Edge<'r, R> {
+impl<'r, R: Wait + Files + AllocGlobal> Driver for Edge<'r, R> {
     fn put_answer(&self, head: &Row<'_>, row: &Row<'_>, out: &mut Vec<u8>) -> Result<(), NoMemory> {
         let scene = Scene {
             head: *head,
@@ -41,7 +42,7 @@ impl<'r, R: Wait> Driver for Edge<'r, R> {
         if call.is_empty() {
             return put_runs(self.alloc, self, scene, out);
         }
-        commands::put_answer(self.alloc, call, row, out)?;
+        commands::put_answer(self.rt, self.alloc, call, row, out)?;
         rules::put_answer(self.alloc, scene, out)
     }
 }

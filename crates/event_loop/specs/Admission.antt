@@ -1,5 +1,6 @@
 -- Who may connect as a user.
-use Rattle.std.specs.Prelude.{◌≡◌, ◌⊎◌, List, Option, Some, None, ⊤}
+use Rattle.std.specs.Prelude.{◌≡◌, ◌⊎◌, List, Option, Some, None, ⊤, option_map}
+use Rattle.std.specs.Arc.{arc_value}
 use Rattle.std.specs.declared.net.socket_addr.SocketAddr.{SocketAddr}
 use Rattle.std.specs.declared.net.socket_addr.SocketAddr.TheVariants.{V4, V6}
 use Rattle.std.specs.declared.net.ipv4_addr.Ipv4Addr.{Ipv4Addr}
@@ -10,6 +11,7 @@ use Rattle.loop_parts.specs.declared.listening.Accepted.TheVariants.{One, Gone, 
 use Rattle.mio.specs.declared.net.stream.TcpStream.{TcpStream}
 use Rattle.proxy_config.specs.Networks.{MayUse}
 use Rattle.proxy_config.specs.declared.network.Network.{Network}
+use Rattle.event_loop.specs.declared.live.LatestConfig.{LatestConfig}
 
 -- a user may connect from the address: by its IPv4 address; one without may where users come from everywhere
 abbrev pub MayConnect : Option (List Network) → SocketAddr → Type 0
@@ -36,3 +38,8 @@ IsLetIn networks waiting (One stream from) = (waiting ≡ Some (stream, from)) �
 IsLetIn networks waiting Gone = ⊤
 IsLetIn networks waiting NoOne = ⊤
 IsLetIn networks waiting Rest = ⊤
+
+-- the networks that users may come from by the configuration that a thread knows; None where they may come from everywhere
+abbrev pub networks_of : Option LatestConfig → Option (List Network)
+networks_of None = None
+networks_of (Some latest) = option_map (λ vec. vec.items) (arc_value latest.dated.config).users

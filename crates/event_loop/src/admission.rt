@@ -3,6 +3,7 @@
 ghost use Rattle.std.specs.Prelude.{◌≡◌, ◌↔◌, IsTrue, option_map};
 ghost use Rattle.event_loop.specs.Admission.{IsIpOf, IsJudged, MayConnect};
 
+use crate::live::LatestConfig;
 use loop_parts::{Accepted, Room};
 use proxy_config::{Network, may_use};
 use std::net::{Ipv4Addr, SocketAddr};
@@ -11,8 +12,8 @@ use std::sync::Arc;
 /// Which users are served.
 #[derive(Drop)]
 pub struct Admission {
-    /// The networks that they may come from; none where they may come from everywhere.
-    pub networks: Option<Vec<Network>>,
+    /// The configuration that says which networks they may come from; none where they may come from everywhere.
+    pub users: Option<LatestConfig>,
     /// The most connections of one address at once; 0 where there is no such limit.
     pub most: u64,
 }

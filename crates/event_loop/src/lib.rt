@@ -10,6 +10,7 @@ mod binding;
 mod ended;
 mod event;
 mod inbox;
+mod live;
 mod looping;
 mod mail;
 mod ports;
@@ -21,6 +22,7 @@ pub use admission::Admission;
 pub use binding::listen_beside;
 pub use ended::{Ended, LoopFault};
 pub use inbox::{Handed, Inbox, stop_all};
+pub use live::{DatedConfig, LatestConfig, LiveConfig};
 pub use loop_parts::{
     AdminInput, Asker, Closing, IdlePermit, Request, Room, Slots, Spared, Speech, Stay, USER,
     UserPermit, close_turn, is_young, read_request, spared_of, youth_of,

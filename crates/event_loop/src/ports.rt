@@ -1,16 +1,16 @@
 //! The users' port, of the one loop that serves it: users that connect are handed out in rotation. A loop that has no seat for one passes
 //! it on to the next.
 
-ghost use Rattle.std.specs.Prelude.{◌≡◌, ◌<◌, ◌+◌, ◌-◌, ◌%◌, ◌^◌, [], Bool, false, Some, cond, min, nat_eq, nat_lt, option_map};
-ghost use Rattle.event_loop.specs.Admission.{IsLetIn};
+ghost use Rattle.std.specs.Prelude.{◌≡◌, ◌<◌, ◌+◌, ◌-◌, ◌%◌, ◌^◌, [], Bool, false, Some, cond, min, nat_eq, nat_lt};
+ghost use Rattle.event_loop.specs.Admission.{IsLetIn, networks_of};
 ghost use Rattle.event_loop.specs.Mail.{Sends, HandsOut, asks, hands, is_own};
 
 use crate::admission::{Admission, ip_of, judged};
 use crate::inbox::Handed;
+use crate::live::LatestConfig;
 use crate::mail::Mail;
 use loop_parts::{Accepted, Addresses, Listening, Room};
 use mio::net::TcpStream;
-use proxy_config::Network;
 use std::alloc::Global;
 use std::net::SocketAddr;
 use std::sync::{Arc, Wait};
@@ -33,8 +33,8 @@ pub struct Ports {
     room: Arc<Room>,
     /// How many loops take users: the first ones.
     loops: usize,
-    /// The networks that users may come from; none where they may come from everywhere.
-    networks: Option<Vec<Network>>,
+    /// The configuration that says which networks users may come from; none where they may come from everywhere.
+    admitted: Option<LatestConfig>,
     addresses: Addresses,
     /// A user for whom there is no room yet.
     waiting: Option<(TcpStream, SocketAddr)>,
@@ -112,7 +112,7 @@ impl Ports {
             users: Some(users),
             room,
             loops,
-            networks: admission.networks,
+            admitted: admission.users,
             addresses: Addresses::new(alloc, admission.most),
             waiting: None,
             accepted: 0,
@@ -151,9 +151,9 @@ impl Ports {
 
     /// The user who waits for room, or the next one. One that comes from elsewhere than users may is closed.
     fn next(&mut self) -> Accepted
-        ensures let_in { IsLetIn (option_map (λ vec. vec.items) self.old.networks) self.old.waiting result }
+        ensures let_in { IsLetIn (networks_of self.old.admitted) self.old.waiting result }
         ensures kept { (self.new.accepted ≡ self.old.accepted) × (self.new.loops ≡ self.old.loops) }
-        ensures networks { self.new.networks ≡ self.old.networks }
+        ensures admitted { self.new.admitted ≡ self.old.admitted }
     {
         if let Some((stream, from)) = self.waiting.take() {
             return Accepted::One(stream, from);
@@ -162,7 +162,19 @@ impl Ports {
             Some(users) => users.accept(),
             None => Accepted::None,
         };
-        judged(&self.networks, &self.room, next)
+        match &self.admitted {
+            Some(latest) => judged(&latest.config().users, &self.room, next),
+            None => next,
+        }
+    }
+
+    /// Users are let in by the configuration that stands now.
+    pub fn renew<R: Wait>(&mut self, rt: &R)
+        ensures { self.new ≡ record self.old { admitted = self.new.admitted } }
+    {
+        if let Some(latest) = &mut self.admitted {
+            latest.renew(rt);
+        }
     }
 
     /// Accepts users while there is room for them, and hands them out in rotation. One for whom no memory is found is closed. Says

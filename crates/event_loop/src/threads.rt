@@ -27,7 +27,7 @@ use std::time::{Clock, Instant};
 /// ```
 /// let mut inboxes = Vec::new(alloc);
 /// let room = Arc::new(alloc, Room::new(100, 16))?;
-/// let admission = Admission { networks: None, most: 0 };
+/// let admission = Admission { users: None, most: 0 };
 /// let users = Entrance { listener, room, loops: 1, admission };
 /// let ports = AdminPorts { admin, metrics: None };
 /// let base = add_loop(rt, alloc, Some(users), Some(ports), &mut inboxes)?;

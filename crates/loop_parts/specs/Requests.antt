@@ -5,7 +5,7 @@ use Rattle.std.specs.Str.{str_eq_ignore_ascii_case}
 use Rattle.span_bank.specs.declared.limits.TheConstants.{MAX_CAPACITY}
 use Rattle.adapt_bytes.specs.Numeral.{Writes}
 use Rattle.loop_parts.specs.declared.admin_lines.Request.{Request}
-use Rattle.loop_parts.specs.declared.admin_lines.Request.TheVariants.{Book, Capacity, Drain, Stats, Reopen, Refresh, Stop, Bad}
+use Rattle.loop_parts.specs.declared.admin_lines.Request.TheVariants.{Book, Capacity, Drain, Stats, Reopen, Refresh, Reload, Stop, Bad}
 use Rattle.loop_parts.specs.declared.scrape.Scrape.{Scrape}
 use Rattle.loop_parts.specs.declared.scrape.Scrape.TheVariants as scrapes
 
@@ -24,9 +24,10 @@ Asks line Drain = line ≡ codes "drain"
 Asks line Stats = line ≡ codes "stats"
 Asks line Reopen = line ≡ codes "reopen"
 Asks line Refresh = line ≡ codes "refresh"
+Asks line Reload = line ≡ codes "reload"
 Asks line Stop = line ≡ codes "stop"
 Asks line (Capacity n) = AsksForSize line n
-Asks line Bad = (line ≢ codes "book") × (line ≢ codes "drain") × (line ≢ codes "stats") × (line ≢ codes "reopen") × (line ≢ codes "refresh") × (line ≢ codes "stop") × ((n : ℕ) → AsksForSize line n → ⊥)
+Asks line Bad = (line ≢ codes "book") × (line ≢ codes "drain") × (line ≢ codes "stats") × (line ≢ codes "reopen") × (line ≢ codes "refresh") × (line ≢ codes "reload") × (line ≢ codes "stop") × ((n : ℕ) → AsksForSize line n → ⊥)
 
 -- a byte of a method as all registered ones are written: a capital letter or a hyphen (RFC 9110, section 9.1)
 abbrev pub is_method_byte : ℕ → Bool

@@ -25,6 +25,8 @@ pub enum Request {
     Reopen,
     /// `refresh`: the services are asked for their options again.
     Refresh,
+    /// `reload`: the configuration and its files are read again.
+    Reload,
     /// `stop`: every transaction fails, and the program ends.
     Stop,
     /// Any other line.
@@ -60,6 +62,9 @@ pub fn read_request(line: &[u8]) -> Request
     }
     if line == b"refresh".as_slice() {
         return Request::Refresh;
+    }
+    if line == b"reload".as_slice() {
+        return Request::Reload;
     }
     if line == b"stop".as_slice() {
         return Request::Stop;

@@ -1,16 +1,18 @@
 //! `adaptproxy serve` over sockets.
 
 use mio::net::TcpListener;
-use proxy_commands::{Error, ServeError, audit_line, error_of, has_room, read_configuration, say};
+use proxy_commands::{
+    Error, ServeError, Source, audit_line, error_of, has_room, read_source, read_whole, say,
+};
 use proxy_config::Config;
-use shard_loop::{AdminPorts, Append, Stopped, listen_beside, serve};
+use shard_loop::{AdminPorts, Append, Reloads, Rules, Stopped, listen_beside, serve};
 use socket_wire::Dial;
 use std::alloc::Global;
 use std::fs::File;
-use std::io::{self, ErrorKind, Read, Write};
+use std::io::{self, ErrorKind, Write};
 use std::net::{self, Net, SocketAddr, SocketAddrV4};
 use std::rt::Files;
-use std::sync::Wait;
+use std::sync::{Arc, Wait};
 use std::thread::Threads;
 use std::time::Clock;
 use wire_kit::OpenGate;
@@ -95,16 +97,19 @@ fn log_fault(alloc: Global) -> ServeError {
 }
 
 /// Says that it listens once it has its memory, serves until the administrator says `stop` or the system fails a loop, and audits.
-fn serve_ports<O: Write, R: Threads + Wait + Net + Dial + Append + Clock + Sync>(
+fn serve_ports<
+    O: Write,
+    R: Threads + Wait + Net + Dial + Append + Reloads + Clock + Files + AllocGlobal + Sync,
+>(
     rt: &R,
     alloc: Global,
-    config: &Config,
+    rules: Rules,
     users: TcpListener,
     admin: AdminPorts,
     log: Option<File>,
     output: &mut O,
 ) -> Result<Stopped, ServeError> {
-    match serve(rt, alloc, config, users, admin, log, &OpenGate, output) {
+    match serve(rt, alloc, rules, users, admin, log, &OpenGate, output) {
         Ok(stopped) => Ok(stopped),
         Err(fault) => Err(error_of(fault)),
     }
@@ -122,26 +127,31 @@ fn say_end<O: Write>(alloc: Global, output: &mut O, stopped: Stopped) -> Result<
     }
 }
 
-/// Reads the configuration, looks whether the machine has the memory for its pages, opens the log, listens, at the users' port that was
+/// Reads the configuration and its files, looks whether the machine has the memory for its pages, opens the log, listens, at the users' port that was
 /// handed over if one was, touches the pages, says that it listens, serves until the administrator says `stop`, and says what was still out.
 pub fn serve_from<
-    I: Read + Drop,
     O: Write,
-    R: Threads + Wait + Net + Dial + Append + Clock + Files + AllocGlobal + Sync,
+    R: Threads + Wait + Net + Dial + Append + Reloads + Clock + Files + AllocGlobal + Sync,
 >(
     rt: &R,
     alloc: Global,
     handed: Option<net::TcpListener>,
-    reader: I,
+    source: Result<Source, ServeError>,
     output: &mut O,
 ) -> Result<(), ServeError> {
-    let config = read_configuration(alloc, reader)?;
+    let source = source?;
+    let text = read_source(rt, alloc, &source)?;
+    let config = read_whole(rt, alloc, &text)?;
     if !has_room(rt, &config) {
         return Err(ServeError::Ended(Error::NoMemory));
     }
     let log = open_log(rt, alloc, &config)?;
     let users = listen_for_users(rt, alloc, handed, config.listen)?;
     let admin = listen_for_administrator(rt, alloc, &config)?;
-    let stopped = serve_ports(rt, alloc, &config, users, admin, log, output)?;
+    let Ok(config) = Arc::new(alloc, config) else {
+        return Err(ServeError::Ended(Error::NoMemory));
+    };
+    let rules = Rules { config, source };
+    let stopped = serve_ports(rt, alloc, rules, users, admin, log, output)?;
     say_end(alloc, output, stopped)
 }

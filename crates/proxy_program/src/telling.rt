@@ -1,9 +1,12 @@
 //! `adaptproxy tell` over a socket.
 
-use proxy_commands::{Error, ServeError, ask, line_of_words, read_configuration};
+use proxy_commands::{
+    Error, ServeError, Source, ask, configuration_of, line_of_words, read_source,
+};
 use std::alloc::Global;
-use std::io::{Read, Write};
+use std::io::Write;
 use std::net::{Net, OpenStream, SocketAddr, SocketAddrV4, TcpStream};
+use std::rt::Files;
 use std::time::Duration;
 
 /// How many seconds the connection may take, and each part of the answer.
@@ -23,11 +26,8 @@ fn connect<R: Net>(rt: &R, address: SocketAddrV4) -> Result<R::Stream, ServeErro
     Ok(stream)
 }
 
-/// The line that the words after the first one say; `Usage` where one of them has an LF, which would end it.
-fn line_of(alloc: Global, args: &[String]) -> Result<Vec<u8>, ServeError> {
-    let Some((_tell, words)) = args.split_first() else {
-        return Err(ServeError::Ended(Error::Usage));
-    };
+/// The line that words say; `Usage` where one of them has an LF, which would end it.
+fn line_of(alloc: Global, words: &[String]) -> Result<Vec<u8>, ServeError> {
     if words.iter().any(|word| word.as_bytes().contains(&b'\n')) {
         return Err(ServeError::Ended(Error::Usage));
     }
@@ -37,17 +37,18 @@ fn line_of(alloc: Global, args: &[String]) -> Result<Vec<u8>, ServeError> {
     }
 }
 
-/// Says what stands after `tell` to the administrator's port that a configuration names, prints the answer, and answers its exit
-/// status.
-pub fn tell_from<I: Read + Drop, O: Write, R: Net>(
+/// Says words to the administrator's port that the configuration of a source names, prints the answer, and answers its exit status.
+/// The files that the configuration names aren't read.
+pub fn tell_from<O: Write, R: Net + Files>(
     rt: &R,
     alloc: Global,
-    reader: I,
-    args: &[String],
+    source: Result<Source, ServeError>,
+    words: &[String],
     output: &mut O,
 ) -> Result<u8, ServeError> {
-    let line = line_of(alloc, args)?;
-    let config = read_configuration(alloc, reader)?;
+    let line = line_of(alloc, words)?;
+    let text = read_source(rt, alloc, &source?)?;
+    let config = configuration_of(alloc, &text)?;
     let mut stream = connect(rt, config.admin)?;
     ask(alloc, &mut stream, &line, output)
 }

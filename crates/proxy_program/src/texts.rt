@@ -10,6 +10,9 @@ adaptproxy tell WORD..  says a line to the admin port that a configuration names
 adaptproxy probe        tries the services that a configuration names, and says what they answer
 adaptproxy --help       prints these lines
 adaptproxy --version    prints the version, and the kit that it is proved with
+
+serve, check and tell read their configuration from the standard input, or from the file after --config:
+adaptproxy serve --config PATH
 ";
 
 /// The version, and the identity of the kit that the program is proved and built with.

@@ -1,3 +1,4 @@
 mod Asking
 mod Keeping
+mod Paging
 mod Sifting

@@ -4,3 +4,4 @@ pub mod Failures
 pub mod Kept
 pub mod Pausing
 pub mod Places
+pub mod Standings

@@ -1,8 +1,9 @@
 //! What the exchanges of one thread have in common.
 
-ghost use Rattle.std.specs.Prelude.{◌≡◌, IfOk};
+ghost use Rattle.std.specs.Prelude.{◌≡◌, IfOk, IsTrue};
 ghost use Rattle.proxy_config.specs.declared.config.Config.{Config as AnyConfig};
 ghost use Rattle.proxy_rules.specs.Plans.{AreLimits};
+ghost use Rattle.shard_report.specs.Notes.{IsOpen};
 
 use crate::headers::{announce, header_of};
 use crate::kept::Moment;
@@ -77,6 +78,7 @@ impl<S: Shares> Desk<S> {
             × (desk.terms ≡ record { head = config.head_deadline; connection = config.connect_deadline }) × (desk.kept.most ≡ config.keep_origins)) }
     {
         let scratch = Vec::from_elem(alloc, 0u8, MAX_READ)?;
+        let mut shared = shared;
         let config = shared.config();
         let limits = limits_of(config);
         let deadline = config.deadline;
@@ -85,6 +87,7 @@ impl<S: Shares> Desk<S> {
         let seats = Seats::new(alloc, rows)?;
         let reporter = Reporter::new(alloc, seats.bound(), shared.log())?;
         let kept = KeptOrigins::new(alloc, most)?;
+        shared.seat(seats.bound())?;
         Ok(Desk {
             alloc,
             shared,
@@ -100,6 +103,19 @@ impl<S: Shares> Desk<S> {
             kept,
             looked: 0,
         })
+    }
+
+    /// The exchange under this key is served from now on. One that is open goes on by the configuration that stood when it began; another
+    /// one by that which stands now.
+    pub fn take_up<R: Wait>(&mut self, rt: &R, key: usize)
+        ensures goes { S.config_is self.new.shared (S.goes_by self.new.shared key) }
+        ensures open { IsOpen self.old.reporter.notes.notes.items key → S.goes_by self.new.shared key ≡ S.goes_by self.old.shared key }
+        ensures deadline { (config : AnyConfig) × S.config_is self.new.shared config × (self.new.deadline ≡ config.deadline) }
+        ensures kept { self.new ≡ record self.old { shared = self.new.shared; deadline = self.new.deadline } }
+    {
+        let is_open = self.reporter.is_open(key);
+        self.shared.take_up(rt, key, is_open);
+        self.deadline = self.shared.config().deadline;
     }
 
     /// What the service of a point said last, to be changed.
@@ -212,6 +228,7 @@ impl<S: Shares> Seating for Desk<S> {
         now: u64,
         user: &mut UserWire,
     ) -> Hearing {
+        self.take_up(rt, key);
         match header_of(user) {
             Reading::Whole(header) => self.begin_user(rt, key, now, header.from),
             Reading::Partial if !self.seats.is_late(key, now, self.deadline) => Hearing::Waits,
@@ -234,6 +251,7 @@ impl<S: Shares> Seating for Desk<S> {
         self.report(rt, key);
         tell_breakers(&self.shared, rt, key);
         self.seats.leave(key);
+        self.shared.leave(key);
         self.shared.tally().take(Count::Users, 1);
     }
 

@@ -16,6 +16,7 @@ mod pausing;
 mod pools;
 mod reporter;
 mod shared;
+mod standings;
 mod words;
 
 pub use desk::Desk;
@@ -23,3 +24,4 @@ pub use kept::{Heard, Kept, Moment, Rests};
 pub use origins::KeptOrigin;
 pub use pools::{Loops, SharedPools, Spare, pools_of};
 pub use shared::{Shared, Shares};
+pub use standings::Standings;

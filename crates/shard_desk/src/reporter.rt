@@ -1,10 +1,16 @@
 //! When something is noted of an exchange, and what becomes of it at its end.
 
+ghost use Rattle.std.specs.Prelude.{◌↔◌, IfSome, IsTrue};
+ghost use Rattle.exchange_report.specs.Pages.{IsPageRefusal};
+ghost use Rattle.http_side.specs.Refusals.{is_own_status};
+ghost use Rattle.shard_report.specs.Notes.{IsOpen};
+
 use crate::words::{evidence_of, is_of_service};
 use adapt_turn::Outcome;
 use exchange_report::{Destination, Reason, Reply, Why};
 use http_side::{NextServer, Values};
 use mio::net::TcpStream;
+use proxy_config::MAX_SHARDS;
 use proxy_rules::{Incoming, Route};
 use shard_outside::MessageEnd;
 use shard_report::{
@@ -22,6 +28,8 @@ use trace_core::{Point, Seen};
 #[derive(Drop)]
 pub(crate) struct Reporter {
     notes: Notes,
+    /// How many refusals were to have a page so far.
+    pages: u64,
 }
 
 impl Reporter {
@@ -29,6 +37,7 @@ impl Reporter {
     pub fn new(alloc: Global, keys: usize, log: &Log) -> Result<Reporter, AllocError> {
         Ok(Reporter {
             notes: Notes::new(alloc, keys, log.is_kept())?,
+            pages: 0,
         })
     }
 
@@ -80,7 +89,9 @@ impl Reporter {
     }
 
     /// Whether an exchange goes on under this key.
-    pub fn is_open(&self, key: usize) -> bool {
+    pub fn is_open(&self, key: usize) -> bool
+        ensures { IsTrue result ↔ IsOpen self.now.notes.notes.items key }
+    {
         self.notes.is_open(key)
     }
 
@@ -138,6 +149,27 @@ impl Reporter {
             }
             self.notes.refuse(key, reason);
         }
+    }
+
+    /// The refusal of this status with this page. It says the reason that is noted, and a number that no other refusal of the process
+    /// has, by the number of the thread; that is noted too. `None` where no memory was found.
+    pub fn refusal_with(
+        &mut self,
+        alloc: Global,
+        thread: usize,
+        key: usize,
+        status: u16,
+        page: &[u8],
+    ) -> Option<Vec<u8>>
+        requires { IsTrue (is_own_status status) }
+        ensures { IfSome result (λ text. IsPageRefusal status page.now text.items) }
+    {
+        self.pages = self.pages.saturating_add(1);
+        let number = self
+            .pages
+            .saturating_mul(MAX_SHARDS)
+            .saturating_add(thread as u64);
+        self.notes.refuse_with(alloc, key, status, page, number)
     }
 
     /// A transaction is over: what became of its message, and of the answer where its user wasn't gone before.

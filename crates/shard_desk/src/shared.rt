@@ -1,9 +1,11 @@
 //! What all threads share.
 
-ghost use Rattle.std.specs.Prelude.{◌≡◌, ⊤};
+ghost use Rattle.std.specs.Prelude.{◌≡◌, ℕ, true, ⊤};
 ghost use Rattle.proxy_config.specs.declared.config.Config.{Config as AnyConfig};
+ghost use Rattle.shard_desk.specs.Standings.{goes_by};
 
 use crate::pools::Spare;
+use crate::standings::Standings;
 use event_loop::{Inbox, Room};
 use loop_parts::Addresses;
 use proxy_config::Config;
@@ -11,8 +13,9 @@ use service_lines::Queues;
 use service_pool::Pool;
 use shard_report::{Log, LoopTally};
 use span_bank::{Bank, Ledgers};
+use std::alloc::AllocError;
 use std::sync::ledger::Ledger;
-use std::sync::{Arc, Mutex};
+use std::sync::{Arc, Mutex, Wait};
 
 /// What all threads share, as one of them has it.
 pub trait Shares {
@@ -28,8 +31,24 @@ pub trait Shares {
     // the configuration, where this says what it is
     ghost config_is: { Self → AnyConfig → Type 0 } = { λ _ _. ⊤ };
 
+    // what the exchange under this key goes by
+    ghost goes_by: { Self → ℕ → AnyConfig };
+
+    /// What the exchange goes by that is served; before the first one, and elsewhere than with exchanges, what stands now.
     fn config(&self) -> &Config
         ensures { config_is self.now result.now };
+
+    /// Has room for what the exchanges of so many keys go by. `Err` where no memory was found.
+    fn seat(&mut self, keys: usize) -> Result<(), AllocError>;
+
+    /// The exchange under this key is served from now on. One that is open goes on by what stood when it began; another one by what stands
+    /// now.
+    fn take_up<R: Wait>(&mut self, rt: &R, key: usize, is_open: bool)
+        ensures served { config_is self.new (goes_by self.new key) }
+        ensures open { is_open ≡ true → goes_by self.new key ≡ goes_by self.old key };
+
+    /// The user under this key has left.
+    fn leave(&mut self, key: usize);
 
     fn bank(&self) -> &Bank<Self::Ledgers>;
 
@@ -64,7 +83,7 @@ pub trait Shares {
 /// What all threads share.
 #[derive(Drop)]
 pub struct Shared<'a, B: Ledgers, Q: Ledger, A: Ledger> {
-    pub config: &'a Config,
+    pub standings: Standings,
     pub bank: &'a Bank<B>,
     pub requests: &'a Pool<Spare, Q>,
     pub responses: &'a Pool<Spare, A>,
@@ -85,10 +104,24 @@ impl<'a, B: Ledgers, Q: Ledger, A: Ledger> Shares for Shared<'a, B, Q, A> {
 
     type Responses = A;
 
-    ghost config_is = { λ shared config. config ≡ shared.config.now };
+    ghost config_is = { λ shared config. config ≡ goes_by shared.standings shared.standings.serving };
+
+    ghost goes_by = { λ shared key. goes_by shared.standings key };
 
     fn config(&self) -> &Config {
-        self.config
+        self.standings.config()
+    }
+
+    fn seat(&mut self, keys: usize) -> Result<(), AllocError> {
+        self.standings.seat(keys)
+    }
+
+    fn take_up<R: Wait>(&mut self, rt: &R, key: usize, is_open: bool) {
+        self.standings.take_up(rt, key, is_open);
+    }
+
+    fn leave(&mut self, key: usize) {
+        self.standings.leave(key);
     }
 
     fn bank(&self) -> &Bank<B> {

@@ -1,39 +1,34 @@
 //! Which users are served, as the configuration says it.
 
-ghost use Rattle.std.specs.Prelude.{◌≡◌, IfOk, option_map};
-ghost use Rattle.shard_loop.specs.Admission.{most_by, networks_by};
+ghost use Rattle.std.specs.Prelude.{◌≡◌, IfOk, None};
+ghost use Rattle.shard_loop.specs.Admission.{HasUsers, most_by};
 
-use event_loop::Admission;
-use proxy_config::{Config, Network};
-use std::alloc::{AllocError, Global};
+use event_loop::{Admission, LatestConfig, LiveConfig};
+use proxy_config::Config;
+use std::alloc::AllocError;
+use std::sync::{Arc, Wait};
 
-/// The networks that users may come from, once more.
-fn copy_of(
-    alloc: Global,
-    networks: &Option<Vec<Network>>,
-) -> Result<Option<Vec<Network>>, AllocError>
-    ensures { IfOk result (λ copy. option_map (λ vec. vec.items) copy ≡ option_map (λ vec. vec.items) networks.now) }
-{
-    match networks {
-        Some(networks) => Ok(Some(networks.as_slice().to_vec(alloc)?)),
-        None => Ok(None),
-    }
-}
-
-/// Which users are served, by the address of their connection: all of them where a header says another one, which is judged later. `Err` where no memory was found for their networks.
-pub(crate) fn admission_of(alloc: Global, config: &Config) -> Result<Admission, AllocError>
-    ensures networks { IfOk result (λ admission.
-        option_map (λ vec. vec.items) admission.networks ≡ networks_by config.now) }
+/// Which users are served, by the address of their connection: all of them where a header says another one, which is judged later. `Err`
+/// where the configuration that stands can't be had.
+pub(crate) fn admission_of<R: Wait>(
+    rt: &R,
+    config: &Config,
+    live: &Arc<LiveConfig>,
+) -> Result<Admission, AllocError>
+    ensures users { IfOk result (λ admission. HasUsers config.now admission.users) }
     ensures most { IfOk result (λ admission. admission.most ≡ most_by config.now) }
 {
     if config.proxy_protocol {
         return Ok(Admission {
-            networks: None,
+            users: None,
             most: 0,
         });
     }
-    Ok(Admission {
-        networks: copy_of(alloc, &config.users)?,
-        most: config.user_connections,
-    })
+    match LatestConfig::of(rt, live) {
+        Some(latest) => Ok(Admission {
+            users: Some(latest),
+            most: config.user_connections,
+        }),
+        None => Err(AllocError),
+    }
 }

@@ -2,8 +2,9 @@
 
 ghost use Rattle.std.specs.Prelude.{◌≡◌};
 
-use event_loop::{Inbox, Room};
+use event_loop::{Inbox, LiveConfig, Room};
 use loop_parts::Addresses;
+use proxy_commands::Source;
 use proxy_config::{Config, ServicePoint};
 use service_lines::{PauseRule, Queues};
 use service_pool::Pool;
@@ -87,6 +88,12 @@ pub trait Common {
 
     /// How many connections each address has open that a header said.
     fn addresses(&self) -> &Mutex<Addresses>;
+
+    /// The configuration that stands.
+    fn live(&self) -> &Arc<LiveConfig>;
+
+    /// Where the configuration is read again.
+    fn source(&self) -> &Source;
 }
 
 /// The board on which the threads find what they have in common.
@@ -98,6 +105,8 @@ pub struct Board {
     queues: Queues,
     room: Arc<Room>,
     addresses: Mutex<Addresses>,
+    live: Arc<LiveConfig>,
+    source: Source,
 }
 
 impl Common for Board {
@@ -128,10 +137,26 @@ impl Common for Board {
     fn addresses(&self) -> &Mutex<Addresses> {
         &self.addresses
     }
+
+    fn live(&self) -> &Arc<LiveConfig> {
+        &self.live
+    }
+
+    fn source(&self) -> &Source {
+        &self.source
+    }
+}
+
+/// What the proxy runs by: its configuration, and where that is read again.
+#[derive(Drop)]
+pub struct Rules {
+    pub config: Arc<Config>,
+    pub source: Source,
 }
 
 /// The board of the threads that take users, before their inboxes are there.
-pub fn board_of(alloc: Global, config: &Config, file: Option<File>) -> Result<Board, AllocError> {
+pub fn board_of(alloc: Global, rules: Rules, file: Option<File>) -> Result<Board, AllocError> {
+    let Rules { config, source } = rules;
     let count = config.shards;
     let mut tallies = Vec::new(alloc);
     for _ in 0..count {
@@ -140,12 +165,19 @@ pub fn board_of(alloc: Global, config: &Config, file: Option<File>) -> Result<Bo
             return Err(AllocError);
         }
     }
+    let log = Log::new(alloc, file, count)?;
+    let queues = Queues::new(alloc, config.rows as usize, pause_rule(&config))?;
+    let room = Arc::new(alloc, room_of(&config))?;
+    let addresses = Mutex::new(Addresses::new(alloc, config.user_connections));
+    let live = Arc::new(alloc, LiveConfig::new(config))?;
     Ok(Board {
         inboxes: Vec::new(alloc),
         tallies,
-        log: Log::new(alloc, file, count)?,
-        queues: Queues::new(alloc, config.rows as usize, pause_rule(config))?,
-        room: Arc::new(alloc, room_of(config))?,
-        addresses: Mutex::new(Addresses::new(alloc, config.user_connections)),
+        log,
+        queues,
+        room,
+        addresses,
+        live,
+        source,
     })
 }

@@ -3,10 +3,11 @@
 ghost use Rattle.std.specs.Prelude.{◌≡◌};
 
 use crate::admission::admission_of;
-use crate::board::{BothPools, Common, PoolPair, board_of};
+use crate::board::{BothPools, Common, PoolPair, Rules, board_of};
 use crate::exchanges::DeskExchanges;
 use crate::left::Left;
 use crate::office::Office;
+use crate::reloading::Reloads;
 use event_loop::{
     AdminPorts, Admission, Base, Ended, Entrance, Inbox, LoopFault, Room, Work, add_loop,
     name_thread, run_loop, stop_all,
@@ -15,7 +16,7 @@ use mio::net::TcpListener;
 use proxy_config::{Config, MAX_SHARDS};
 use service_lines::Waiting;
 use service_pool::Pool;
-use shard_desk::{Loops, Shared, SharedPools, Shares, Spare};
+use shard_desk::{Loops, Shared, SharedPools, Shares, Spare, Standings};
 use shard_report::{Append, ProxyFault};
 use shard_work::{Exchanges, Shard};
 use socket_wire::Dial;
@@ -133,7 +134,7 @@ fn run_on<
     K: HasBase + Send,
     P: BothPools<Q, A> + Sync,
     N: Common + Sync,
-    R: Threads + Wait + Dial + Append + Clock + Sync,
+    R: Threads + Wait + Dial + Append + Clock + Reloads + Sync,
 >(
     rt: &R,
     alloc: Global,
@@ -180,7 +181,7 @@ pub fn run_crew<
     Q: Ledger + Send + Sync,
     A: Ledger + Send + Sync,
     G: Gate + Sync,
-    R: Threads + Wait + Net + Dial + Append + Clock + Sync,
+    R: Threads + Wait + Net + Dial + Append + Clock + Reloads + Sync,
 >(
     rt: &R,
     alloc: Global,
@@ -190,6 +191,7 @@ pub fn run_crew<
     response: &Pool<Spare, A>,
     gate: &G,
     ports: (TcpListener, AdminPorts),
+    rules: Rules,
     file: Option<File>,
     left: &Mutex<Left<B, Q, A>>,
 ) -> Result<(), ProxyFault>
@@ -200,7 +202,7 @@ where
     B::Pages: Send + Sync,
 {
     let pools = PoolPair { request, response };
-    let board = board_of(alloc, config, file);
+    let board = board_of(alloc, rules, file);
     run_board(rt, alloc, config, bank, &pools, gate, ports, board, left)
 }
 
@@ -212,7 +214,7 @@ fn run_board<
     G: Gate + Sync,
     P: BothPools<Q, A> + Sync,
     N: Common + Sync + Drop,
-    R: Threads + Wait + Net + Dial + Append + Clock + Sync,
+    R: Threads + Wait + Net + Dial + Append + Clock + Reloads + Sync,
 >(
     rt: &R,
     alloc: Global,
@@ -237,7 +239,7 @@ where
     let Ok(room) = Arc::clone(board.room()) else {
         return Err(ProxyFault::NoMemory);
     };
-    let Ok(admission) = admission_of(alloc, config) else {
+    let Ok(admission) = admission_of(rt, config, board.live()) else {
         return Err(ProxyFault::NoMemory);
     };
     let (users, admin) = ports;
@@ -293,7 +295,7 @@ fn run_one<
     G: Gate,
     K: HasBase,
     N: Common,
-    R: Wait + Dial + Append + Clock,
+    R: Wait + Dial + Append + Clock + Reloads,
 >(
     rt: &R,
     alloc: Global,
@@ -315,8 +317,13 @@ fn run_one<
         return;
     };
     let inboxes = common.inboxes();
+    let Some(standings) = Standings::of(rt, alloc, common.live()) else {
+        stop_all(inboxes);
+        left.lock(rt).fail(ProxyFault::NoMemory);
+        return;
+    };
     let shared = Shared {
-        config,
+        standings,
         bank,
         requests,
         responses,
@@ -334,7 +341,8 @@ fn run_one<
             rt, alloc, shared, gate, number, base, inboxes, bank, pools, left,
         );
     } else {
-        let office = Office::new(alloc, shared, tallies, rt);
+        let (live, source) = (common.live(), common.source());
+        let office = Office::new(alloc, shared, live, source, tallies, rt);
         run_office(rt, alloc, office, number, base, inboxes, left);
     }
 }

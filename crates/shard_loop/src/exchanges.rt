@@ -131,6 +131,7 @@ impl<S: Shares> Exchanges for DeskExchanges<S> {
         exchange: &mut Exchange<Holdings<Desk<S>>>,
         task: Task,
     ) -> Step {
+        self.desk.take_up(at.rt, at.key);
         act_on(at.rt, at, &mut self.desk, exchange, task)
     }
 

@@ -12,8 +12,11 @@ mod crew;
 mod exchanges;
 mod left;
 mod office;
+mod reloading;
 mod running;
 
+pub use board::Rules;
 pub use event_loop::{AdminPorts, listen_beside};
+pub use reloading::Reloads;
 pub use running::serve;
 pub use shard_report::{Append, ProxyFault, StopAudit, Stopped};

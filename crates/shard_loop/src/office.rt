@@ -3,12 +3,14 @@
 
 ghost use Rattle.std.specs.Prelude.{⊤};
 
-use event_loop::{Admitted, Driven, Handed, Request, Told, Work};
+use crate::reloading::{Reloads, changed_text, reload_from};
+use event_loop::{Admitted, Driven, Handed, LiveConfig, Request, Told, Work};
 use mio::Registry;
+use proxy_commands::Source;
 use shard_desk::{Shares, pools_of};
 use shard_report::{Append, Figures, LoopTally, change_capacity, stats_text};
 use socket_wire::{Dial, Peer};
-use span_bank::{CapacityFault, MAX_CAPACITY};
+use span_bank::MAX_CAPACITY;
 use std::alloc::{AllocError, Global};
 use std::sync::Wait;
 use std::time::Clock;
@@ -20,38 +22,33 @@ const LINES_WAIT: u64 = 50;
 /// How many milliseconds may pass before idle connections to services are looked at again.
 const IDLE_WAIT: u64 = 1000;
 
-/// What became of a new capacity, as a line.
-fn changed_text(alloc: Global, changed: Result<(), CapacityFault>) -> Result<Vec<u8>, AllocError> {
-    match changed {
-        Ok(()) => b"ok\n".to_vec(alloc),
-        Err(CapacityFault::TooLow { claimed }) => {
-            let text = format!(in alloc; "refused {claimed}\n")?;
-            Ok(text.into_bytes())
-        }
-        Err(CapacityFault::NoMemory) => b"out of memory\n".to_vec(alloc),
-    }
-}
-
 /// What the administrator's loop answers from. It also writes the log.
 #[derive(Drop)]
-pub struct Office<'a, S, F: Append> {
+pub struct Office<'a, S, F> {
     alloc: Global,
     shared: S,
+    live: &'a LiveConfig,
+    source: &'a Source,
     tallies: &'a [LoopTally],
     files: &'a F,
 }
 
-impl<'a, S: Shares, F: Append> Office<'a, S, F> {
-    /// Answers from what its thread shares and what all loops counted; `files` opens the log's file anew.
+impl<'a, S: Shares, F: Append + Reloads> Office<'a, S, F> {
+    /// Answers from what its thread shares and what all loops counted; `files` opens the log's file anew, and reads the source of the
+    /// configuration, which takes the place of the one that stands.
     pub fn new(
         alloc: Global,
         shared: S,
+        live: &'a LiveConfig,
+        source: &'a Source,
         tallies: &'a [LoopTally],
         files: &'a F,
     ) -> Office<'a, S, F> {
         Office {
             alloc,
             shared,
+            live,
+            source,
             tallies,
             files,
         }
@@ -113,6 +110,18 @@ impl<'a, S: Shares, F: Append> Office<'a, S, F> {
         b"ok\n".to_vec(self.alloc)
     }
 
+    /// Reads the configuration and its files again, and takes over what can change.
+    fn reload<R: Wait>(&mut self, rt: &R) -> Result<Vec<u8>, AllocError> {
+        reload_from(
+            rt,
+            self.alloc,
+            &mut self.shared,
+            self.live,
+            self.source,
+            self.files,
+        )
+    }
+
     /// Opens the log's file anew, where a log is kept.
     fn reopen<R: Wait>(&mut self, rt: &R) -> Result<Vec<u8>, AllocError> {
         let log = self.shared.log();
@@ -129,7 +138,7 @@ impl<'a, S: Shares, F: Append> Office<'a, S, F> {
     }
 }
 
-impl<'a, S: Shares + Drop, F: Append> Work for Office<'a, S, F> {
+impl<'a, S: Shares + Drop, F: Append + Reloads> Work for Office<'a, S, F> {
     // it keeps no record
     ghost past = { λ office past. ⊤ };
 
@@ -216,6 +225,7 @@ impl<'a, S: Shares + Drop, F: Append> Work for Office<'a, S, F> {
             Request::Stats => self.say_stats(rt, now),
             Request::Reopen => self.reopen(rt),
             Request::Refresh => self.refresh(),
+            Request::Reload => self.reload(rt),
             Request::Drain | Request::Stop | Request::Bad => b"bad\n".to_vec(self.alloc),
         }
     }

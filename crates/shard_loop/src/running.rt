@@ -4,8 +4,10 @@ ghost use Rattle.std.specs.Prelude.{◌≡◌, ◌+◌, ◌≤◌, IfSome};
 ghost use Rattle.adapt_bytes.specs.declared.limits.TheConstants.{MAX_CONNECTIONS};
 ghost use Rattle.service_pool.specs.declared.step.TheConstants.{LEDGER_PARTS};
 
+use crate::board::Rules;
 use crate::crew::run_crew;
 use crate::left::Left;
+use crate::reloading::Reloads;
 use event_loop::AdminPorts;
 use mio::net::TcpListener;
 use proxy_config::{Config, ServicePoint};
@@ -20,7 +22,7 @@ use std::io::Write;
 use std::marker::Brand;
 use std::net::Net;
 use std::sync::ledger::{Blank, Ledger};
-use std::sync::{Mutex, Wait};
+use std::sync::{Arc, Mutex, Wait};
 use std::thread::Threads;
 use std::time::Clock;
 use wire_kit::Gate;
@@ -60,7 +62,7 @@ fn say_listening<O: Write>(output: &mut O) -> Result<(), ProxyFault> {
     Ok(())
 }
 
-/// Runs the proxy on these ports until the administrator stops it or one of its loops fails, and audits its budget and its
+/// Runs the proxy by these rules, on these ports, until the administrator stops it or one of its loops fails, and audits its budget and its
 /// pools. Once the memory of both is there, `listening` is written to the output. Lines are added to the log's file, if there is one. The
 /// budget and each pool have ledgers of their own.
 ///
@@ -69,29 +71,38 @@ fn say_listening<O: Write>(output: &mut O) -> Result<(), ProxyFault> {
 /// let admin = TcpListener::bind(rt, SocketAddr::V4(config.admin))?;
 /// let admin = AdminPorts { admin, metrics: None };
 /// // No log is kept. It returns once the administrator has said `stop`.
-/// let stopped = serve(rt, alloc, &config, users, admin, None, &OpenGate, &mut output)?;
+/// let rules = Rules { config: Arc::new(alloc, config)?, source: Source::Path(path) };
+/// let stopped = serve(rt, alloc, rules, users, admin, None, &OpenGate, &mut output)?;
 /// assert_eq!(rt; stopped.fault, None);
 /// ```
-pub fn serve<G: Gate + Sync, O: Write, R: Threads + Wait + Net + Dial + Append + Clock + Sync>(
+pub fn serve<
+    G: Gate + Sync,
+    O: Write,
+    R: Threads + Wait + Net + Dial + Append + Clock + Reloads + Sync,
+>(
     rt: &R,
     alloc: Global,
-    config: &Config,
+    rules: Rules,
     users: TcpListener,
     admin: AdminPorts,
     log: Option<File>,
     gate: &G,
     output: &mut O,
 ) -> Result<Stopped, ProxyFault> {
+    let Ok(config) = Arc::clone(&rules.config) else {
+        return Err(ProxyFault::NoMemory);
+    };
+    let rows = config.rows;
     serve_with::<Brand, Brand, Brand, Brand, Brand, Brand, G, O, R>(
         rt,
         alloc,
-        config,
-        users,
-        admin,
+        &config,
+        (users, admin),
+        rules,
         log,
         gate,
         output,
-        Blanks::new(config.rows + 1),
+        Blanks::new(rows + 1),
         Blank::new(LEDGER_PARTS),
         Blank::new(LEDGER_PARTS),
     )
@@ -109,13 +120,13 @@ fn serve_with<
     A: Ledger + Send + Sync,
     G: Gate + Sync,
     O: Write,
-    R: Threads + Wait + Net + Dial + Append + Clock + Sync,
+    R: Threads + Wait + Net + Dial + Append + Clock + Reloads + Sync,
 >(
     rt: &R,
     alloc: Global,
     config: &'x Config,
-    users: TcpListener,
-    admin: AdminPorts,
+    ports: (TcpListener, AdminPorts),
+    rules: Rules,
     log: Option<File>,
     gate: &'x G,
     output: &mut O,
@@ -147,15 +158,7 @@ fn serve_with<
     let response: Pool<Spare, A> = make_pool(alloc, respmod, &config.respmod, journal)?;
     say_listening(output)?;
     serve_on(
-        rt,
-        alloc,
-        config,
-        (users, admin),
-        log,
-        gate,
-        bank,
-        request,
-        response,
+        rt, alloc, config, ports, rules, log, gate, bank, request, response,
     )
 }
 
@@ -165,12 +168,13 @@ fn serve_on<
     Q: Ledger + Send + Sync,
     A: Ledger + Send + Sync,
     G: Gate + Sync,
-    R: Threads + Wait + Net + Dial + Append + Clock + Sync,
+    R: Threads + Wait + Net + Dial + Append + Clock + Reloads + Sync,
 >(
     rt: &R,
     alloc: Global,
     config: &Config,
     ports: (TcpListener, AdminPorts),
+    rules: Rules,
     log: Option<File>,
     gate: &G,
     bank: Bank<B>,
@@ -188,7 +192,7 @@ where
     let left = Mutex::new(left);
     let made = if has_room {
         run_crew(
-            rt, alloc, config, &bank, &request, &response, gate, ports, log, &left,
+            rt, alloc, config, &bank, &request, &response, gate, ports, rules, log, &left,
         )
     } else {
         Err(ProxyFault::NoMemory)

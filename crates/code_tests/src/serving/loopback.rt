@@ -6,14 +6,14 @@ use super::shards::{many_users, one_connection};
 use crate::streams::gets;
 use icapd_commands::{Settings, Shared, serve_sockets};
 use mio::net::TcpListener as Listener;
-use proxy_commands::read_configuration;
+use proxy_commands::{Source, read_configuration};
 use proxy_config::Config;
-use shard_loop::{AdminPorts, Append, StopAudit, Stopped, serve};
+use shard_loop::{AdminPorts, Append, Reloads, Rules, StopAudit, Stopped, serve};
 use socket_wire::Dial;
 use std::alloc::Global;
 use std::io::{self, ErrorKind, Write};
 use std::net::{Ipv4Addr, Net, SocketAddr, TcpListener, TcpStream};
-use std::sync::Wait;
+use std::sync::{Arc, Wait};
 use std::thread::{self, Threads};
 use std::time::Clock;
 use wire_kit::HoldGate;
@@ -184,11 +184,12 @@ fn run_proxy<
         + Dial
         + Append
         + Clock
+        + Reloads
         + Sync,
 >(
     rt: &R,
     alloc: Global,
-    config: &Config,
+    config: &Arc<Config>,
     listeners: &mut Option<(Listener, Listener)>,
     gate: &HoldGate,
 ) -> Option<Stopped> {
@@ -196,7 +197,11 @@ fn run_proxy<
     let metrics = None;
     let admin = AdminPorts { admin, metrics };
     let mut said = Vec::new(alloc);
-    serve(rt, alloc, config, users, admin, None, gate, &mut said).ok()
+    let rules = Rules {
+        config: Arc::clone(config).ok()?,
+        source: Source::Text(Vec::new(alloc)),
+    };
+    serve(rt, alloc, rules, users, admin, None, gate, &mut said).ok()
 }
 
 /// Runs the proxy with these lines of a configuration while a scene is played, and stops it. Whether all went as it should,
@@ -208,6 +213,7 @@ pub fn goes_well<
         + Dial
         + Append
         + Clock
+        + Reloads
         + Copy
         + Send
         + Sync
@@ -218,7 +224,7 @@ pub fn goes_well<
     if matches!(scene, Scene::ByIcapd) {
         others.port = start_icapd(*rt, host, alloc)?;
     }
-    let config = configuration(alloc, &others, scene, more)?;
+    let config = Arc::new(alloc, configuration(alloc, &others, scene, more)?)?;
     let (made, ports) = listeners(host)?;
     let gate = HoldGate::new();
     let mut made = Some(made);

@@ -1,4 +1,5 @@
 //! What arguments ask for.
+use proxy_commands::{config_path, read_task, words_after};
 use std::alloc::Global;
 use std::fmt::Debug;
 use test_rows::{NoMemory, Row, put_line, put_shown, says};
@@ -24,6 +25,20 @@ fn put_asked<T: Debug + Copy>(out: &mut Vec<u8>, asked: Option<T>) -> Result<(),
     }
 }
 
+/// Adds the path of the configuration, where the arguments give one, and the words after it.
+fn put_path(out: &mut Vec<u8>, args: &[String]) -> Result<(), NoMemory> {
+    let Some(path) = config_path(args) else {
+        return Ok(());
+    };
+    out.extend_from_slice(b"configuration ")?;
+    put_line(out, path.as_bytes())?;
+    for word in words_after(args) {
+        out.extend_from_slice(b"word ")?;
+        put_line(out, word.as_bytes())?;
+    }
+    Ok(())
+}
+
 /// Adds the answer to a row of these calls; nothing for another one.
 pub fn put_answer(
     alloc: Global,
@@ -32,7 +47,9 @@ pub fn put_answer(
     out: &mut Vec<u8>,
 ) -> Result<(), NoMemory> {
     if says(call, b"adaptproxy") {
-        put_asked(out, proxy_commands::read_task(&arguments_of(alloc, row)?))
+        let args = arguments_of(alloc, row)?;
+        put_asked(out, read_task(&args))?;
+        put_path(out, &args)
     } else if says(call, b"icapd") {
         put_asked(
             out,

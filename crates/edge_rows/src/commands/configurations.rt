@@ -1,14 +1,16 @@
 //! What `adaptproxy` says of configurations, and of its errors.
 use crate::commands::arguments::arguments_of;
-use crate::commands::devices::{Feed, Sink, feed_of, put_ended};
+use crate::commands::devices::{Feed, Sink, feed_of, put_ended, whole};
 use proxy_commands::{
     Error, Machine, ServeError, ask, audit_line, check_with, limit_in, line_of_words, put_error,
-    read_configuration,
+    read_configuration, read_source, read_whole, reload, source_of,
 };
+use proxy_config::{Config, OWN_STATUSES};
 use shard_report::StopAudit;
 use std::alloc::Global;
 use std::io::{self, Read, Write};
-use test_rows::{NoMemory, Row, put_line, put_number, says};
+use std::rt::Files;
+use test_rows::{NoMemory, Row, put_decimal, put_line, put_number, says};
 
 /// Adds what the program says of an error, and its status.
 fn put_refusal(alloc: Global, error: &ServeError, out: &mut Vec<u8>) -> Result<(), NoMemory> {
@@ -25,16 +27,93 @@ fn put_judged(alloc: Global, reader: Feed<'_>, out: &mut Vec<u8>) -> Result<(), 
     }
 }
 
+/// The text of the row's source: of the file that its arguments name, or of its input.
+fn text_of<R: Files>(rt: &R, alloc: Global, row: &Row<'_>) -> Result<Vec<u8>, ServeError> {
+    let Ok(args) = arguments_of(alloc, row) else {
+        return Err(ServeError::Ended(Error::NoMemory));
+    };
+    let source = source_of(alloc, &args, feed_of(row))?;
+    read_source(rt, alloc, &source)
+}
+
 /// Adds what `check` says of the row's configuration under the row's limits.
-fn put_checked(alloc: Global, row: &Row<'_>, out: &mut Vec<u8>) -> Result<(), NoMemory> {
+fn put_checked<R: Files>(
+    rt: &R,
+    alloc: Global,
+    row: &Row<'_>,
+    out: &mut Vec<u8>,
+) -> Result<(), NoMemory> {
     let mut output = Sink::new(alloc, usize::MAX, false)?;
     let mut errors = Sink::new(alloc, usize::MAX, false)?;
+    let text = match text_of(rt, alloc, row) {
+        Ok(text) => text,
+        Err(error) => return put_refusal(alloc, &error, out),
+    };
     let machine = Machine {
         limits: row.get(b"limits"),
         memory: row.get(b"memory"),
     };
-    let status = check_with(alloc, feed_of(row), &mut output, &mut errors, machine);
+    let status = check_with(rt, alloc, &text, &mut output, &mut errors, machine);
     put_ended(out, status, output.taken(), errors.taken())
+}
+
+/// Adds where names are, and which pages there are.
+fn put_files(config: &Config, row: &Row<'_>, out: &mut Vec<u8>) -> Result<(), NoMemory> {
+    for name in row.get(b"names").split(|byte| *byte == b' ') {
+        if let Some(address) = config.hosts.resolve(name, None) {
+            out.extend_from_slice(name)?;
+            put_number(out, b" is at", u64::from(address.ip().to_bits()))?;
+        }
+    }
+    for status in OWN_STATUSES {
+        if let Some(page) = config.pages.of(status) {
+            put_decimal(out, u64::from(status))?;
+            put_number(out, b" has", page.len() as u64)?;
+        }
+    }
+    Ok(())
+}
+
+/// Adds what the configuration of the row's source says, with its files.
+fn put_whole<R: Files>(
+    rt: &R,
+    alloc: Global,
+    row: &Row<'_>,
+    out: &mut Vec<u8>,
+) -> Result<(), NoMemory> {
+    let text = match text_of(rt, alloc, row) {
+        Ok(text) => text,
+        Err(error) => return put_refusal(alloc, &error, out),
+    };
+    match read_whole(rt, alloc, &text) {
+        Ok(config) => put_files(&config, row, out),
+        Err(error) => put_refusal(alloc, &error, out),
+    }
+}
+
+/// Adds what a proxy that runs with the row's old configuration answers to the new one.
+fn put_reloaded<R: Files + AllocGlobal>(
+    rt: &R,
+    alloc: Global,
+    row: &Row<'_>,
+    out: &mut Vec<u8>,
+) -> Result<(), NoMemory> {
+    let old = match read_configuration(alloc, whole(row.get(b"old"))) {
+        Ok(old) => old,
+        Err(error) => return put_refusal(alloc, &error, out),
+    };
+    let source = match source_of(alloc, &arguments_of(alloc, row)?, feed_of(row)) {
+        Ok(source) => source,
+        Err(error) => return put_refusal(alloc, &error, out),
+    };
+    match reload(rt, alloc, &source, &old) {
+        Ok((config, count)) => {
+            put_number(out, b"ok", count)?;
+            put_files(&config, row, out)
+        }
+        Err(answer) if answer.is_empty() => Err(NoMemory),
+        Err(answer) => put_line(out, &answer),
+    }
 }
 
 /// The error that a row names.
@@ -119,7 +198,8 @@ fn put_told(alloc: Global, row: &Row<'_>, out: &mut Vec<u8>) -> Result<(), NoMem
 }
 
 /// Adds the answer to a row of these calls; nothing for another one.
-pub fn put_answer(
+pub fn put_answer<R: Files + AllocGlobal>(
+    rt: &R,
     alloc: Global,
     call: &[u8],
     row: &Row<'_>,
@@ -128,7 +208,11 @@ pub fn put_answer(
     if says(call, b"configuration") {
         put_judged(alloc, feed_of(row), out)
     } else if says(call, b"check") {
-        put_checked(alloc, row, out)
+        put_checked(rt, alloc, row, out)
+    } else if says(call, b"files") {
+        put_whole(rt, alloc, row, out)
+    } else if says(call, b"reload") {
+        put_reloaded(rt, alloc, row, out)
     } else if says(call, b"tell") {
         put_told(alloc, row, out)
     } else if says(call, b"limit") {

@@ -8,6 +8,7 @@ mod outside;
 use crate::exchanges::services::book_of;
 use crate::exchanges::words::{ORIGINS, SERVICES, either, key_of};
 use crate::stage::{Peer, Stage, StageWire, first_word};
+use exchange_report::Why;
 use proxy_config::Config;
 use service_lines::{LendFault, PointBook};
 use shard_effects::Reason;
@@ -67,6 +68,10 @@ pub struct Memory<'a, W, B: Ledgers> {
     /// What becomes of the next leases, and of the next connections to origins.
     lends: &'a [u8],
     dials: &'a [u8],
+    /// Whether the request is a HEAD, why a message was refused last, and how many refusals had a page.
+    is_head: bool,
+    why: Why,
+    pages: u64,
 }
 
 /// The right to a connection of a point's service.
@@ -103,6 +108,9 @@ impl<'a, W: StageWire<'a>, B: Ledgers> Memory<'a, W, B> {
             origins: 0,
             lends: scene.get(b"lends"),
             dials: scene.get(b"dials"),
+            is_head: false,
+            why: Why::UserGone,
+            pages: 0,
         }
     }
 

@@ -157,9 +157,11 @@ impl<K: Work> EventLoop<K> {
         ensures { Does K.Work self.old self.new [] }
     {
         let mut mail = Inboxes::new(inboxes);
-        if let Some(ports) = &mut self.ports
-            && ports.accept(rt, number, &mut mail)
-        {
+        let Some(ports) = &mut self.ports else {
+            return;
+        };
+        ports.renew(rt);
+        if ports.accept(rt, number, &mut mail) {
             self.laid = true;
         }
     }

@@ -1,5 +1,9 @@
 //! What is noted of an exchange over sockets.
 
+ghost use Rattle.std.specs.Prelude.{◌≡◌, Some};
+ghost use Rattle.proxy_config.specs.Pages.{page_of};
+ghost use Rattle.proxy_config.specs.declared.config.Config.{Config as AnyConfig};
+
 use crate::desk::Desk;
 use crate::pausing::{message_end, refusal_end, tell_breaker};
 use crate::shared::Shares;
@@ -26,6 +30,8 @@ impl<S: Shares> Desk<S> {
 }
 
 impl<'r, S: Shares, R: Wait + Dial + Clock, G: Gate> Noting<Spot<'r, R, G>> for Desk<S> {
+    ghost has_page = { λ desk at status page. (config : AnyConfig) × S.config_is desk.shared config × (page_of config.pages status ≡ Some page) };
+
     fn note_request(&mut self, at: &Spot<'r, R, G>, request: &Incoming) {
         self.heed_refresh();
         self.seats.end_wait(at.key);
@@ -73,6 +79,13 @@ impl<'r, S: Shares, R: Wait + Dial + Clock, G: Gate> Noting<Spot<'r, R, G>> for 
         self.reporter
             .refusal(self.shared.tally(), at.key, taken, reason);
         self.tell_refusal(at.rt, at.key, at.now, reason);
+    }
+
+    fn refusal_page(&mut self, at: &Spot<'r, R, G>, status: u16) -> Option<Vec<u8>> {
+        let page = self.shared.config().pages.of(status)?;
+        let thread = self.shared.number();
+        self.reporter
+            .refusal_with(self.alloc, thread, at.key, status, page)
     }
 
     fn note_end(&mut self, at: &Spot<'r, R, G>, user: &UserWire, end: MessageEnd<'_>) {

@@ -10,6 +10,7 @@ use crate::exchanges::words::{either, end_name};
 use crate::stage::StageWire;
 use adapt_sides::ClientFault;
 use exchange_core::Dialing;
+use exchange_report::{Why, page_refusal};
 use http_side::NextServer;
 use options_book::Record;
 use plan_rules::Limits;
@@ -230,8 +231,22 @@ impl<'a, W: StageWire<'a>, B: Ledgers> UserEnd for Memory<'a, W, B> {
     }
 }
 
+/// The key of a row that says the page of a status.
+fn page_key(status: u16) -> &'static [u8] {
+    match status {
+        400 => b"page-400",
+        501 => b"page-501",
+        502 => b"page-502",
+        503 => b"page-503",
+        _ => b"page-504",
+    }
+}
+
 impl<'a, W: StageWire<'a>, B: Ledgers> Noting<Moment> for Memory<'a, W, B> {
-    fn note_request(&mut self, _at: &Moment, _request: &Incoming) {
+    fn note_request(&mut self, _at: &Moment, request: &Incoming) {
+        if let Some(head) = request.user_head() {
+            self.is_head = head.method() == b"HEAD".as_slice();
+        }
         self.stage.ask();
         self.stage.note(b"has the request");
     }
@@ -270,12 +285,26 @@ impl<'a, W: StageWire<'a>, B: Ledgers> Noting<Moment> for Memory<'a, W, B> {
         message: Option<&Incoming>,
         reason: Reason,
     ) {
+        self.why = Why::Failed(reason);
         self.stage.note_all(&[b"refuses: ", reason.word(), b"\n"]);
         if let Some(message) = message {
             let (method, target) = request_line(message.raw());
             if !method.is_empty() {
+                self.is_head = method == b"HEAD".as_slice();
                 self.stage.note_all(&[b"of ", method, b" ", target, b"\n"]);
             }
+        }
+    }
+
+    fn refusal_page(&mut self, _at: &Moment, status: u16) -> Option<Vec<u8>> {
+        let page = self.scene.get(page_key(status));
+        if page.is_empty() {
+            return None;
+        }
+        self.pages = self.pages.saturating_add(1);
+        match page_refusal(self.alloc, status, page, self.why, self.pages, self.is_head) {
+            Ok(text) => Some(text),
+            Err(AllocError) => None,
         }
     }
 

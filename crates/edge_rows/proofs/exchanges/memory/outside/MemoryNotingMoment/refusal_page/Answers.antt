@@ -1,0 +1,8 @@
+use Rattle.edge_rows.proofs.exchanges.memory.outside.MemoryNotingMoment.refusal_page.Goals as goal
+
+pub returns-in-Ok : goal.returns-in-Ok
+returns-in-Ok g c = (
+  c.get-page.result.now,
+  tt,
+  (c.args.self.now.why, c.saturating_add-self.result, c.args.self.now.is_head, c.in-Ok.ensures),
+)
