@@ -1,7 +1,15 @@
 # Completion of `adaptproxy` and `icapd` for bash.
 _adaptproxy() {
-  local words="book capacity drain refresh reopen stats stop"
-  if [ "$COMP_CWORD" -eq 2 ] && [ "${COMP_WORDS[1]}" = tell ]; then
+  local words="book capacity drain refresh reload reopen stats stop" word=2
+  [ "${COMP_WORDS[2]}" != --config ] || word=4
+  # The path behind --config is left to the shell.
+  case ${1##*/}:${COMP_WORDS[1]} in
+    adaptproxy:serve | adaptproxy:check) words= ;;
+    adaptproxy:tell) ;;
+    *) word=0 ;;
+  esac
+  if [ "$COMP_CWORD" -ge 2 ] && [ "$COMP_CWORD" -eq "$word" ]; then
+    [ "$word" -eq 4 ] || words="--config $words"
     # shellcheck disable=SC2207
     COMPREPLY=($(compgen -W "$words" -- "$2"))
   fi

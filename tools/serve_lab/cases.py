@@ -4,11 +4,12 @@ import contextlib
 import os
 import shutil
 import subprocess
+import tempfile
 import threading
 import time
 
 from serve_lab.lines import Lines, wanted_rows, wrong_counts
-from serve_lab.loopback import KEPT, PATIENCE, TOP, Icap, Origin, Program, Proxy, User, free_port
+from serve_lab.loopback import KEPT, PATIENCE, TOP, Icap, Origin, Program, Proxy, User, free_port, write
 
 ADAPTPROXY = os.environ.get("ADAPTPROXY", os.path.join(TOP, "bin", "adaptproxy"))
 ICAPD = os.environ.get("ICAPD", os.path.join(TOP, "bin", "icapd"))
@@ -45,6 +46,23 @@ def same(what, found, wanted):
         raise AssertionError("%s: found %s, wanted %s" % (what, short(found), short(wanted)))
 
 
+class Folder:
+    """A folder for the files of a case."""
+
+    def __init__(self):
+        self.folder = tempfile.TemporaryDirectory()
+
+    def path(self, name):
+        return os.path.join(self.folder.name, name)
+
+    def write(self, name, text):
+        """The path of a file of this text."""
+        return write(self.path(name), text)
+
+    def close(self):
+        self.folder.cleanup()
+
+
 class Bench:
     """An origin, icapd, and a proxy: all that a case makes is ended after it."""
 
@@ -68,11 +86,14 @@ class Bench:
         same("icapd", program.first, b"listening\n")
         return port
 
-    def proxy(self, origin, text="", services=(), hosts="", descriptors=None, logged=LOGGED, before=()):
-        if KEPT and "keep_origins" not in text:
-            text = "keep_origins = 64\n" + text
+    def folder(self):
+        return self.keep(Folder())
+
+    def proxy(self, origin, text="", services=(), hosts="", descriptors=None, logged=LOGGED, before=(), config=None):
+        always = "keep_origins = 64\n" if KEPT and "keep_origins" not in text else ""
         lines = Lines() if logged and "log =" not in text else None
-        proxy = self.keep(Proxy(ADAPTPROXY, origin.port, (lines.key if lines else "") + text, services, hosts, descriptors, before))
+        always += lines.key if lines else ""
+        proxy = self.keep(Proxy(ADAPTPROXY, origin.port, text, services, hosts, descriptors, before, config, always))
         if lines:
             self.logs.append((proxy, lines))
         return proxy

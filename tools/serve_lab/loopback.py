@@ -24,6 +24,14 @@ def body_of(count):
     return (text * (count // len(text) + 1))[:count]
 
 
+def write(path, text):
+    """Has a file say this, from one moment to the next: whoever reads it meanwhile has the old text or the new one."""
+    with open(path + ".new", "wb") as out:
+        out.write(text if isinstance(text, bytes) else text.encode())
+    os.replace(path + ".new", path)
+    return path
+
+
 def free_port():
     """A port that nobody listens on, and that the system gives to no connection of its own accord: those lie above 32,767."""
     while True:
@@ -382,16 +390,20 @@ class Icap(Server):
 
 
 class Program:
-    """A program that serves until it is ended, its configuration on standard input; `before` is the command that runs it, and
-    `handed` a listening socket that is handed over as systemd does."""
+    """A program that serves until it is ended, its configuration on standard input, or in the file `config` where one is named; `before`
+    is the command that runs it, and `handed` a listening socket that is handed over as systemd does."""
 
-    def __init__(self, path, text, descriptors=None, before=(), handed=None):
+    def __init__(self, path, text, descriptors=None, before=(), handed=None, config=None):
         limit = list(before) + ([] if descriptors is None else ["prlimit", "--nofile=%d" % descriptors])
+        words = [path, "serve"]
+        if config:
+            write(config, text)
+            words += ["--config", config]
         if handed:
             limit += ["bash", "-c", 'exec env LISTEN_FDS=1 LISTEN_PID=$$ "$0" "$@" 3<&%d' % handed.fileno()]
-        self.process = subprocess.Popen(limit + [path, "serve"], stdin=subprocess.PIPE, stdout=subprocess.PIPE,
-                                        stderr=subprocess.PIPE, pass_fds=[handed.fileno()] if handed else [])
-        self.process.stdin.write(text.encode())
+        self.process = subprocess.Popen(limit + words, stdin=subprocess.PIPE, stdout=subprocess.PIPE, stderr=subprocess.PIPE,
+                                        pass_fds=[handed.fileno()] if handed else [])
+        self.process.stdin.write(b"" if config else text.encode())
         self.process.stdin.close()
         self.first = self.process.stdout.readline()
 
@@ -427,21 +439,32 @@ class Program:
 
 class Proxy(Program):
     """adaptproxy: `text` is its configuration without its addresses; a service is (point, port, path), and the number of
-    its connections where it isn't the default."""
+    its connections where it isn't the default. `always` are lines of each configuration that it gets, and `config` the file that has
+    it, where it isn't read from standard input."""
 
-    def __init__(self, path, origin, text="", services=(), hosts="", descriptors=None, before=()):
+    def __init__(self, path, origin, text="", services=(), hosts="", descriptors=None, before=(), config=None, always=""):
         self.port, self.admin = free_port(), free_port()
         while self.admin == self.port:
             self.admin = free_port()
         SEEN.pop(self.port, None)
-        lines = 'listen = "127.0.0.1:%d"\nadmin = "127.0.0.1:%d"\n%s\n[hosts]\n"o.test" = "127.0.0.1:%d"\n%s\n' % (
-            self.port, self.admin, text, origin, hosts)
-        for point, port, where, *connections in services:
-            lines += '[%s]\nhost = "127.0.0.1"\nport = %d\npath = "%s"\n' % (point, port, where)
-            lines += "".join("connections = %d\n" % n for n in connections)
-        super().__init__(path, lines, descriptors, before)
+        self.origin, self.services, self.config, self.always = origin, services, config, always
+        super().__init__(path, self.configuration(text, hosts), descriptors, before, config=config)
         if self.first != b"listening\n":
             raise AssertionError("not listening: %r" % (self.ended(),))
+
+    def configuration(self, text="", hosts="", services=None):
+        """The whole of it."""
+        lines = 'listen = "127.0.0.1:%d"\nadmin = "127.0.0.1:%d"\n%s%s\n[hosts]\n"o.test" = "127.0.0.1:%d"\n%s\n' % (
+            self.port, self.admin, self.always, text, self.origin, hosts)
+        for point, port, where, *connections in self.services if services is None else services:
+            lines += '[%s]\nhost = "127.0.0.1"\nport = %d\npath = "%s"\n' % (point, port, where)
+            lines += "".join("connections = %d\n" % n for n in connections)
+        return lines
+
+    def reload(self, text="", hosts="", services=None):
+        """Has its file say this, and be read again: the answer."""
+        write(self.config, self.configuration(text, hosts, services))
+        return self.say("reload")
 
     def say(self, *lines, patience=PATIENCE):
         """The answers of the admin port to these lines."""

@@ -201,7 +201,8 @@ def programs_say_what_they_are(bench):
     kit = subprocess.run(["rt", "version"], stdout=subprocess.PIPE, check=True).stdout.strip()
     for program, name in ((ADAPTPROXY, b"adaptproxy"), (ICAPD, b"icapd")):
         out, errors, status = run(program, "--help")
-        same("help", (all(line.startswith(name + b" ") for line in out.splitlines()), errors, status), (True, b"", 0))
+        # The commands, a line each; what is said of all of them stands below.
+        same("help", (all(line.startswith(name + b" ") for line in out.split(b"\n\n")[0].splitlines()), errors, status), (True, b"", 0))
         out, errors, status = run(program, "--version")
         same("version", (out.startswith(name + b" 0."), out.endswith(b"(" + kit + b")\n"), errors, status), (True, True, b"", 0))
         for word in ("help", "-h", "--Help", "Check", ""):

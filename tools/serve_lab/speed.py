@@ -75,6 +75,11 @@ end
 SIZES = {"1k": 1024, "64k": 65536, "1m": 1 << 20, "4m": 4 << 20}
 
 
+def processor_time(pid):
+    """Seconds of processor time of a process, to the nanosecond, while it runs."""
+    return time.clock_gettime(~pid << 3 | 2)
+
+
 def children(pid):
     """The process and all below it."""
     found = [pid]
@@ -142,12 +147,12 @@ def delayed_acks():
 
 class Loaded:
     """What a program did under load: requests/s, user and system microseconds a request, the milliseconds within which 99 of 100 and
-    all answers came, and the ACKs that were delayed."""
+    all answers came, the ACKs that were delayed, and how many requests there were."""
     PARTS = ("rate", "user", "system", "slow", "slowest", "delayed")
 
-    def __init__(self, rate, user, system, slow=0.0, slowest=0.0, delayed=0, errors=()):
+    def __init__(self, rate, user, system, slow=0.0, slowest=0.0, delayed=0, errors=(), count=0):
         self.rate, self.user, self.system, self.errors = rate, user, system, list(errors)
-        self.slow, self.slowest, self.delayed = slow, slowest, delayed
+        self.slow, self.slowest, self.delayed, self.count = slow, slowest, delayed, count
         self.cpu = user + system
 
 
@@ -177,9 +182,9 @@ class Lab(Servers):
         text = SQUID + ("" if service is None else (ICAP % service).replace("%", "%%"))
         return port, self.start(["squid", "-N", "-f", self.write("squid.%d.conf" % port, text, port=port)], port)
 
-    def adaptproxy(self, shards, service=None, text=""):
+    def adaptproxy(self, shards, service=None, text="", hosts=""):
         services = [] if service is None else [("respmod",) + service + (1024,)]
-        proxy = Proxy(self.adaptproxy_path, self.origin, "shards = %d\nrows = 1024\n%s" % (shards, text), services)
+        proxy = Proxy(self.adaptproxy_path, self.origin, "shards = %d\nrows = 1024\n%s" % (shards, text), services, hosts)
         self.programs.append(proxy)
         return proxy.port, proxy.process.pid
 
@@ -195,13 +200,13 @@ class Lab(Servers):
         if self.compiled:
             self.compiled.close()
 
-    def load(self, program, path, connections, seconds, closing=False, pause=0):
+    def load(self, program, path, connections, seconds, closing=False, pause=0, script=SCRIPT):
         """wrk's requests for a file, over this many connections, to a program's port; the times are those of its process. Each connection
-        pauses so many milliseconds before each request."""
+        pauses so many milliseconds before each request. `script` may ask for other targets."""
         port, pid = program
         closes = 'wrk.headers["Connection"] = "close"' if closing else ""
         pauses = "delay = function() return %d end" % pause if pause else ""
-        script = self.write("wrk.lua", SCRIPT, origin=self.origin, path=path, closing=closes, pausing=pauses)
+        script = self.write("wrk.lua", script, origin=self.origin, path=path, closing=closes, pausing=pauses)
         before, delayed = times(pid), delayed_acks()
         out = subprocess.run(["wrk", "-t1", "-c%d" % connections, "-d%ds" % seconds, "--latency", "-s", script,
                               "http://127.0.0.1:%d/" % port], capture_output=True, text=True, check=True).stdout
@@ -212,7 +217,7 @@ class Lab(Servers):
         errors = [line.strip() for line in out.splitlines() if "Non-2xx" in line or "Socket errors" in line]
         each = max(count, 1) / 1e6
         return Loaded(count * 1e6 / duration, (after[0] - before[0]) / each, (after[1] - before[1]) / each, within(measured, 0.99) / 1000,
-                      within(measured, 1) / 1000, delayed, errors)
+                      within(measured, 1) / 1000, delayed, errors, count)
 
     def calls(self, program, path, connections, seconds):
         """System calls a request under wrk's load, by their names, as strace counts them."""

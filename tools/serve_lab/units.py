@@ -191,11 +191,11 @@ class Load:
             thread.join(PATIENCE)
 
 
-def asks(port=3128):
+def asks(port=3128, host=b"o.test"):
     """Whether a page comes, in capitals."""
     try:
         user = User(port)
-        answer = user.ask(b"GET http://o.test/bytes/100 HTTP/1.1\r\nHost: o.test\r\n\r\n")
+        answer = user.ask(b"GET http://%s/bytes/100 HTTP/1.1\r\nHost: x\r\n\r\n" % host)
         user.close()
     except OSError:
         return False
@@ -226,17 +226,24 @@ def units_are_confined(system):
     return "systemd-analyze security gives both units at most 1.2"
 
 
-def a_faulty_configuration_changes_nothing(system):
+def a_faulty_configuration_changes_nothing(system, origin):
     process = system.main()
     system.edit(CONFIGURATION, "shards = 2", "shards = 0")
     status, _text = system.run("systemctl", "reload", "adaptproxy")
-    same("a reload that fails", (status, "adaptproxy: config shards" in system.journal()), (1, True))
+    same("a reload that fails", (status, "config shards" in system.journal()), (1, True))
     same("the proxy as it was", (system.main(), asks()), (process, True))
     # A restart goes on with the configuration that ran, and says so; a start from nothing has none.
     before = audits(system)
     system.does("systemctl", "restart", "adaptproxy")
     same("a restart that finds a fault", (system.main() != process, asks(), audits(system)), (True, True, before + 1))
     same("what it says", "the configuration before this one goes on" in system.journal(), True)
+    # Once the file is sound, a reload takes it, though the proxy was started with the copy.
+    system.edit(CONFIGURATION, "shards = 0", "shards = 2")
+    system.edit(CONFIGURATION, "[hosts]\n", '[hosts]\n"p.test" = "127.0.0.1:%d"\n' % origin.port)
+    same("before", asks(host=b"p.test"), False)
+    reloads(system)
+    same("after", asks(host=b"p.test"), True)
+    system.edit(CONFIGURATION, "shards = 2", "shards = 0")
     system.does("systemctl", "stop", "adaptproxy")
     same("a start that finds one", system.run("systemctl", "start", "adaptproxy")[0], 1)
     system.run("systemctl", "stop", "adaptproxy")
@@ -244,23 +251,49 @@ def a_faulty_configuration_changes_nothing(system):
     system.does("systemctl", "start", "adaptproxy")
     system.edit(CONFIGURATION, "shards = 2", "shards = 0")
     until("a page", asks)
-    # Several times: a stop that comes too early, while the unit still reloads, drains nobody.
     before, old = audits(system), 0
     for count, shards in enumerate((3, 4, 5, 3)):
         system.edit(CONFIGURATION, "shards = %d" % old, "shards = %d" % shards)
-        reloads(system)
+        status, _text = system.run("systemctl", "reload", "adaptproxy")
+        same("a key that needs a start", (status, "restart shards" in system.journal(), audits(system)), (1, True, before + count))
+        restarts(system)
         same("its audit, and a page", (audits(system), asks()), (before + count + 1, True))
         old = shards
     return "a reload refuses a faulty configuration, a restart goes on with the one before, and a reload takes a sound one"
 
 
+def a_reload_is_not_seen(system, origin):
+    """Names, pages and a deadline that change under load, in one process; a stop finds its port afterwards."""
+    load, process = Load(40), system.main()
+    for number in range(10):
+        system.write("/etc/adaptproxy/hosts", "127.0.0.1 q%d.test\n" % number)
+        if number == 0:
+            system.edit(CONFIGURATION, "# hosts_file = ", "hosts_file = ")
+        system.edit(CONFIGURATION, "\ndeadline = %d" % (60 + number), "\ndeadline = %d" % (61 + number))
+        reloads(system)
+        same("a name of the file", asks(host=b"q%d.test:%d" % (number, origin.port)), True)
+        time.sleep(0.2)
+    load.end()
+    same("errors, and the process", (load.errors, system.main()), ([], process))
+    system.edit(CONFIGURATION, "\nhosts_file = ", "\n# hosts_file = ")
+    os.remove(system.path("/etc/adaptproxy/hosts"))
+    reloads(system)
+    same("no name of the file any more", asks(host=b"q9.test:%d" % origin.port), False)
+    return "ten reloads under load: %d answers, no error, the slowest in %.2f s" % (len(load.times), max(load.times))
+
+
 def reloads(system):
-    """Has another process take the configuration, and waits until it has begun: systemd forgets a reload that comes in the midst of a
-    start."""
+    """Has the process take the configuration: it goes on."""
     process = system.main()
     system.does("systemctl", "reload", "adaptproxy")
-    until("another process", lambda: system.main() not in (process, "0"))
-    until("the end of its start", lambda: system.run("systemctl", "is-active", "adaptproxy")[1] == "active\n")
+    same("the process", system.main(), process)
+
+
+def restarts(system):
+    """Has another process take the configuration."""
+    process = system.main()
+    system.does("systemctl", "restart", "adaptproxy")
+    same("another process", system.main() not in (process, "0"), True)
 
 
 def audits(system):
@@ -307,7 +340,7 @@ def a_second_process_takes_the_place(system):
     load = Load(40)
     time.sleep(1)
     for (old, path), (new, _) in (both, both[::-1], both, both[::-1]):
-        system.shell("systemctl start %s; adaptproxy tell drain < %s" % (new, path))
+        system.shell("systemctl start %s; adaptproxy tell --config %s drain" % (new, path))
         until("the end of " + old, lambda: system.main(old) == "0")
         same("the other one", system.run("systemctl", "is-active", new)[1], "active\n")
     load.end()
@@ -357,7 +390,7 @@ def an_upgrade_finds_a_fault(system, package):
     same("what the package says", "proxy.toml has a fault: the services go on with the old programs" in said, True)
     same("the processes, and a page", ([system.main(unit) for unit in ("adaptproxy", "icapd")], asks()), (processes, True))
     system.edit(CONFIGURATION, "shards = 0", "shards = 2")
-    reloads(system)
+    restarts(system)
     until("a page", asks)
     return "an upgrade where a configuration has a fault leaves the old programs running"
 
@@ -384,7 +417,7 @@ def a_virus_is_blocked(system):
         by_icapd = file.read()
     for path in ("/reqmod/stamp", "/respmod/upper"):
         system.edit(CONFIGURATION, path, "/virus_scan")
-    reloads(system)
+    restarts(system)
 
     def get(path, method=b"GET", body=b""):
         try:
@@ -403,7 +436,7 @@ def a_virus_is_blocked(system):
     same("what was found", " found=Eicar-Test-Signature" in line, True)
     system.write(CONFIGURATION, by_icapd)
     system.shell("systemctl stop c-icap clamav-daemon; systemctl start icapd")
-    reloads(system)
+    restarts(system)
     until("a page by icapd", asks)
     return "a virus is blocked with a page of c-icap's, down and up: " + line.split(" ", 3)[3]
 
@@ -412,7 +445,7 @@ def prometheus_scrapes(system):
     if not system.has("/usr/bin/prometheus"):
         return "left out: Prometheus: SYSTEM has none"
     system.edit(CONFIGURATION, "# metrics = ", "metrics = ")
-    reloads(system)
+    restarts(system)
     system.write("/etc/prometheus/prometheus.yml", PROMETHEUS)
     system.does("systemctl", "restart", "prometheus")
 
@@ -445,8 +478,8 @@ def main():
         inside = ["/root/" + os.path.basename(file) for file in (package, newer)]
         origin = Files()
         for case in (lambda: units_start(system, inside[0], origin), lambda: logs_are_private(system),
-                     lambda: units_are_confined(system), lambda: a_faulty_configuration_changes_nothing(system),
-                     lambda: a_stop_finds_its_port(system), lambda: instances_have_their_own_files(system),
+                     lambda: units_are_confined(system), lambda: a_faulty_configuration_changes_nothing(system, origin),
+                     lambda: a_reload_is_not_seen(system, origin), lambda: a_stop_finds_its_port(system), lambda: instances_have_their_own_files(system),
                      lambda: a_second_process_takes_the_place(system), lambda: rotation_is_loud(system),
                      lambda: a_virus_is_blocked(system), lambda: prometheus_scrapes(system),
                      lambda: an_upgrade_is_not_seen(system, inside[1]), lambda: an_upgrade_finds_a_fault(system, inside[0]),

@@ -1,0 +1,196 @@
+"""A hosts file (`hosts_file`): names and addresses in the form of hosts(5), read at the start and at `reload`."""
+import os
+import subprocess
+import threading
+import time
+
+from serve_lab.cases import ADAPTPROXY, IDLE, case, get, is_refused, needs, same
+from serve_lab.loopback import Program, Reader, Server, User, ask, body_of, fields_of, free_port
+from serve_lab.operators import Log, stats, waits_beside
+from serve_lab.parents import Parent, to
+
+
+class Where(Server):
+    """An origin on each address of the loopback, or on one: it answers with the address that it was asked at."""
+
+    def __init__(self, address="0.0.0.0", port=0):
+        super().__init__(self.serve_on, address, port)
+
+    def serve_on(self, conn, _number):
+        reader, body = Reader(conn), conn.getsockname()[0].encode()
+        while True:
+            closes = fields_of(reader.head()).get("connection", "").lower() == "close"
+            conn.sendall(b"HTTP/1.1 200 OK\r\nContent-Length: %d\r\n\r\n%s" % (len(body), body))
+            if closes:
+                return
+
+
+def key(path):
+    return 'hosts_file = "%s"\n' % path
+
+
+def found_at(proxy, name, port):
+    """The address at which the origin of this name was asked; None where the name isn't known."""
+    user = User(proxy.port)
+    answer = user.ask(to("%s:%d" % (name, port), "/"))
+    user.close()
+    same(name, answer.status in (200, 502), True)
+    return answer.body.decode() if answer.status == 200 else None
+
+
+# In the form of hosts(5), and what it names.
+FORM = """# a comment
+127.0.1.1 a.test
+127.0.1.2\tb.test   c.test\td.test  # and another one
+
+  127.0.1.3 \t E.Test f.test#g.test
+::1 localhost ip6-localhost
+fe80::1%eth0 h.test
+#127.0.1.4 i.test
+127.0.1.5 o.test
+127.0.1.6 last.test"""
+NAMED = {"a.test": "127.0.1.1", "b.test": "127.0.1.2", "c.test": "127.0.1.2", "d.test": "127.0.1.2", "e.test": "127.0.1.3",
+         "F.TEST": "127.0.1.3", "last.test": "127.0.1.6"}
+NOT_NAMED = ("g.test", "h.test", "i.test", "ip6-localhost", "another", "and", "a", "test", "a.test.")
+
+
+@case
+def a_hosts_file_names_hosts(bench):
+    """By its form alone; a name of `[hosts]` goes before that of the file."""
+    where, origin, folder = bench.keep(Where()), bench.origin(), bench.folder()
+    proxy = bench.proxy(origin, key(folder.write("hosts", FORM)))
+    for name, address in NAMED.items():
+        same(name, found_at(proxy, name, where.port), address)
+    for name in NOT_NAMED:
+        same(name, found_at(proxy, name, where.port), None)
+    same("a name of the table", ask(proxy.port, get("/bytes/5")).body, body_of(5))
+    same("audit", proxy.stop(), IDLE)
+
+
+@case
+def a_name_of_a_hosts_file_has_port_80(bench):
+    """And that of the target, where it has one."""
+    needs("root, who may listen on port 80", os.geteuid() == 0)
+    bench.keep(Where("127.0.91.80", 80))
+    where, folder = bench.keep(Where()), bench.folder()
+    proxy = bench.proxy(bench.origin(), key(folder.write("hosts", "127.0.91.80 a.test\n")))
+    for target in ("a.test", "a.test:80", "a.test:%d" % where.port):
+        same(target, ask(proxy.port, to(target, "/")).body, b"127.0.91.80")
+    same("audit", proxy.stop(), IDLE)
+
+
+@case
+def a_hosts_file_stands_beside_a_parent_and_denied_networks(bench):
+    """What it names goes straight, and what it doesn't to the parent; nothing goes to a denied address that it names."""
+    where, parent, folder, log = bench.keep(Where()), bench.keep(Parent()), bench.folder(), bench.keep(Log())
+    path = folder.write("hosts", "127.0.1.1 a.test\n127.0.9.4 b.test\n")
+    proxy = bench.proxy(bench.origin(), log.key + key(path) + 'denied = ["127.0.9.0/24"]\nshards = 1\n', hosts=parent.table())
+    same("named", found_at(proxy, "a.test", where.port), "127.0.1.1")
+    same("its line", log.next()[0][8:13:4], ("HIER_DIRECT/127.0.1.1", "-"))
+    same("not named", ask(proxy.port, to("z.test", "/name")).body, b"z.test")
+    same("its line", log.next()[0][8:13:4], ("FIRSTUP_PARENT/127.0.0.1", "-"))
+    is_refused("denied", proxy.port, to("b.test:%d" % where.port, "/"), 502)
+    same("its line", log.next()[0][8:13:4], ("HIER_NONE/-", "denied"))
+    same("what the parent was asked", len(parent.heads), 1)
+    same("audit", proxy.stop(), IDLE)
+
+
+# Files with a fault, and its line.
+FAULTY = [("x", 1), ("127.0.0.1\n", 1), ("127.0.0.1 # a.test\n", 1), ("127.0.0.1 a.test\n127.0.0.256 b.test\n", 2),
+          ("# 1\n\n127.0.0 a.test\n", 3), ("127.0.0.1 a.test\na.test 127.0.0.1\n127.0.0.1\n", 2)]
+
+
+def said(words, text):
+    """What a program of these words says first on standard error, and its status."""
+    ended = subprocess.run([ADAPTPROXY] + words, input=text.encode(), capture_output=True, timeout=60)
+    return ended.stderr.split(b"\n")[0].decode(), ended.returncode, ended.stdout
+
+
+@case
+def a_hosts_file_with_a_fault_is_named_by_its_line(bench):
+    """By `serve` and `check`, and nothing listens; so where it can't be opened."""
+    folder = bench.folder()
+    least = 'listen = "127.0.0.1:%d"\nadmin = "127.0.0.1:%d"\n' % (free_port(), free_port())
+    rows = [(key(folder.write("hosts%d" % place, text)), "config hosts_file line %d" % line) for place, (text, line) in enumerate(FAULTY)]
+    os.mkdir(folder.path("folder"))
+    rows += [(key(folder.path(name)), "config hosts_file") for name in ("none", "folder")] + [
+        ('hosts_file = ""', "config hosts_file"), ("hosts_file = 1", "config hosts_file"),
+        ('hosts_file = "a\\u0000b"', "config hosts_file"), ('hosts_file = "%s"' % ("x" * 4097), "config hosts_file")]
+    for text, error in rows:
+        same(text, said(["check"], least + text), ("adaptproxy: " + error, 2, b""))
+        program = bench.keep(Program(ADAPTPROXY, least + text))
+        same(text, (program.first,) + program.ended(), (b"", b"", b"adaptproxy: %s\n" % error.encode(), 2))
+    sound = key(folder.write("sound", FORM))
+    same("a sound one", said(["check"], least + sound)[1:], (0, b"ok\n"))
+
+
+@case
+def a_reload_reads_the_hosts_file_again(bench):
+    """Whether the configuration came by standard input or is a file. A faulty file, or one that isn't there, leaves the names as they were."""
+    where, origin = bench.keep(Where()), bench.origin()
+    for named in (False, True):
+        folder = bench.folder()
+        path = folder.write("hosts", "127.0.1.1 a.test\n")
+        proxy = bench.proxy(origin, key(path), config=folder.path("proxy.toml") if named else None)
+
+        def names():
+            return [found_at(proxy, name, where.port) for name in ("a.test", "b.test")]
+        same("at first", names(), ["127.0.1.1", None])
+        user = User(proxy.port)
+        same("on a kept connection", user.ask(to("a.test:%d" % where.port, "/")).body, b"127.0.1.1")
+        folder.write("hosts", "127.0.1.7 a.test\n127.0.1.8 b.test c.test\n")
+        same("not yet", names(), ["127.0.1.1", None])
+        same("reload", proxy.say("reload"), "ok 3")
+        same("now", names(), ["127.0.1.7", "127.0.1.8"])
+        same("on a kept connection", user.ask(to("a.test:%d" % where.port, "/")).body, b"127.0.1.7")
+        for text, line in FAULTY:
+            folder.write("hosts", text)
+            same("a fault", proxy.say("reload"), "bad line %d" % line)
+        os.remove(path)
+        same("no file", proxy.say("reload"), "cannot open")
+        same("as before", names(), ["127.0.1.7", "127.0.1.8"])
+        folder.write("hosts", "# nothing\n")
+        same("reload", proxy.say("reload"), "ok 0")
+        same("none", names(), [None, None])
+        same("the table", ask(proxy.port, get("/bytes/5")).body, body_of(5))
+        user.close()
+        same("audit", proxy.stop(), IDLE)
+
+
+MANY = 100_000
+
+
+@case
+def a_hundred_thousand_names_are_read_in_a_second(bench):
+    """And no user waits for them: the longest request meanwhile lasts for a small part of that time. A machine with much else to do may
+    let one wait for its processor, so it is tried until that doesn't happen."""
+    where, folder, origin = bench.keep(Where()), bench.folder(), bench.origin()
+
+    def text(third):
+        return "".join("127.%d.%d.%d host%d.school.test\n" % (third, n >> 8 & 255, n & 255, n) for n in range(MANY))
+    begun = time.time()
+    proxy = bench.proxy(origin, key(folder.write("hosts", text(1))) + "shards = 1\n")
+    started, user, best, parts = time.time() - begun, User(proxy.port), None, []
+    for third in range(2, 12):
+        folder.write("hosts", text(third))
+        answers = []
+        asker = threading.Thread(target=lambda: answers.append(proxy.say("reload")))
+        begun = time.time()
+        asker.start()
+        waits = waits_beside(proxy, user, lambda: not asker.is_alive())
+        passed = time.time() - begun
+        same("reload", answers, ["ok %d" % MANY])
+        best = passed if best is None else min(best, passed)
+        parts.append(max(waits) / passed)
+        if best < 1 and min(parts) < 0.25:
+            break
+    print("      %d names: listening after %.2f s, read again in %.2f s; the longest request meanwhile: %.3f of that time" % (
+        MANY, started, best, min(parts)))
+    same("within a second", best < 1, True)
+    same("the longest request", min(parts) < 0.25, True)
+    for n in (0, 1, 49_999, MANY - 1):
+        same("name %d" % n, found_at(proxy, "host%d.school.test" % n, where.port), "127.%d.%d.%d" % (third, n >> 8 & 255, n & 255))
+    same("none", found_at(proxy, "host%d.school.test" % MANY, where.port), None)
+    same("users", stats(proxy)["adaptproxy_users"] >= 1, True)
+    user.close()
+    same("audit", proxy.stop(), IDLE)
