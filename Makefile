@@ -4,7 +4,7 @@
 SCRIPT ?= whole_body_without_allow
 PREFIX ?= /usr/local
 
-.PHONY: help build serve stop install try-serve bench-serve trace check ci gate-cost must-fail wrong-bodies fmt bench-chunks bench-heads bench-exchange bench-turns bench-bank refuse-allocations icapd bench-icapd
+.PHONY: help build serve stop install try-serve bench-serve trace check ci gate-cost must-fail wrong-bodies fmt bench-chunks bench-heads bench-bank refuse-allocations icapd bench-icapd
 
 help: ## lists the targets
 	@grep -E '^[a-z-]+:.*##' Makefile | sed 's/:.*## /	/'
@@ -78,14 +78,6 @@ bench-chunks: ## chunked bodies: seconds and MB/s for 1 GiB
 bench-heads: ## heads: nanoseconds to read an HTTP request and write two, and to read ICAP responses, beside the parser alone
 	@tools/prove_programs layer_bench
 	@bin/layer_bench heads 200000
-
-bench-exchange: ## a whole exchange with a service over memory wires: nanoseconds, and calls of its wire
-	@tools/prove_programs layer_bench
-	@bin/layer_bench exchange 200000
-
-bench-turns: ## a whole exchange by a transaction's turns over memory wires: nanoseconds, a transaction's bytes, and calls of its wires
-	@tools/prove_programs layer_bench
-	@bin/layer_bench turns 20000
 
 bench-bank: ## the buffer budget: nanoseconds for a pair of calls, for turns of 4,096 bytes on tapes, and four threads' rounds
 	@tools/prove_programs layer_bench

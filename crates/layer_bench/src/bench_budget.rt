@@ -2,29 +2,14 @@
 ghost use Rattle.std.specs.Prelude.{◌≤◌};
 
 use crate::budget::{time_pairs, time_tape};
-use crate::exchange::time_exchanges;
-use crate::offered::subject;
 use crate::threads::rounds_of_one;
-use crate::turns::{Taken, one, wires};
 use anyhow::Result;
 use span_bank::{Bank, Ledgers, OpenFault};
-use std::alloc::Global;
-use std::io;
 use std::sync::Wait;
 use std::time::{Clock, Duration};
-use turn_stage::{begin, game_size};
 
 /// A budget, and what is measured on it. What measures doesn't see its ledgers.
 pub trait BenchBudget {
-    /// What the turns of an exchange take. `None` if it can't begin. An error if no memory is found.
-    fn one(&self, alloc: Global) -> io::Result<Option<Taken>>;
-
-    /// How large its transaction is, in bytes.
-    fn game_size(&self) -> usize;
-
-    /// Prints how long an exchange without a transaction takes.
-    fn time_exchanges(&self, alloc: Global, times: u32) -> Result<()>;
-
     /// How long the rounds of growing and shrinking one reservation took.
     fn time_pairs(&self, rounds: u32) -> Result<Duration>;
 
@@ -43,20 +28,7 @@ pub struct OnBank<'a, B: Ledgers, R> {
     pub bank: &'a Bank<B>,
 }
 
-impl<'a, B: Ledgers, R: Wait + Clock + Print + Eprint> BenchBudget for OnBank<'a, B, R> {
-    fn one(&self, alloc: Global) -> io::Result<Option<Taken>> {
-        let begun = begin(self.rt, alloc, self.bank, &subject(), wires(alloc)?, &[]);
-        one(self.rt, begun?)
-    }
-
-    fn game_size(&self) -> usize {
-        game_size(self.bank)
-    }
-
-    fn time_exchanges(&self, alloc: Global, times: u32) -> Result<()> {
-        time_exchanges(self.rt, alloc, self.bank, times)
-    }
-
+impl<'a, B: Ledgers, R: Wait + Clock> BenchBudget for OnBank<'a, B, R> {
     fn time_pairs(&self, rounds: u32) -> Result<Duration> {
         time_pairs(self.rt, self.bank, rounds)
     }

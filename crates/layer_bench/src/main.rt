@@ -1,4 +1,4 @@
-//! Measures the layers: chunked bodies, heads, an exchange with a service, a transaction's turns, and the buffer budget.
+//! Measures the layers: chunked bodies, heads, and the buffer budget.
 //!
 //! The arguments are pairs of a word and how often, as `heads 200000`. What was done is printed, and the figures go to standard
 //! error, since they differ from run to run. The status is 1 if an answer is wrong, and 2 for other words.
@@ -10,21 +10,17 @@ mod answers;
 mod bench_budget;
 mod budget;
 mod chunks;
-mod exchange;
 mod heads;
 mod hostile;
-mod offered;
 mod requests;
 mod task;
 mod threads;
-mod turns;
 
 use crate::bench_budget::{BenchBudget, OnBank};
 use crate::budget::time_budget;
 use crate::chunks::time_chunks;
 use crate::heads::time_heads;
 use crate::task::{Layer, Task, read_tasks};
-use crate::turns::time_turns;
 use anyhow::{Result, bail};
 use span_bank::{Bank, Blanks, Ledgers};
 use std::alloc::Global;
@@ -53,8 +49,6 @@ fn measure<P: BenchBudget + Sync, R: Threads + Clock + Print + Eprint + Sync>(
     match task.layer {
         Layer::Chunks => time_chunks(rt, alloc, task.times),
         Layer::Heads => time_heads(rt, alloc, task.times),
-        Layer::Exchange => budget.time_exchanges(alloc, task.times),
-        Layer::Turns => time_turns(rt, alloc, budget, task.times),
         Layer::Bank => time_budget(rt, alloc, budget, task.times),
     }
 }
@@ -113,7 +107,7 @@ fn run<
 
 fn main(rt: HostRuntime) -> Result<ExitCode> {
     let Some(tasks) = read_tasks(&rt, rt.alloc())? else {
-        eprintln!(rt; "usage: layer_bench {{chunks|heads|exchange|turns|bank}} COUNT ..")?;
+        eprintln!(rt; "usage: layer_bench {{chunks|heads|bank}} COUNT ..")?;
         return Ok(ExitCode::from(2));
     };
     let blanks = Blanks::new(5);

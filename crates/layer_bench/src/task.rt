@@ -13,10 +13,6 @@ pub enum Layer {
     Chunks,
     /// Heads.
     Heads,
-    /// Exchanges with a service.
-    Exchange,
-    /// Exchanges by a transaction's turns.
-    Turns,
     /// The buffer budget, in rounds.
     Bank,
 }
@@ -34,8 +30,6 @@ fn layer_of(word: &str) -> Option<Layer> {
     match word {
         "chunks" => Some(Layer::Chunks),
         "heads" => Some(Layer::Heads),
-        "exchange" => Some(Layer::Exchange),
-        "turns" => Some(Layer::Turns),
         "bank" => Some(Layer::Bank),
         _ => None,
     }

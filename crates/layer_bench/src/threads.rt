@@ -3,8 +3,8 @@ use crate::bench_budget::BenchBudget;
 use crate::budget::PIECE;
 use span_bank::{Bank, Ledgers, OpenFault, Pages};
 use std::sync::Wait;
+use std::thread;
 use std::thread::Threads;
-use turn_stage::{Task, four};
 
 /// Makes a reservation, holds all of it, lets it go and ends it, again and again.
 pub fn rounds_of_one<B: Ledgers>(
@@ -21,19 +21,18 @@ pub fn rounds_of_one<B: Ledgers>(
     Ok(())
 }
 
-/// The rounds of a thread.
-#[derive(Drop)]
-struct Rounds<'a, P> {
-    budget: &'a P,
+/// The rounds of two threads.
+fn rounds_of_two<P: BenchBudget + Sync, R: Threads + Sync>(
+    rt: &R,
+    budget: &P,
     rounds: u32,
-}
-
-impl<'a, P: BenchBudget> Task for Rounds<'a, P> {
-    type Kept = Result<(), OpenFault>;
-
-    fn run(&self) -> Result<(), OpenFault> {
-        self.budget.rounds_of_one(self.rounds)
-    }
+) -> Result<(), OpenFault> {
+    let (first, second) = thread::join(
+        rt,
+        move || budget.rounds_of_one(rounds),
+        move || budget.rounds_of_one(rounds),
+    );
+    first.and(second)
 }
 
 /// The rounds of four threads.
@@ -42,6 +41,10 @@ pub fn rounds_of_four<P: BenchBudget + Sync, R: Threads + Sync>(
     budget: &P,
     rounds: u32,
 ) -> Result<(), OpenFault> {
-    let ((first, second), (third, fourth)) = four(rt, &Rounds { budget, rounds });
-    first.and(second).and(third).and(fourth)
+    let (first, second) = thread::join(
+        rt,
+        move || rounds_of_two(rt, budget, rounds),
+        move || rounds_of_two(rt, budget, rounds),
+    );
+    first.and(second)
 }

@@ -1,4 +1,4 @@
-//! The stage of a transaction of the proxy's own sides, for its rows and its benchmark: it begins on a budget over any wires, is played
+//! The stage of a transaction of the proxy's own sides, for its rows: it begins on a budget over any wires, is played
 //! turn by turn and ended, and says then how it ended and what went over its wires.
 #![tactic(auto)]
 
