@@ -16,8 +16,7 @@ use std::alloc::Global;
 use std::io;
 use std::rt::Files;
 use std::sync::Wait;
-use test_rows::{Driver, NoMemory, Row, call_of, judge_files};
-use wire_rows::{Player, Scene, Values, put_runs};
+use test_rows::{Driver, NoMemory, Player, Row, Scene, Values, call_of, judge_files, put_runs};
 
 /// What runs the calls of the rows. A row without a call is an exchange to be played.
 #[derive(Drop)]

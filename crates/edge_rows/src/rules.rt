@@ -10,8 +10,7 @@ mod services;
 mod targets;
 
 use std::alloc::Global;
-use test_rows::NoMemory;
-use wire_rows::Scene;
+use test_rows::{NoMemory, Scene};
 
 /// Adds the answer to a row of these calls; nothing for another one.
 pub fn put_answer(alloc: Global, scene: Scene<'_>, out: &mut Vec<u8>) -> Result<(), NoMemory> {

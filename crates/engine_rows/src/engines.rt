@@ -15,8 +15,7 @@ mod wires;
 use std::alloc::Global;
 use std::sync::Wait;
 use std::time::Clock;
-use test_rows::NoMemory;
-use wire_rows::{Scene, Values, index_of};
+use test_rows::{NoMemory, Scene, Values, index_of};
 
 /// The calls of rows that need no pages, in the order of `put_run`.
 const CALLS: &[u8] = b"reply options serve feed lines service settings wire shared gate";

@@ -16,8 +16,7 @@ use std::io;
 use std::sync::Wait;
 use std::thread::Threads;
 use std::time::Clock;
-use test_rows::{Driver, NoMemory, Row, judge_files};
-use wire_rows::{Player, Scene, Values, put_runs};
+use test_rows::{Driver, NoMemory, Player, Row, Scene, Values, judge_files, put_runs};
 
 /// What plays a row.
 #[derive(Drop)]

@@ -17,9 +17,8 @@ use std::alloc::Global;
 use std::sync::Wait;
 use std::thread::Threads;
 use std::time::Clock;
-use test_rows::NoMemory;
+use test_rows::{NoMemory, Scene, Values};
 use wire_kit::Answer;
-use wire_rows::{Scene, Values};
 
 /// What two transactions in two threads claim: a window and a window, twice.
 const OF_TWO: u64 = 32_768;

@@ -13,8 +13,7 @@ use std::boxed::Box;
 use std::marker::Brand;
 use std::sync::Wait;
 use std::sync::ledger::Ledger;
-use test_rows::{NoMemory, put_line};
-use wire_rows::{Scene, Values};
+use test_rows::{NoMemory, Scene, Values, put_line};
 
 /// What is left of an exchange, which is over, or was stopped. Its reservation is closed.
 fn left_of<O: RowOutside, R: Wait>(

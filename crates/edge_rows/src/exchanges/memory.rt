@@ -16,9 +16,9 @@ use shard_outside::{Kinds, Outside};
 use span_bank::{Bank, Ledgers};
 use std::alloc::Global;
 use std::net::SocketAddrV4;
+use test_rows::{Scene, Values};
 use trace_core::Point;
 use wire_kit::Wire;
-use wire_rows::{Scene, Values};
 
 /// The moment of a step.
 #[derive(Clone, Copy, Drop)]

@@ -11,7 +11,7 @@ use shard_holdings::Holdings;
 use shard_outside::Outside;
 use std::boxed::Box;
 use std::sync::Wait;
-use wire_rows::{Scene, Values, number, parts};
+use test_rows::{Scene, Values, number_by, parts};
 
 /// The most steps of a row.
 const STEPS: usize = 20_000;
@@ -139,7 +139,7 @@ impl<'a, X: Live> Play<'a, X> {
         let here = name_of(self.live.phase());
         match phase {
             [b'~', phase @ ..] => phase == here && self.waits > 0,
-            phase => phase == here || number(phase, self.values) == Some(step),
+            phase => phase == here || number_by(phase, self.values) == Some(step),
         }
     }
 

@@ -4,8 +4,8 @@ use icap_head::read_response;
 use options_book::read_record;
 use service_lines::PointBook;
 use std::alloc::Global;
+use test_rows::Scene;
 use trace_core::Point;
-use wire_rows::Scene;
 
 /// The moment of a row, in seconds.
 pub const NOW: u64 = 1000;

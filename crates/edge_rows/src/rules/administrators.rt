@@ -1,9 +1,8 @@
 //! What an administrator's lines ask, and how a connection carries them; and requests for the counters over HTTP.
 use event_loop::{AdminInput, Asker, Speech, read_request};
 use std::alloc::Global;
-use test_rows::{NoMemory, put_shown};
+use test_rows::{NoMemory, Scene, Values, put_flag, put_shown, wire};
 use wire_kit::{Answer, MemoryWire};
-use wire_rows::{Scene, Values, put_flag, wire};
 
 /// No letter stands for a number here.
 const VALUES: Values = Values {

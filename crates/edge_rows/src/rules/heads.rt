@@ -5,9 +5,8 @@ use http_relay::SourceSide;
 use http_side::{NextServer, OriginUse, OriginWay};
 use proxy_rules::{HeadMaker, Headed, keeps_user};
 use std::alloc::Global;
-use test_rows::{NoMemory, put_line, put_shown};
+use test_rows::{NoMemory, Scene, history, point_of, put_flag, put_line, put_shown};
 use trace_core::{Cause, Event, Payload, Point, State};
-use wire_rows::{Scene, history, point_of, put_flag};
 
 /// The side of a user with this request, of which the head was read, and its end if it has no body. A user that has said nothing
 /// has an unread head.

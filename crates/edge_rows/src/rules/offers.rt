@@ -7,9 +7,8 @@ use proxy_config::{ServicePoint, read_config};
 use proxy_rules::{Offer, limits_of, request_plan, response_plan};
 use span_tape::SpanTape;
 use std::alloc::Global;
-use test_rows::{NoMemory, put_line, put_shown};
+use test_rows::{NoMemory, Scene, plan_of, put_flag, put_line, put_shown};
 use trace_core::State;
-use wire_rows::{Scene, plan_of, put_flag};
 
 /// The limits of the row's configuration.
 fn limits(alloc: Global, scene: Scene<'_>) -> Option<Limits> {

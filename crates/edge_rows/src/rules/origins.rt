@@ -5,10 +5,9 @@ use http_relay::{HeadProgress, SourceSide};
 use http_side::read_request;
 use proxy_rules::{keeps_origin, may_repeat};
 use std::alloc::Global;
-use test_rows::{NoMemory, put_line, put_number};
+use test_rows::{NoMemory, Scene, put_flag, put_line, put_number};
 use trace_core::Cause;
 use wire_kit::{MemoryWire, ReadAnswer};
-use wire_rows::{Scene, put_flag};
 
 /// The most turns at an answer's head, and then at its body.
 const TURNS: u32 = 8;

@@ -8,8 +8,7 @@ use shard_effects::{
     user_head_reason,
 };
 use span_bank::OpenFault;
-use test_rows::{NoMemory, put_all, put_line, put_number};
-use wire_rows::{Scene, index_of};
+use test_rows::{NoMemory, Scene, index_of, put_all, put_line, put_number};
 
 const HEAD_FAULTS: [HttpFault; 10] = [
     HttpFault::More,

@@ -5,10 +5,9 @@ use options_book::{Record, read_record};
 use proxy_config::{ServicePoint, read_config};
 use proxy_rules::{ask_options, is_reusable_after_options, pool_maximum};
 use std::alloc::Global;
-use test_rows::{NoMemory, put_all, put_line, put_number};
+use test_rows::{NoMemory, Scene, put_all, put_flag, put_line, put_number};
 use trace_core::Point;
 use wire_kit::{MemoryWire, ReadAnswer, Wire, WriteAnswer};
-use wire_rows::{Scene, put_flag};
 
 /// The service of responses that the row configures.
 pub fn service_of(alloc: Global, scene: Scene<'_>) -> Option<ServicePoint> {

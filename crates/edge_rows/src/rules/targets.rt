@@ -5,8 +5,7 @@ use proxy_rules::{
     Unrouted, awaits_continue, interim_continue, is_head_request, origin_of, route_of,
 };
 use std::alloc::Global;
-use test_rows::{NoMemory, put_all, put_line, put_number, put_shown};
-use wire_rows::{Scene, put_flag, put_word};
+use test_rows::{NoMemory, Scene, put_all, put_flag, put_line, put_number, put_shown, put_word};
 
 /// Adds the name and the port of a request's target, and where it goes.
 fn put_origin(out: &mut Vec<u8>, config: &Config, user: &HttpRequest) -> Result<(), NoMemory> {

@@ -5,8 +5,7 @@ use adapt_bytes::behind;
 use std::alloc::Global;
 use std::cell::{Cell, RefCell};
 use std::fmt::Debug;
-use test_rows::{NoMemory, put_all, put_line, put_number, put_shown};
-use wire_rows::{Scene, has_word};
+use test_rows::{NoMemory, Scene, has_word, put_all, put_line, put_number, put_shown};
 
 /// Whose connection it is. Those of origins and of services are numbered in the order in which they are opened.
 #[derive(Clone, Copy, PartialEq, Eq)]

@@ -4,8 +4,8 @@ ghost use Rattle.std.specs.Prelude.{◌≡◌, ◌≤◌, length};
 
 use crate::stage::shared::{Peer, Stage};
 use crate::stage::words::first_word;
+use test_rows::{Scene, Values, has_word, is, number_by};
 use wire_kit::{Got, Put, Wire};
-use wire_rows::{Scene, Values, has_word, is, number};
 
 /// What the other end does.
 #[derive(Clone, Copy)]
@@ -65,7 +65,7 @@ fn named_text<'a>(scene: Scene<'a>, values: Values, word: &'a [u8]) -> &'a [u8] 
     let text = scene.get(parts.next().unwrap_or(b""));
     match parts.next() {
         Some(count) => {
-            let count = number(count, values).unwrap_or(0).min(text.len());
+            let count = number_by(count, values).unwrap_or(0).min(text.len());
             &text[..count]
         }
         None => text,
@@ -84,7 +84,7 @@ fn read_act<'a>(scene: Scene<'a>, values: Values, word: &'a [u8]) -> Act<'a> {
         b"takes" => Act::Takes(usize::MAX),
         [b'<', name @ ..] => Act::Hears(scene.get(name).len()),
         [b't', b'a', b'k', b'e', b's', b'=', count @ ..] => {
-            Act::Takes(number(count, values).unwrap_or(0))
+            Act::Takes(number_by(count, values).unwrap_or(0))
         }
         name => Act::Gives(named_text(scene, values, name)),
     }

@@ -3,8 +3,7 @@
 use crate::stage::shared::{Stage, Taken};
 use crate::stage::words::name_of;
 use exchange_core::Phase;
-use test_rows::{NoMemory, put_decimal, put_escaped, put_line};
-use wire_rows::{Scene, has_word};
+use test_rows::{NoMemory, Scene, has_word, put_decimal, put_escaped, put_line};
 
 /// How bytes begin, in the names of the row's texts.
 #[derive(Clone, Copy)]

@@ -9,10 +9,12 @@ use adapt_sides::{ClientFault, Turn};
 use icap_client::ServiceSide;
 use span_tape::SpanTape;
 use std::alloc::Global;
-use test_rows::{NoMemory, put_line, put_number};
+use test_rows::{
+    NoMemory, Scene, Values, count_after, history, index_of, put_flag, put_line, put_number,
+    put_text, wire,
+};
 use trace_core::{Event, Plan, State};
 use wire_kit::{MemoryWire, Wire};
-use wire_rows::{Scene, Values, count_after, history, index_of, put_flag, put_text, wire};
 
 /// The service's side over its wire, as a row plays it.
 trait PlayedService {

@@ -5,10 +5,12 @@ use crate::engines::relays::{End, is_in_step, step};
 use http_relay::HopWriter;
 use http_side::Framing;
 use std::alloc::Global;
-use test_rows::{NoMemory, put_line, put_shown};
+use test_rows::{
+    NoMemory, Scene, Values, count_after, history, index_of, put_flag, put_line, put_shown,
+    put_text, wire,
+};
 use trace_core::State;
 use wire_kit::MemoryWire;
-use wire_rows::{Scene, Values, count_after, history, index_of, put_flag, put_text, wire};
 
 /// How a body goes: `length=6`, `close`, `chunked`, or not at all.
 fn framing_of(words: &[u8]) -> Framing {

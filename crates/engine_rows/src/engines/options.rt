@@ -5,9 +5,8 @@ use adapt_sides::ClientFault;
 use icap_client::OptionsSide;
 use icap_head::IcapResponse;
 use std::alloc::Global;
-use test_rows::{NoMemory, put_line, put_number};
+use test_rows::{NoMemory, Scene, Values, put_line, put_number, put_text, put_word, wire};
 use wire_kit::{MemoryWire, Wire};
-use wire_rows::{Scene, Values, put_text, put_word, wire};
 
 /// Adds what the answer says: its status, and the field that the row names.
 fn put_answer(

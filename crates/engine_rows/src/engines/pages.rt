@@ -10,8 +10,7 @@ use std::alloc::Global;
 use std::marker::Brand;
 use std::sync::Wait;
 use std::sync::ledger::Ledger;
-use test_rows::{NoMemory, put_line};
-use wire_rows::{Scene, Values, index_of};
+use test_rows::{NoMemory, Scene, Values, index_of, put_line};
 
 /// Adds what a run reports.
 fn put_run(

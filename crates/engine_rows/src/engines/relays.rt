@@ -11,10 +11,9 @@ use http_side::{
 };
 use span_tape::SpanTape;
 use std::alloc::Global;
-use test_rows::{NoMemory, put_line, put_shown};
+use test_rows::{NoMemory, Scene, Values, put_line, put_shown, put_text, wire};
 use trace_core::{Kind, Plan, Point, State};
 use wire_kit::{MemoryWire, Wire};
-use wire_rows::{Scene, Values, put_text, wire};
 
 /// The most turns in a row in which no byte moves: in each an interim response may be dropped, all of which came with one read.
 const MAX_STILL: usize = 40;

@@ -3,10 +3,11 @@
 use adapt_sides::{ClientFault, Turn};
 use icap_client::ReplySide;
 use std::alloc::Global;
-use test_rows::{NoMemory, put_line, put_number, put_shown};
+use test_rows::{
+    NoMemory, Scene, Values, history, put_line, put_number, put_shown, put_text, put_word, wire,
+};
 use trace_core::{Event, State};
 use wire_kit::MemoryWire;
-use wire_rows::{Scene, Values, history, put_text, put_word, wire};
 
 /// The most bytes of the adapted body that a turn may give.
 pub const ROOM: usize = 64;

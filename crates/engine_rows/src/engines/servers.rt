@@ -5,9 +5,8 @@ use icap_head::is_still_front;
 use icap_server::{ServeFault, ServerFault, ServerSide, serve};
 use std::alloc::Global;
 use std::io::{self, ErrorKind, Read, Write};
-use test_rows::{NoMemory, Random, put_line, put_shown};
+use test_rows::{NoMemory, Random, Scene, Values, put_flag, put_line, put_shown, put_text};
 use wire_kit::Answer;
-use wire_rows::{Scene, Values, put_flag, put_text};
 
 /// How a text is cut into pieces.
 #[derive(Clone, Copy)]

@@ -4,8 +4,7 @@ use icap_services::{
     Service, Settings, Status, WholeRequest, answer, is_tag, put_continue, put_error, put_options,
 };
 use std::alloc::Global;
-use test_rows::{NoMemory, put_line};
-use wire_rows::{Scene, index_of, point_of, put_flag, put_word};
+use test_rows::{NoMemory, Scene, index_of, point_of, put_flag, put_line, put_word};
 
 /// What answers say of the server, in all rows.
 pub fn settings(alloc: Global) -> Result<Settings, NoMemory> {

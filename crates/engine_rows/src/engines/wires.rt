@@ -2,9 +2,10 @@
 
 use std::alloc::Global;
 use std::time::Clock;
-use test_rows::{NoMemory, put_number, put_shown};
+use test_rows::{
+    NoMemory, Scene, Values, answers, put_flag, put_number, put_shown, put_text, wire,
+};
 use wire_kit::{Answers, Gate, HoldGate, MemoryWire, OpenGate, SharedWire, Wire};
-use wire_rows::{Scene, Values, answers, put_flag, put_text, wire};
 
 /// Adds what a call of a wire answers: `read`, or the bytes that are offered.
 fn put_call(

@@ -12,8 +12,7 @@ use std::alloc::Global;
 use std::marker::Brand;
 use std::sync::Wait;
 use std::sync::ledger::Ledger;
-use test_rows::{NoMemory, put_line};
-use wire_rows::{Scene, Values, plan_of};
+use test_rows::{NoMemory, Scene, Values, plan_of, put_line};
 
 /// The most bytes of a transaction beside its pages.
 const MOST: usize = 8192;

@@ -6,8 +6,7 @@ use crate::turns::game_budget::GameBudget;
 use crate::turns::steps::ROUND;
 use crate::turns::told::put_ended;
 use adapt_turn::{Side, TurnAnswer};
-use test_rows::{NoMemory, put_line};
-use wire_rows::{plan_of, put_flag};
+use test_rows::{NoMemory, plan_of, put_flag, put_line};
 
 /// Rounds enough for a byte a turn.
 const ROUNDS: usize = 500;

@@ -3,9 +3,8 @@
 use crate::stage::Subject;
 use adapt_turn::Side;
 use std::alloc::Global;
-use test_rows::NoMemory;
+use test_rows::{NoMemory, Scene, Values, put_text};
 use trace_core::Plan;
-use wire_rows::{Scene, Values, put_text};
 
 /// A row's transaction: its plan, the turns that come first, and the values of the row's letters.
 #[derive(Clone, Copy)]

@@ -7,8 +7,7 @@ use crate::turns::threads::drive_to_end;
 use adapt_turn::Outcome;
 use std::thread::Threads;
 use std::time::Clock;
-use test_rows::{NoMemory, put_number};
-use wire_rows::put_flag;
+use test_rows::{NoMemory, put_flag, put_number};
 
 /// How often a thread begins two transactions, the second one while the first one is open.
 const TIMES: usize = 8;

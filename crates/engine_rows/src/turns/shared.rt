@@ -14,8 +14,7 @@ use std::sync::Wait;
 use std::sync::ledger::Ledger;
 use std::thread::Threads;
 use std::time::Clock;
-use test_rows::{NoMemory, put_line};
-use wire_rows::{plan_of, put_flag};
+use test_rows::{NoMemory, plan_of, put_flag, put_line};
 
 /// Adds what two threads report, or four.
 fn put_row<P: SharedBudget + Sync, R: Threads + Sync>(

@@ -4,8 +4,9 @@ use crate::stage::Game;
 use crate::turns::case::Case;
 use adapt_turn::{Side, TurnAnswer};
 use std::alloc::Global;
-use test_rows::{NoMemory, put_line, put_number, put_shown};
-use wire_rows::{Scene, Values, index_of, number, parts};
+use test_rows::{
+    NoMemory, Scene, Values, index_of, number_by, parts, put_line, put_number, put_shown,
+};
 
 /// Turns of each side.
 pub const ROUND: [Side; 3] = [Side::Source, Side::Service, Side::NextHop];
@@ -154,7 +155,7 @@ fn put_step<G: Game>(
     out: &mut Vec<u8>,
 ) -> Result<(), NoMemory> {
     if let Some((sides, moment)) = parts(word, b'@') {
-        let now = number(moment, *values).unwrap_or(0);
+        let now = number_by(moment, *values).unwrap_or(0);
         return match index_of(b"source service hop", sides) {
             Some(0) => put_turns(game, &[Side::Source], now, out),
             Some(1) => put_turns(game, &[Side::Service], now, out),
@@ -163,7 +164,7 @@ fn put_step<G: Game>(
         };
     }
     let (name, count) = parts(word, b'=').unwrap_or((word, b"0"));
-    let count = number(count, *values).unwrap_or(0);
+    let count = number_by(count, *values).unwrap_or(0);
     match index_of(b"rounds until-over halt free", name) {
         Some(0) => match orders.at {
             Some(now) => play_rounds_at(game, orders.order, now, count),
@@ -201,7 +202,7 @@ pub fn put_steps<G: Game>(
     let orders = Orders {
         order: &order,
         tally: &tally,
-        at: number(case.get(b"at"), case.values),
+        at: number_by(case.get(b"at"), case.values),
     };
     put_all_steps(game, &orders, case, out)
 }

@@ -2,9 +2,8 @@
 
 use crate::stage::{Counted, Wires};
 use crate::turns::case::Case;
-use test_rows::NoMemory;
+use test_rows::{NoMemory, wire};
 use wire_kit::CountedWire;
-use wire_rows::wire;
 
 /// A wire that gives the text of a key as the second key says, and takes bytes as the third says.
 fn wire_of(case: &Case<'_>, text: &[u8], read: &[u8], written: &[u8]) -> Result<Counted, NoMemory> {

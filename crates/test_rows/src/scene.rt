@@ -1,7 +1,7 @@
 //! A row with its table.
-use crate::values::{Values, number};
+use crate::row::Row;
+use crate::values::{Values, number_by};
 use std::net::Ipv4Addr;
-use test_rows::Row;
 
 /// A row, and the table's head, which says what the row doesn't.
 #[derive(Clone, Copy)]
@@ -48,6 +48,6 @@ impl<'a> Scene<'a> {
 
     /// The number that a key says, or another one.
     pub fn number_or(self, key: &[u8], values: Values, otherwise: usize) -> usize {
-        number(self.get(key), values).unwrap_or(otherwise)
+        number_by(self.get(key), values).unwrap_or(otherwise)
     }
 }

@@ -1,9 +1,9 @@
 //! The answers of wires, and wires that give them.
+use crate::random::Random;
 use crate::scene::Scene;
-use crate::values::{Values, answer_of, number};
+use crate::values::{Values, answer_of, number_by};
 use crate::words::{is, parts};
-use std::alloc::Global;
-use test_rows::{NoMemory, Random};
+use std::alloc::{AllocError as NoMemory, Global};
 use wire_kit::{Answer, MemoryWire, ReadAnswer, WriteAnswer};
 
 /// What a word lists.
@@ -32,7 +32,7 @@ fn one(word: &[u8], values: Values) -> Answer {
     if is(word, b"e") {
         return values.e;
     }
-    match number(word, values) {
+    match number_by(word, values) {
         Some(count) => Answer::Moved(count),
         None => answer_of(word),
     }
@@ -42,7 +42,7 @@ fn one(word: &[u8], values: Values) -> Answer {
 /// (`random*60`).
 fn read_listed(word: &[u8], values: Values) -> Listed {
     if let Some((what, times)) = parts(word, b'*') {
-        let times = number(times, values).unwrap_or(0);
+        let times = number_by(times, values).unwrap_or(0);
         return if is(what, b"random") {
             Listed::Random(values.n as u64, times)
         } else {
@@ -50,8 +50,8 @@ fn read_listed(word: &[u8], values: Values) -> Listed {
         };
     }
     if let Some((bytes, size)) = parts(word, b'/') {
-        let bytes = number(bytes, values).unwrap_or(0);
-        return Listed::Pieces(bytes, number(size, values).unwrap_or(0));
+        let bytes = number_by(bytes, values).unwrap_or(0);
+        return Listed::Pieces(bytes, number_by(size, values).unwrap_or(0));
     }
     Listed::Times(one(word, values), 1)
 }

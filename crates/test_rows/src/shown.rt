@@ -1,7 +1,8 @@
 //! Lines of what a run reports.
+use crate::answer::{put_decimal, put_escaped};
 use crate::scene::Scene;
 use crate::values::Values;
-use test_rows::{NoMemory, put_decimal, put_escaped};
+use std::alloc::AllocError as NoMemory;
 
 /// Adds a line of a name and a word.
 pub fn put_word(out: &mut Vec<u8>, name: &[u8], word: &[u8]) -> Result<(), NoMemory> {

@@ -1,4 +1,5 @@
 //! Words of a row's texts.
+use crate::row::number;
 
 /// Whether a word is this one.
 pub fn is(word: &[u8], text: &[u8]) -> bool {
@@ -30,7 +31,7 @@ pub fn count_after(words: &[u8], key: &[u8]) -> Option<u64> {
         if let Some((found, count)) = parts(word, b'=')
             && found == key
         {
-            return test_rows::number(count);
+            return number(count);
         }
     }
     None

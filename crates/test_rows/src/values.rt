@@ -1,4 +1,5 @@
 //! The letters of a row, and the values that they go through.
+use crate::row::number;
 use crate::scene::Scene;
 use crate::words::{is, parts};
 use wire_kit::Answer;
@@ -23,7 +24,7 @@ pub(crate) struct Counts {
 
 /// The number of decimal digits.
 fn decimal(word: &[u8]) -> Option<usize> {
-    match test_rows::number(word) {
+    match number(word) {
         Some(value) => usize::try_from(value).ok(),
         None => None,
     }
@@ -40,7 +41,7 @@ fn atom(word: &[u8], values: Values) -> Option<usize> {
 }
 
 /// The number that a word stands for: a letter or a number, or two of them with `+` or `-` between them. A difference stops at 0.
-pub fn number(word: &[u8], values: Values) -> Option<usize> {
+pub fn number_by(word: &[u8], values: Values) -> Option<usize> {
     if let Some((left, right)) = parts(word, b'+') {
         return atom(left, values)?.checked_add(atom(right, values)?);
     }

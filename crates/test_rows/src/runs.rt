@@ -1,8 +1,8 @@
 //! All runs of a row.
+use crate::answer::put_decimal;
 use crate::scene::Scene;
 use crate::values::{Counts, Values, values_at};
-use std::alloc::Global;
-use test_rows::{NoMemory, put_decimal};
+use std::alloc::{AllocError as NoMemory, Global};
 
 /// What plays a row.
 pub trait Player {
