@@ -7,8 +7,8 @@ use Rattle.mio.specs.Events.{items}
 use Rattle.socket_wire.specs.declared.token.Peer.{Peer}
 use Rattle.socket_wire.specs.declared.token.Peer.TheVariants.{User, Origin, Service}
 use Rattle.socket_wire.specs.Token.{peer_number}
-use Rattle.loop_parts.specs.declared.ready_list.ReadyList.{ReadyList}
-use Rattle.loop_parts.specs.Marks.{is_marked}
+use Rattle.event_loop.specs.declared.ready_list.ReadyList.{ReadyList}
+use Rattle.event_loop.specs.Marks.{is_marked}
 use Rattle.event_loop.specs.declared.inbox.Handed.{Handed}
 use Rattle.event_loop.specs.declared.event.Event.{Event}
 use Rattle.event_loop.specs.declared.work.Work.{Ghosts as Work}

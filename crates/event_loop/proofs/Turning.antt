@@ -2,8 +2,8 @@
 use Rattle.std.proofs.Common.{◌≡◌, ℕ, ◌+◌, ◌<◌, ◌≤◌, ◌⊎◌, ◌||◌, below_more, zero, suc, get_or, Result, Ok, Err, IsErr, OnOk, IfOk, inl, inr, Some, None, Bool, true, false, cond, List, [], ◌∷◌, ◌++◌, length, refl, ap, sym, ◌∙◌, subst, append_assoc, arith}
 use Rattle.std.specs.Prelude.{nat_eq, slice_index_or, ⊤}
 use Rattle.std.proofs.lemmas.Bool.Decides.{eqb_tells}
-use Rattle.loop_parts.specs.declared.ready_list.ReadyList.{ReadyList}
-use Rattle.loop_parts.specs.Marks.{is_marked, count}
+use Rattle.event_loop.specs.declared.ready_list.ReadyList.{ReadyList}
+use Rattle.event_loop.specs.Marks.{is_marked, count}
 use Rattle.event_loop.specs.declared.work.Driven.{Driven}
 use Rattle.event_loop.specs.declared.work.Driven.TheVariants.{Waiting, CutShort, Blocked, Over}
 use Rattle.event_loop.specs.declared.work.Work.{Ghosts as Work}

@@ -6,8 +6,8 @@ use Rattle.std.specs.declared.net.socket_addr.SocketAddr.TheVariants.{V4, V6}
 use Rattle.std.specs.declared.net.ipv4_addr.Ipv4Addr.{Ipv4Addr}
 use Rattle.std.specs.Net.Addr.{IsUnspecifiedV4}
 use Rattle.std.specs.Net.Socket.{v4_ip}
-use Rattle.loop_parts.specs.declared.listening.Accepted.{Accepted}
-use Rattle.loop_parts.specs.declared.listening.Accepted.TheVariants.{One, Gone, None as NoOne, Rest}
+use Rattle.event_loop.specs.declared.listening.Accepted.{Accepted}
+use Rattle.event_loop.specs.declared.listening.Accepted.TheVariants.{One, Gone, None as NoOne, Rest}
 use Rattle.mio.specs.declared.net.stream.TcpStream.{TcpStream}
 use Rattle.proxy_config.specs.Networks.{MayUse}
 use Rattle.proxy_config.specs.declared.network.Network.{Network}

@@ -1,7 +1,7 @@
 -- What a loop has its work do.
 use Rattle.std.specs.Prelude.{ℕ, Bool, true, false, List, ◌∷◌, Option, Some, None}
 use Rattle.socket_wire.specs.declared.token.Peer.{Peer}
-use Rattle.loop_parts.specs.declared.admin_lines.Request.{Request}
+use Rattle.event_loop.specs.declared.admin_lines.Request.{Request}
 use Rattle.event_loop.specs.declared.work.Told.{Told}
 use Rattle.event_loop.specs.declared.work.Driven.{Driven}
 use Rattle.event_loop.specs.declared.work.Driven.TheVariants.{Waiting, CutShort, Blocked, Over}

@@ -1,3 +1,7 @@
+pub mod Marks
+pub mod Requests
+pub mod Shares
+pub mod Sparing
 pub mod Deeds
 pub mod Mail
 pub mod Reports

@@ -3,8 +3,8 @@ use Rattle.std.specs.Prelude.{◌≡◌, ℕ, ◌+◌, ◌*◌, ◌≤◌, ◌<�
 use Rattle.mio.specs.Events.{items}
 use Rattle.socket_wire.specs.declared.token.Peer.{Peer}
 use Rattle.socket_wire.specs.Token.{peer_number}
-use Rattle.loop_parts.specs.declared.ready_list.ReadyList.{ReadyList}
-use Rattle.loop_parts.specs.Marks.{is_marked, count}
+use Rattle.event_loop.specs.declared.ready_list.ReadyList.{ReadyList}
+use Rattle.event_loop.specs.Marks.{is_marked, count}
 use Rattle.event_loop.specs.declared.work.Driven.{Driven}
 use Rattle.event_loop.specs.declared.work.Driven.TheVariants.{Waiting, CutShort, Blocked, Over}
 use Rattle.event_loop.specs.declared.work.Work.{Ghosts as Work}

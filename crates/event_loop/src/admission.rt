@@ -3,8 +3,9 @@
 ghost use Rattle.std.specs.Prelude.{◌≡◌, ◌↔◌, IsTrue, option_map};
 ghost use Rattle.event_loop.specs.Admission.{IsIpOf, IsJudged, MayConnect};
 
+use crate::listening::Accepted;
 use crate::live::LatestConfig;
-use loop_parts::{Accepted, Room};
+use crate::room::Room;
 use proxy_config::{Network, may_use};
 use std::net::{Ipv4Addr, SocketAddr};
 use std::sync::Arc;

@@ -1,7 +1,9 @@
 //! The administrator's connections, and those that read the counters.
 
+use crate::admin_lines::Request;
+use crate::asker::{AdminInput, Asker, MAX_ASKERS, Speech};
+use crate::listening::{Accepted, Listening};
 use crate::work::Told;
-use loop_parts::{Accepted, AdminInput, Asker, Listening, MAX_ASKERS, Request, Speech};
 use mio::net::TcpStream;
 use mio::{Registry, Token};
 use slab::Slab;

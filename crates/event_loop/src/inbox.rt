@@ -2,7 +2,7 @@
 
 ghost use Rattle.std.specs.Prelude.{◌≡◌, ◌↔◌, ◌<◌, ◌+◌, ◌*◌, true};
 
-use loop_parts::UserPermit;
+use crate::room::UserPermit;
 use mio::net::TcpStream;
 use mio::{Registry, Waker};
 use std::alloc::{AllocError, Global};

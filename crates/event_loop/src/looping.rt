@@ -2,7 +2,7 @@
 
 ghost use Rattle.std.specs.Prelude.{◌≡◌, ◌<◌, [], ◌∷◌, ℕ, true, false, nat_lt, length, IfOk, OnOk, IfErr, IsSomeAnd, ⊤};
 ghost use Rattle.std.specs.Duration.{as_nanos};
-ghost use Rattle.loop_parts.specs.Marks.{is_marked};
+ghost use Rattle.event_loop.specs.Marks.{is_marked};
 ghost use Rattle.event_loop.specs.declared.reports.TheConstants.{EVENTS};
 ghost use Rattle.event_loop.specs.Deeds.Deed.{Heard, EndedTurn, Halted};
 ghost use Rattle.event_loop.specs.Turns.{Works, Does, Did, Ran, Stands, Gets, IsTied, ServesRound, polled, second};
@@ -17,9 +17,9 @@ use crate::askers::Askers;
 use crate::ended::LoopFault;
 use crate::inbox::{Inbox, begin, have_begun, stop_all};
 use crate::ports::Ports;
+use crate::ready_list::ReadyList;
 use crate::reports::Reports;
 use crate::work::Work;
-use loop_parts::ReadyList;
 use mio::{Poll, Token};
 use socket_wire::Dial;
 use std::alloc::Global;

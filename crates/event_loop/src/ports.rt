@@ -5,11 +5,13 @@ ghost use Rattle.std.specs.Prelude.{◌≡◌, ◌<◌, ◌+◌, ◌-◌, ◌%�
 ghost use Rattle.event_loop.specs.Admission.{IsLetIn, networks_of};
 ghost use Rattle.event_loop.specs.Mail.{Sends, HandsOut, asks, hands, is_own};
 
+use crate::addresses::Addresses;
 use crate::admission::{Admission, ip_of, judged};
 use crate::inbox::Handed;
+use crate::listening::{Accepted, Listening};
 use crate::live::LatestConfig;
 use crate::mail::Mail;
-use loop_parts::{Accepted, Addresses, Listening, Room};
+use crate::room::Room;
 use mio::net::TcpStream;
 use std::alloc::Global;
 use std::net::SocketAddr;

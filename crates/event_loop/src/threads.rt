@@ -5,13 +5,15 @@ ghost use Rattle.event_loop.specs.Deeds.Deed.{Halted};
 ghost use Rattle.event_loop.specs.Turns.{Ran, Stands};
 
 use crate::admission::Admission;
+use crate::asker::{MAX_ASKERS, Speech};
 use crate::askers::Askers;
 use crate::ended::{Ended, LoopFault};
 use crate::inbox::{Inbox, stop_all};
+use crate::listening::Listening;
 use crate::looping::{ADMIN, EventLoop, LISTENER, METRICS, WAKER};
 use crate::ports::Ports;
+use crate::room::Room;
 use crate::work::Work;
-use loop_parts::{Listening, MAX_ASKERS, Room, Speech};
 use mio::net::TcpListener;
 use mio::{Poll, Token, Waker};
 use os::set_thread_name;

@@ -5,8 +5,8 @@ ghost use Rattle.event_loop.specs.declared.inbox.Handed.{Handed as AnyHanded};
 ghost use Rattle.event_loop.specs.Deeds.{Deed, Adds, has_more};
 ghost use Rattle.event_loop.specs.Deeds.Deed.{TookIn, MadeRoom, Heard, Noted, Drove, GaveWay, Asked, Answered, EndedTurn, Drained, Halted};
 
+use crate::admin_lines::Request;
 use crate::inbox::Handed;
-use loop_parts::Request;
 use mio::Registry;
 use socket_wire::{Dial, Peer};
 use std::alloc::AllocError;

@@ -1,6 +1,6 @@
 -- Who is called where a connection may be free.
 use Rattle.std.specs.Prelude.{◌≡◌, ℕ, Option, Some, None}
-use Rattle.wait_queue.specs.declared.queue.Waiter.{Waiter}
+use Rattle.service_lines.specs.declared.queue.Waiter.{Waiter}
 use Rattle.service_lines.specs.declared.queues.Call.{Call}
 
 -- this one's thread was woken, if there is one

@@ -1,3 +1,4 @@
+pub mod Waiting
 pub mod Books
 pub mod Calls
 pub mod Latest

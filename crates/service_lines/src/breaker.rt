@@ -3,7 +3,7 @@
 ghost use Rattle.std.specs.Prelude.{◌≡◌, true, false, not};
 ghost use Rattle.service_lines.specs.Pauses.{is_same as is_one, is_past, is_closed, admits, after_admission, after_trial, after_failure, after_closed, after_end};
 
-use wait_queue::Waiter;
+use crate::queue::Waiter;
 
 /// After how many failures in a row a service is paused, and for how many seconds. It is never where that number is 0.
 #[derive(Clone, Copy, Drop)]

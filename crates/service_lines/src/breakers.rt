@@ -5,9 +5,9 @@ ghost use Rattle.std.specs.Option.{ForSome, ForNone};
 ghost use Rattle.service_lines.specs.Pauses.{admits};
 
 use crate::breaker::{Breaker, PauseRule, ServiceEnd};
+use crate::queue::Waiter;
 use std::sync::{Mutex, Wait};
 use trace_core::Point;
-use wait_queue::Waiter;
 
 /// The breakers of both services. None is looked at where no service is ever paused.
 #[derive(Drop)]

@@ -9,12 +9,12 @@ use crate::breakers::Pass;
 use crate::connector::{Act, Connector, Edge, Keeper, LendFault};
 use crate::leased::{Found, Leased, LeasedConnection};
 use crate::pools::Pools;
+use crate::queue::Waiter;
 use crate::queues::{Call, Turn};
 use adapt_bytes::MAX_CONNECTIONS;
 use std::sync::Wait;
 use std::sync::ledger::Ledger;
 use trace_core::Point;
-use wait_queue::Waiter;
 
 /// Takes a connection out of use at this moment, if connections are kept and it may lie idle. `None` where it is closed.
 fn lay_down<E: Edge, C: Keeper<E>>(

@@ -11,10 +11,10 @@ ghost use Rattle.service_lines.specs.Calls.{Calls, Wakes};
 use crate::breaker::PauseRule;
 use crate::breakers::{Breakers, Pass};
 use crate::connector::Edge;
+use crate::queue::{First, Next, WaitQueue, Waiter};
 use std::alloc::{AllocError, Global};
 use std::sync::{Mutex, Wait};
 use trace_core::Point;
-use wait_queue::{First, Next, WaitQueue, Waiter};
 
 /// The points, each with a queue: that of this number.
 pub const POINTS: [Point; 2] = [Point::Reqmod, Point::Respmod];

@@ -1,3 +1,4 @@
+pub mod Led
 mod Asking
 mod Keeping
 mod Paging

@@ -1,3 +1,9 @@
+pub mod Driving
+pub mod Lines
+pub mod Seats
+pub mod Slots
+pub mod Sparing
+pub mod Terms
 pub mod Asked
 pub mod Books
 pub mod Failures

@@ -2,7 +2,7 @@
 
 ghost use Rattle.std.specs.Prelude.{◌≡◌, ℕ, [], Option, None, Some, IfOk, IfErr, OnErr, false, true};
 ghost use Rattle.std.specs.declared.net.socket_addr.SocketAddrV4.{SocketAddrV4 as AnyAddress};
-ghost use Rattle.shard_effects.specs.Reasons.{lies_elsewhere};
+ghost use Rattle.shard_exchange.specs.Reasons.{lies_elsewhere};
 ghost use Rattle.proxy_config.specs.declared.config.Config.{Config as AnyConfig};
 ghost use Rattle.trace_core.specs.declared.history.Point.{Point as AnyPoint};
 ghost use Rattle.service_lines.specs.declared.connector.Act.TheVariants.{Opened};
@@ -12,25 +12,25 @@ ghost use Rattle.service_lines.specs.Lending.{point_of, is_reused, IsOf, Leads, 
 ghost use Rattle.shard_desk.specs.Asked.{LendsBy, FailsBy, PutsBy};
 ghost use Rattle.shard_desk.specs.Books.{Keeps, HasKept};
 ghost use Rattle.shard_desk.specs.Places.{place_at};
-ghost use Rattle.shard_outside.specs.Planning.{service_of as service_at};
+ghost use Rattle.shard_message.specs.Planning.{service_of as service_at};
 
 use crate::pools::{Berth, Port, dial, dial_late, pools_of};
+use crate::seats::Seats;
 use crate::shared::Shares;
+use crate::spot::Spot;
 use event_loop::Room;
 use options_book::Record;
 use proxy_config::{Config, Dial as DialTime, ServicePoint};
 use proxy_rules::pool_maximum;
-use service_lines::{Latest, Leased, LeasedConnection, LendFault, PointBook};
-use shard_effects::Reason;
-use shard_outside::service_of;
-use shard_work::{Seats, Spot};
+use service_lines::{Latest, Leased, LeasedConnection, LendFault, PointBook, Waiter};
+use shard_exchange::Reason;
+use shard_message::service_of;
 use socket_wire::{Dial, OriginWire, ServiceWire};
 use std::alloc::{AllocError, Global};
 use std::net::SocketAddrV4;
 use std::sync::ledger::Ledger;
 use std::sync::{Arc, Wait};
 use trace_core::Point;
-use wait_queue::Waiter;
 
 /// A connection to a service, and the right to it.
 type Lent<Q, A> = Result<(ServiceWire, Leased<Q, A>), LendFault>;

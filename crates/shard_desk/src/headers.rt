@@ -3,14 +3,16 @@
 ghost use Rattle.std.specs.Prelude.{◌≡◌, Some, option_map};
 ghost use Rattle.proxy_config.specs.Networks.{MayUse};
 ghost use Rattle.proxy_config.specs.declared.config.Config.{Config as AnyConfig};
-ghost use Rattle.shard_work.specs.Seats.{user_address};
-ghost use Rattle.shard_work.specs.declared.seat.Purpose.{Purpose as AnyPurpose};
+ghost use Rattle.shard_desk.specs.Seats.{user_address};
+ghost use Rattle.shard_desk.specs.declared.seat.Purpose.{Purpose as AnyPurpose};
 
+use crate::hearing::Hearing;
 use crate::reporter::Reporter;
+use crate::seat::Purpose;
+use crate::seats::Seats;
 use crate::shared::Shares;
 use proxy_config::may_use;
 use proxy_header::{MAX_HEADER, Reading, read};
-use shard_work::{Hearing, Purpose, Seats};
 use socket_wire::UserWire;
 use std::net::Ipv4Addr;
 use std::sync::Wait;

@@ -2,12 +2,13 @@
 
 ghost use Rattle.std.specs.Prelude.{◌≡◌, ⊤, true, false, Some, IfSome};
 ghost use Rattle.shard_desk.specs.Kept.{HasWire, LaysWire, TakesWire};
-ghost use Rattle.shard_work.specs.Lines.{IsNotPolled};
-ghost use Rattle.shard_work.specs.Seats.{heard_of};
+ghost use Rattle.shard_desk.specs.Lines.{IsNotPolled};
+ghost use Rattle.shard_desk.specs.Seats.{heard_of};
 
 use crate::kept::{Heard, Kept, Moment, Rests};
+use crate::lines::{IdleLine, SinceLaid};
+use crate::seats::Seats;
 use event_loop::{IdlePermit, Room};
-use shard_work::{IdleLine, Seats, SinceLaid};
 use socket_wire::{OriginWire, Peer, Unread};
 use std::net::SocketAddrV4;
 use std::sync::Arc;

@@ -2,7 +2,7 @@
 
 ghost use Rattle.std.specs.Prelude.{◌≡◌, ◌||◌};
 ghost use Rattle.proxy_config.specs.declared.config.Config.{Config as AnyConfig};
-ghost use Rattle.shard_work.specs.Seats.{has_waited, is_late, is_overdue};
+ghost use Rattle.shard_desk.specs.Seats.{has_waited, is_late, is_overdue};
 
 mod noting;
 mod origins;
@@ -10,13 +10,13 @@ mod services;
 
 use crate::desk::Desk;
 use crate::shared::Shares;
+use crate::spot::Spot;
 use event_loop::{Closing, close_turn};
 use plan_rules::Limits;
 use proxy_config::Config;
 use service_lines::Leased;
-use shard_effects::Lingered;
-use shard_outside::{Clocked, Kinds, Outside, Settings, UserEnd};
-use shard_work::Spot;
+use shard_exchange::Lingered;
+use shard_message::{Clocked, Kinds, Outside, Settings, UserEnd};
 use socket_wire::{Dial, OriginWire, ServiceWire, UserWire};
 use span_bank::Bank;
 use std::alloc::Global;

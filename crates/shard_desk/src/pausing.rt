@@ -10,7 +10,7 @@ use crate::words::evidence_of;
 use adapt_turn::Outcome;
 use exchange_report::{Reason, Why};
 use service_lines::{POINTS, ServiceEnd};
-use shard_outside::MessageEnd;
+use shard_message::MessageEnd;
 use shard_report::failed_word;
 use std::sync::Wait;
 use trace_core::Point;

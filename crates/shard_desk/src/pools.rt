@@ -5,11 +5,12 @@ ghost use Rattle.proxy_config.specs.declared.config.Config.{Config as AnyConfig}
 ghost use Rattle.service_lines.specs.Latest.{IsLatest};
 ghost use Rattle.service_lines.specs.Lending.{fault_in, IsOwn};
 
+use crate::lines::{IdleLine, SinceLaid};
+use crate::seats::Seats;
 use crate::shared::Shares;
 use event_loop::{IdlePermit, Inbox, Room};
 use mio::Registry;
 use service_lines::{Act, Connector, Edge, Keeper, Latest, LendFault, Waiting};
-use shard_work::{IdleLine, Seats, SinceLaid};
 use socket_wire::{Called, Dial, Peer, Readiness, Role, ServiceWire, SocketWire, Stream, Unread};
 use std::io;
 use std::net::SocketAddrV4;

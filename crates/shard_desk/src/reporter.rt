@@ -12,7 +12,7 @@ use http_side::{NextServer, Values};
 use mio::net::TcpStream;
 use proxy_config::MAX_SHARDS;
 use proxy_rules::{Incoming, Route};
-use shard_outside::MessageEnd;
+use shard_message::MessageEnd;
 use shard_report::{
     Bound, Class, Count, Dealing, Evidence, Log, LoopTally, Note, Notes, address_of, elapsed_of,
     failed_word, kind_in, kind_of, moment, request_line, status_in, status_of, verdict_of,

@@ -6,8 +6,7 @@ ghost use Rattle.shard_desk.specs.Standings.{goes_by};
 
 use crate::pools::Spare;
 use crate::standings::Standings;
-use event_loop::{Inbox, Room};
-use loop_parts::Addresses;
+use event_loop::{Addresses, Inbox, Room};
 use proxy_config::Config;
 use service_lines::Queues;
 use service_pool::Pool;

@@ -6,7 +6,7 @@ ghost use Rattle.exchange_report.specs.Reasons.{cause_of};
 
 use adapt_sides::ClientFault;
 use exchange_report::Reason;
-use shard_outside::MessageEnd;
+use shard_message::MessageEnd;
 use shard_report::{Evidence, status_in};
 use trace_core::Point;
 

@@ -11,10 +11,10 @@ use Rattle.exchange_core.specs.declared.event.RefusalCause.{RefusalCause}
 use Rattle.exchange_core.specs.Course.{is_in_use, is_leased, is_mid_text, point_of}
 use Rattle.exchange_core.specs.May.{may_come, is_at_gate, is_moving, is_refusing, is_gone, is_idle, is_answer, is_request, is_withdrawing}
 use Rattle.exchange_core.specs.Dues.{status_of}
-use Rattle.shard_effects.specs.declared.ends.End.{End}
-use Rattle.shard_effects.specs.declared.ends.End.TheVariants as ends
-use Rattle.shard_effects.specs.declared.ends.EndedBy.{EndedBy}
-use Rattle.shard_effects.specs.declared.ends.EndedBy.TheVariants as ended
+use Rattle.shard_exchange.specs.declared.ends.End.{End}
+use Rattle.shard_exchange.specs.declared.ends.End.TheVariants as ends
+use Rattle.shard_exchange.specs.declared.ends.EndedBy.{EndedBy}
+use Rattle.shard_exchange.specs.declared.ends.EndedBy.TheVariants as ended
 
 -- its transaction stands
 abbrev pub moves : Course → Bool

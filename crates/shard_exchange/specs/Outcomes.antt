@@ -19,21 +19,21 @@ use Rattle.service_lines.specs.declared.connector.LendFault.TheVariants.{Busy}
 use Rattle.wire_kit.specs.Past.{Past}
 use Rattle.exchange_report.specs.Reasons.{cause_of}
 use Rattle.exchange_report.specs.declared.reason.Reason.{Reason}
-use Rattle.shard_effects.specs.declared.answers.HeadTurn.{HeadTurn}
-use Rattle.shard_effects.specs.declared.answers.HeadTurn.TheVariants as head_turns
-use Rattle.shard_effects.specs.declared.answers.Marks.{Marks}
-use Rattle.shard_effects.specs.declared.answers.Round.{Round}
-use Rattle.shard_effects.specs.declared.answers.Said.{Said}
-use Rattle.shard_effects.specs.declared.answers.Said.TheVariants.{Whole, Part, Nothing, Broken}
-use Rattle.shard_effects.specs.declared.answers.Unplanned.{Unplanned}
-use Rattle.shard_effects.specs.declared.answers.Unplanned.TheVariants as unplanned
-use Rattle.shard_effects.specs.declared.answers.Withdrawal.{Withdrawal}
-use Rattle.shard_effects.specs.declared.answers.Withdrawal.TheVariants.{Again}
-use Rattle.shard_effects.specs.Hand.{Hand}
-use Rattle.shard_effects.specs.Reasons.{is_end_of_wire, lend_reason, origin_head_reason, unplanned_reason, user_head_reason}
-use Rattle.shard_effects.specs.declared.ends.End.{End}
+use Rattle.shard_exchange.specs.declared.answers.HeadTurn.{HeadTurn}
+use Rattle.shard_exchange.specs.declared.answers.HeadTurn.TheVariants as head_turns
+use Rattle.shard_exchange.specs.declared.answers.Marks.{Marks}
+use Rattle.shard_exchange.specs.declared.answers.Round.{Round}
+use Rattle.shard_exchange.specs.declared.answers.Said.{Said}
+use Rattle.shard_exchange.specs.declared.answers.Said.TheVariants.{Whole, Part, Nothing, Broken}
+use Rattle.shard_exchange.specs.declared.answers.Unplanned.{Unplanned}
+use Rattle.shard_exchange.specs.declared.answers.Unplanned.TheVariants as unplanned
+use Rattle.shard_exchange.specs.declared.answers.Withdrawal.{Withdrawal}
+use Rattle.shard_exchange.specs.declared.answers.Withdrawal.TheVariants.{Again}
+use Rattle.shard_exchange.specs.Hand.{Hand}
+use Rattle.shard_exchange.specs.Reasons.{is_end_of_wire, lend_reason, origin_head_reason, unplanned_reason, user_head_reason}
+use Rattle.shard_exchange.specs.declared.ends.End.{End}
 use Rattle.shard_exchange.specs.Ends.{moves, IsEnded, IsOwed, IsServedBy}
-use Rattle.shard_effects.specs.Saying.{LaysPage, SaysOn, interim_text, refusal_by}
+use Rattle.shard_exchange.specs.Saying.{LaysPage, SaysOn, interim_text, refusal_by}
 
 -- What a message's plan leads to: a user that was told to send its body isn't told again, nor one whose response comes; and a service is
 -- asked for its options once.

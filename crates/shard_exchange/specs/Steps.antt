@@ -5,8 +5,8 @@ use Rattle.exchange_core.specs.declared.due.Due.{Due}
 use Rattle.exchange_core.specs.declared.due.Due.TheVariants.{Plan, Lend, Ask, Reserve, Dial, Start, AskGate, Turn, GiveBack, Release, HangUp}
 use Rattle.exchange_core.specs.Dues.{due_of, is_wait}
 use Rattle.exchange_core.specs.Log.{Goes}
-use Rattle.shard_effects.specs.declared.tasks.Step.{Step}
-use Rattle.shard_effects.specs.declared.tasks.Step.TheVariants.{On, Turned, Unmoved, Waits, Over}
+use Rattle.shard_exchange.specs.declared.tasks.Step.{Step}
+use Rattle.shard_exchange.specs.declared.tasks.Step.TheVariants.{On, Turned, Unmoved, Waits, Over}
 
 -- who waits, or hasn't moved, has a deadline, and it hasn't passed; and only the course says what is over
 abbrev pub Heeds : (late : Bool) → Course → Step → Type 0

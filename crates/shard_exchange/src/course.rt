@@ -13,8 +13,8 @@ ghost use Rattle.exchange_core.specs.Log.{Goes};
 ghost use Rattle.shard_exchange.specs.Ends.{moves, ends_message, keeps_origin, Stays, Leaves, LastsAs, IsOwed, Halts, IsToldServed};
 ghost use Rattle.shard_exchange.specs.Outcomes.{begun_of};
 
+use crate::ends::{End, Report};
 use exchange_core::{Event, Exchange, Phase, RefusalCause};
-use shard_effects::{End, Report};
 
 /// Takes an event that ends a message, where it may come. Else the message fails: its user is refused, unless a part of an answer is
 /// out.

@@ -4,8 +4,8 @@ ghost use Rattle.std.specs.Prelude.{◌≡◌, ◌&&◌, ◌||◌, true, false};
 ghost use Rattle.exchange_core.specs.Course.{is_leased};
 ghost use Rattle.exchange_core.specs.May.{is_at_gate, is_moving};
 
+use crate::effects::{Holder, InHand};
 use exchange_core::{Event, Phase, RefusalCause};
-use shard_effects::{Holder, InHand};
 
 /// A user's connection, with what is held for it.
 ///
@@ -26,7 +26,7 @@ impl<H: InHand> Exchange<H> {
     ghost use Rattle.exchange_core.specs.declared.event.Event.TheVariants.{Failed};
     ghost use Rattle.exchange_core.specs.declared.event.RefusalCause.TheVariants.{Scarce};
     ghost use Rattle.exchange_core.specs.Log.{Goes};
-    ghost use Rattle.shard_effects.specs.Hand.{IsFresh};
+    ghost use Rattle.shard_exchange.specs.Hand.{IsFresh};
     ghost use Rattle.shard_exchange.specs.Ends.{is_stopped};
 
     /// A user's connection before the first byte of its first request. Nothing of what the course counts is held for it, and nothing is

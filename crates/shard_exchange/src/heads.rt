@@ -2,16 +2,17 @@
 
 ghost use Rattle.std.specs.Prelude.{◌≡◌, if◌then◌else◌, Option as AnyOption};
 ghost use Rattle.http_side.specs.declared.fault.HttpFault.{HttpFault as AnyHttpFault};
-ghost use Rattle.shard_effects.specs.Reasons as reasons;
+ghost use Rattle.shard_exchange.specs.Reasons as reasons;
 
+use crate::answers::{HeadTurn, Withdrawal};
 use crate::course::begin_head;
+use crate::effects::{Effects, Holder};
 use crate::exchange::Exchange;
+use crate::reason::{is_end_of_wire, origin_head_reason, user_head_reason};
+use crate::tasks::Step;
 use adapt_sides::RelayFault;
 use exchange_core::Event;
-use shard_effects::{
-    Effects, HeadTurn, Holder, Reason, Step, Withdrawal, is_end_of_wire, origin_head_reason,
-    user_head_reason,
-};
+use exchange_report::Reason;
 
 impl<H: Holder> Exchange<H> {
     ghost use Rattle.exchange_core.specs.Dues.{due_of};

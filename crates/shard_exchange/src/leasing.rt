@@ -2,10 +2,13 @@
 
 ghost use Rattle.std.specs.Prelude.{◌≡◌, true, false};
 
+use crate::effects::{Effects, Holder};
 use crate::exchange::Exchange;
+use crate::reason::lend_reason;
+use crate::tasks::Step;
 use exchange_core::Event;
+use exchange_report::Reason;
 use service_lines::LendFault;
-use shard_effects::{Effects, Holder, Reason, Step, lend_reason};
 use trace_core::Point;
 
 impl<H: Holder> Exchange<H> {

@@ -2,9 +2,10 @@
 
 ghost use Rattle.std.specs.Prelude.{◌≡◌, true, false};
 
+use crate::effects::{Effects, Holder};
+use crate::ends::EndedBy;
 use crate::exchange::Exchange;
 use exchange_core::{Due, Event};
-use shard_effects::{Effects, EndedBy, Holder};
 use std::sync::Wait;
 
 impl<H: Holder> Exchange<H> {

@@ -2,10 +2,14 @@
 
 ghost use Rattle.std.specs.Prelude.{◌≡◌, ◌⊎◌, ◌&&◌, ◌||◌, if◌then◌else◌, true, false, Option as AnyOption, Bool as AnyBool};
 
+use crate::answers::{Round, Started};
 use crate::course::tell;
+use crate::effects::{Effects, Holder};
+use crate::ends::EndedBy;
 use crate::exchange::Exchange;
+use crate::tasks::Step;
 use exchange_core::Event;
-use shard_effects::{Effects, EndedBy, Holder, Reason, Round, Started, Step};
+use exchange_report::Reason;
 use std::sync::Wait;
 
 impl<H: Holder> Exchange<H> {
@@ -15,7 +19,7 @@ impl<H: Holder> Exchange<H> {
     ghost use Rattle.exchange_core.specs.May.{may_come, is_gone, is_moving, is_refusing, is_withdrawing};
     ghost use Rattle.exchange_core.specs.declared.due.Due.TheVariants as dues;
     ghost use Rattle.exchange_core.specs.declared.event.Event.TheVariants.{Begun, Renewed, Withdrawn};
-    ghost use Rattle.shard_effects.specs.Ends.{IfItself};
+    ghost use Rattle.shard_exchange.specs.EndedBy.{IfItself};
     ghost use Rattle.shard_exchange.specs.Ends.{moves, Halts, IsEnded, IsOwedBy, IsServedBy};
     ghost use Rattle.shard_exchange.specs.Outcomes.{has_answer, IsGated, IsStarted, IsTurned};
     ghost use Rattle.shard_exchange.specs.Steps.{Heeds, GoesOn};

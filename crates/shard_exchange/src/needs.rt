@@ -2,9 +2,11 @@
 
 ghost use Rattle.std.specs.Prelude.{◌≡◌};
 
+use crate::answers::Unplanned;
+use crate::effects::{Effects, Holder};
 use crate::exchange::Exchange;
+use crate::tasks::Step;
 use exchange_core::{Dialing, Event};
-use shard_effects::{Effects, Holder, Step, Unplanned};
 use std::sync::Wait;
 use trace_core::Point;
 

@@ -2,11 +2,15 @@
 
 ghost use Rattle.std.specs.Prelude.{◌≡◌, true};
 
+use crate::answers::OptionsTurn;
+use crate::effects::{Effects, Holder};
 use crate::exchange::Exchange;
+use crate::reason::options_reason;
+use crate::tasks::Step;
 use adapt_sides::ClientFault;
 use exchange_core::Event;
+use exchange_report::Reason;
 use icap_head::IcapResponse;
-use shard_effects::{Effects, Holder, OptionsTurn, Reason, Step, options_reason};
 
 impl<H: Holder> Exchange<H> {
     ghost use Rattle.exchange_core.specs.Dues.{due_of};
@@ -14,7 +18,7 @@ impl<H: Holder> Exchange<H> {
     ghost use Rattle.exchange_core.specs.May.{may_come};
     ghost use Rattle.exchange_core.specs.declared.event.Event.TheVariants.{Renewed};
     ghost use Rattle.exchange_core.specs.declared.due.Due.TheVariants as dues;
-    ghost use Rattle.shard_effects.specs.Leases.{Renews};
+    ghost use Rattle.shard_exchange.specs.Leases.{Renews};
     ghost use Rattle.shard_exchange.specs.Outcomes.{IsAsked, IsAskedAnew, IsHeard};
     ghost use Rattle.shard_exchange.specs.Steps.{Heeds, GoesOn};
 

@@ -4,9 +4,12 @@ ghost use Rattle.std.specs.Prelude.{◌≡◌, ◌⊎◌, if◌then◌else◌, t
 ghost use Rattle.exchange_core.specs.declared.event.RefusalCause.TheVariants as causes;
 ghost use Rattle.exchange_report.specs.Reasons as reasons;
 
+use crate::answers::{Lingered, Said};
+use crate::effects::{Effects, Holder};
 use crate::exchange::Exchange;
+use crate::tasks::Step;
 use exchange_core::Event;
-use shard_effects::{Effects, Holder, Lingered, Reason, Said, Step};
+use exchange_report::Reason;
 
 impl<H: Holder> Exchange<H> {
     ghost use Rattle.exchange_core.specs.Course.{after};
@@ -15,8 +18,8 @@ impl<H: Holder> Exchange<H> {
     ghost use Rattle.exchange_core.specs.Log.{Goes};
     ghost use Rattle.exchange_core.specs.May.{is_gone};
     ghost use Rattle.exchange_core.specs.declared.due.Due.TheVariants as dues;
-    ghost use Rattle.shard_effects.specs.Hand.{Keeps};
-    ghost use Rattle.shard_effects.specs.Saying.{LaysPage};
+    ghost use Rattle.shard_exchange.specs.Hand.{Keeps};
+    ghost use Rattle.shard_exchange.specs.Saying.{LaysPage};
     ghost use Rattle.shard_exchange.specs.Ends.{IsOwed};
     ghost use Rattle.shard_exchange.specs.Outcomes.{SaysInterim, SaysRefusal};
     ghost use Rattle.shard_exchange.specs.Steps.{Heeds, is_moved};

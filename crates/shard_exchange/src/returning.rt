@@ -2,9 +2,10 @@
 
 ghost use Rattle.std.specs.Prelude.{◌≡◌, false};
 
+use crate::effects::{Effects, Holder};
 use crate::exchange::Exchange;
+use crate::tasks::Step;
 use exchange_core::Event;
-use shard_effects::{Effects, Holder, Step};
 use std::sync::Wait;
 
 impl<H: Holder> Exchange<H> {

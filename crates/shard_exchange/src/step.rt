@@ -3,9 +3,10 @@
 ghost use Rattle.std.specs.Prelude.{◌≡◌, ◌↔◌, true, false};
 ghost use Rattle.shard_exchange.specs.Ends.{is_closing, moves, Halts};
 
+use crate::effects::{Effects, Holder};
 use crate::exchange::Exchange;
+use crate::tasks::{Step, Task};
 use exchange_core::{Due, Phase};
-use shard_effects::{Effects, Holder, Step, Task};
 use std::sync::Wait;
 
 impl<H: Holder> Exchange<H> {
@@ -13,7 +14,7 @@ impl<H: Holder> Exchange<H> {
     ghost use Rattle.exchange_core.specs.Log.{Goes};
     ghost use Rattle.exchange_core.specs.May.{may_come, is_refusing};
     ghost use Rattle.exchange_core.specs.declared.event.Event.TheVariants.{Withdrawn};
-    ghost use Rattle.shard_effects.specs.Leases.{Renews};
+    ghost use Rattle.shard_exchange.specs.Leases.{Renews};
     ghost use Rattle.shard_exchange.specs.Outcomes.{Does, IsAsked, IsAskedAnew, IsAwaited, IsDialed, IsGated, IsGivenBack, IsHeard, IsHungUp, IsLent, IsPlanned, IsRead, IsRequested, IsStarted, IsTurned};
     ghost use Rattle.shard_exchange.specs.Steps.{Heeds, IsDone, GoesOn};
 

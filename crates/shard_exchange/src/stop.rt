@@ -8,10 +8,14 @@ ghost use Rattle.exchange_core.specs.Dues.{due_of, is_over};
 ghost use Rattle.exchange_core.specs.Log.{Goes};
 ghost use Rattle.shard_exchange.specs.Ends.{moves, Frees, Halts, is_stopped};
 
+use crate::answers::{Lingered, Said};
 use crate::course::take_stop;
+use crate::effects::{Effects, Holder};
+use crate::ends::EndedBy;
 use crate::exchange::Exchange;
+use crate::tasks::Step;
 use exchange_core::{Due, Event, Phase};
-use shard_effects::{Effects, EndedBy, Holder, Lingered, Reason, Said, Step};
+use exchange_report::Reason;
 use std::sync::Wait;
 
 /// Whether a message is under way whose head was read.

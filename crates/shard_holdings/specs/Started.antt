@@ -2,7 +2,7 @@
 use Rattle.std.specs.Prelude.{◌≡◌, Bool, Option, Some, Box}
 use Rattle.std.specs.declared.alloc.Global.{Global}
 use Rattle.proxy_rules.specs.Arrivals.{Arrival}
-use Rattle.shard_outside.specs.declared.planning.Planned.{Planned}
+use Rattle.shard_message.specs.declared.planning.Planned.{Planned}
 use Rattle.shard_message.specs.Begun.{Beginning, beginning}
 use Rattle.shard_message.specs.Lines.{line_for}
 use Rattle.shard_message.specs.declared.start.Manner.{Manner}

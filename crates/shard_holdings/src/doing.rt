@@ -10,27 +10,24 @@ ghost use Rattle.shard_message.specs.Lines.{line_in};
 ghost use Rattle.shard_message.specs.Outset.{IsLineAfter, Outset, SetsOut};
 ghost use Rattle.shard_holdings.specs.Settled.{LaysOrNot};
 ghost use Rattle.shard_holdings.specs.Started.{Starts};
-ghost use Rattle.shard_outside.specs.Learning.{IsAsking, IsLearned};
-ghost use Rattle.shard_outside.specs.Planning.{PlansBy};
-ghost use Rattle.shard_outside.specs.Taking.{taken_if};
+ghost use Rattle.shard_message.specs.Learning.{IsAsking, IsLearned};
+ghost use Rattle.shard_message.specs.Planning.{PlansBy};
+ghost use Rattle.shard_message.specs.Taking.{taken_if};
 
 use crate::holdings::Holdings;
 use adapt_sides::ClientFault;
 use exchange_core::{Course, Dialing, Exchange};
 use icap_head::IcapResponse;
 use service_lines::LendFault;
-use shard_effects::{
+use shard_exchange::{
     Effects, End, EndedBy, Lingered, Marks, Reason, Report, Round, Said, Started, Unplanned,
     Withdrawal,
 };
 use shard_message::{
-    Accounted, Connection, Moves, Moving, Settled, begin_anew, dial_for, has_given_none, is_fresh,
-    make_room, manner_of, request_again, take_connections,
-};
-use shard_outside::{
-    Dialed, LastingOrigin, Outside, Reusable, begin_asking, clear, finish_user, is_reusable, keep,
-    keep_plan, lay, lay_page, leave_queue, linger_on, note_refused, note_stopped, put_in,
-    refusal_by, say_to, take_out,
+    Accounted, Connection, Dialed, LastingOrigin, Moves, Moving, Outside, Reusable, Settled,
+    begin_anew, begin_asking, clear, dial_for, finish_user, has_given_none, is_fresh, is_reusable,
+    keep, keep_plan, lay, lay_page, leave_queue, linger_on, make_room, manner_of, note_refused,
+    note_stopped, put_in, refusal_by, request_again, say_to, take_connections, take_out,
 };
 use span_bank::Pages;
 use std::sync::Wait;

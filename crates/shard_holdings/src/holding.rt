@@ -4,9 +4,9 @@ ghost use Rattle.std.specs.Prelude.{◌≡◌, ◌++◌, ℕ, List, is_some, opt
 ghost use Rattle.proxy_rules.specs.Arrivals.{Came};
 ghost use Rattle.shard_message.specs.Ended.{HasGiven, HasGivenSince, IsBarred};
 ghost use Rattle.shard_message.specs.Outset.{BeginsClean, Outset};
-ghost use Rattle.shard_effects.specs.Hand.{hand_of, refused_of};
-ghost use Rattle.shard_effects.specs.Saying.{past_of};
-ghost use Rattle.shard_outside.specs.Usable.{usable_by};
+ghost use Rattle.shard_exchange.specs.Hand.{hand_of, refused_of};
+ghost use Rattle.shard_exchange.specs.Saying.{past_of};
+ghost use Rattle.shard_message.specs.Usable.{usable_by};
 ghost use Rattle.shard_holdings.specs.Freed.{IsFreed};
 ghost use Rattle.shard_holdings.specs.Message.{has_come};
 ghost use Rattle.shard_holdings.specs.Settled.{WithdrawsAs};
@@ -16,9 +16,10 @@ use adapt_turn::FreedConnection;
 use exchange_core::Exchange;
 use http_side::HttpFault;
 use proxy_rules::interim_continue;
-use shard_effects::{HeadTurn, Holder, InHand, OptionsTurn, Said};
-use shard_message::{Accounted, Moving, OnItsWay, hear_on, lay_wire};
-use shard_outside::{Kinds, clear, fault_of, say_to, turn_on};
+use shard_exchange::{HeadTurn, Holder, InHand, OptionsTurn, Said};
+use shard_message::{
+    Accounted, Kinds, Moving, OnItsWay, clear, fault_of, hear_on, lay_wire, say_to, turn_on,
+};
 
 impl<O: Kinds> InHand for Holdings<O> {
     ghost hand = { λ held. hand_of (is_some held.connection) (is_some held.room) (is_some held.origin) (is_some held.tx) held.told (refused_of (option_map (λ text. text.items) held.page) held.refused) };

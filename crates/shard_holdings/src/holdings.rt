@@ -2,13 +2,12 @@
 
 ghost use Rattle.std.specs.Prelude.{◌≡◌, ◌&&◌, ◌||◌, is_some, option_map, None, Some, true, false};
 ghost use Rattle.std.specs.Option.{ForSome};
-ghost use Rattle.shard_effects.specs.Hand.{IsEmpty};
+ghost use Rattle.shard_exchange.specs.Hand.{IsEmpty};
 
 use icap_client::OptionsSide;
 use proxy_rules::Incoming;
-use shard_effects::InHand;
-use shard_message::{Connection, Moving, Remains, Room};
-use shard_outside::{Kinds, Planned, put_in};
+use shard_exchange::InHand;
+use shard_message::{Connection, Kinds, Moving, Planned, Remains, Room, put_in};
 use span_bank::{Bank, Stake};
 use std::boxed::Box;
 use std::sync::Wait;

@@ -2,8 +2,7 @@
 
 ghost use Rattle.std.specs.Prelude.{◌≡◌};
 
-use event_loop::{Inbox, LiveConfig, Room};
-use loop_parts::Addresses;
+use event_loop::{Addresses, Inbox, LiveConfig, Room};
 use proxy_commands::Source;
 use proxy_config::{Config, ServicePoint};
 use service_lines::{PauseRule, Queues};

@@ -5,14 +5,13 @@ ghost use Rattle.exchange_core.specs.Course.{start, after};
 ghost use Rattle.exchange_core.specs.declared.event.Event.TheVariants.{Failed};
 ghost use Rattle.exchange_core.specs.declared.event.RefusalCause.TheVariants.{Scarce};
 ghost use Rattle.exchange_core.specs.Dues.{is_over};
-ghost use Rattle.shard_effects.specs.Hand.{IsEmpty};
+ghost use Rattle.shard_exchange.specs.Hand.{IsEmpty};
 
 use proxy_rules::Incoming;
-use shard_desk::{Desk, Shares};
+use shard_desk::{Desk, Exchanges, Purpose, Shares, Spot, turn_away};
 use shard_exchange::{Exchange, Holder, InHand, Step, Task};
 use shard_holdings::Holdings;
-use shard_outside::{Kinds, Outside};
-use shard_work::{Exchanges, Purpose, Spot, turn_away};
+use shard_message::{Kinds, Outside};
 use socket_wire::{Dial, Unread, UserWire};
 use std::alloc::{AllocError, AllocFailed, Global};
 use std::boxed::Box;

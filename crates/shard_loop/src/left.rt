@@ -11,7 +11,7 @@ use service_pool::{Lease, Pool};
 use shard_desk::{SharedPools, Spare};
 use shard_exchange::Exchange;
 use shard_holdings::{Held, Holdings};
-use shard_outside::Kinds;
+use shard_message::Kinds;
 use shard_report::{ProxyFault, StopAudit, Stopped};
 use span_bank::{Audit, Bank, Ledgers, Pages, Stake};
 use std::alloc::Global;

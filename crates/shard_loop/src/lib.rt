@@ -1,7 +1,7 @@
 //! The proxy: its threads, the administrator's loop, and what is left once all have ended.
 //!
-//! A thread's loop is one of `event_loop`, whose work is a `Shard` of `shard_work`: exchanges of `shard_exchange` in slots. What they
-//! stand on is a `Desk` of `shard_desk`, which `DeskExchanges` gives them.
+//! A thread's loop is one of `event_loop`, whose work is a `Shard` of `shard_desk`: exchanges of `shard_exchange` in slots. What they
+//! stand on is a `Desk`, which `DeskExchanges` gives them.
 //!
 //! Here threads, exchanges and sockets meet. `serve` is all that it offers.
 #![tactic(auto)]

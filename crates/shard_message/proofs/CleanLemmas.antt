@@ -5,8 +5,8 @@ use Rattle.std.specs.declared.alloc.Global.{Global}
 use Rattle.wire_kit.specs.declared.wire.Wire.{Ghosts as Wire}
 use Rattle.proxy_rules.specs.Arrivals.{Arrival, HasCome}
 use Rattle.proxy_rules.specs.Grown.{Grown}
-use Rattle.shard_effects.specs.declared.ends.End.{End}
-use Rattle.shard_effects.specs.declared.ends.End.TheVariants as ends
+use Rattle.shard_exchange.specs.declared.ends.End.{End}
+use Rattle.shard_exchange.specs.declared.ends.End.TheVariants as ends
 use Rattle.shard_message.specs.Ended.{IsNextBy}
 use Rattle.shard_message.specs.Outset.{BeginsClean}
 

@@ -10,11 +10,11 @@ use Rattle.adapt_turn.specs.declared.turn.Outcome.TheVariants.{Done, Fail}
 use Rattle.adapt_turn.specs.Refusals.{refusal_status}
 use Rattle.exchange_core.specs.Dues.{status_of}
 use Rattle.exchange_core.specs.declared.event.RefusalCause.TheVariants as causes
-use Rattle.shard_effects.specs.Ends.{EndsBy, IfItself}
-use Rattle.shard_effects.specs.declared.ends.End.{End}
-use Rattle.shard_effects.specs.declared.ends.End.TheVariants as ends
-use Rattle.shard_effects.specs.declared.ends.EndedBy.{EndedBy}
-use Rattle.shard_effects.specs.declared.ends.EndedBy.TheVariants as ended
+use Rattle.shard_exchange.specs.EndedBy.{EndsBy, IfItself}
+use Rattle.shard_exchange.specs.declared.ends.End.{End}
+use Rattle.shard_exchange.specs.declared.ends.End.TheVariants as ends
+use Rattle.shard_exchange.specs.declared.ends.EndedBy.{EndedBy}
+use Rattle.shard_exchange.specs.declared.ends.EndedBy.TheVariants as ended
 use Rattle.shard_message.specs.Ended.{Brings, EndsAs, IfOther, IsEndOf, IsNextBy, IsSequel, ended_as, is_by_itself, is_user_lost, message_in}
 use Rattle.shard_message.specs.declared.ended.Sequel.{Sequel}
 use Rattle.shard_message.specs.declared.ended.Sequel.TheVariants as sequels

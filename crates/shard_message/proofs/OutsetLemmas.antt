@@ -4,7 +4,7 @@ use Rattle.std.specs.Prelude.{Box}
 use Rattle.std.specs.declared.alloc.Global.{Global}
 use Rattle.proxy_rules.specs.Offers.{text_of}
 use Rattle.proxy_rules.specs.Since.{Snapshot, first_snapshot}
-use Rattle.shard_outside.specs.declared.planning.Planned.{Planned}
+use Rattle.shard_message.specs.declared.planning.Planned.{Planned}
 
 -- what is so since the transaction's beginning is so since this one, which is the same
 pub since_outset : {A W C : Type 0} (so : Snapshot A W C → Type 0) (maybe : Option (Box Planned Global)) (planned : Box Planned Global) (request ahead beside : List ℕ) (source : A) (next handed : C) (line held given : Option W)

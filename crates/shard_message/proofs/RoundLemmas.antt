@@ -3,8 +3,8 @@ use Rattle.std.proofs.Common.{◌≡◌, ◌-◌, ◌<◌, ◌≤◌, Bool, true
 use Rattle.std.proofs.Math.Seq.{take-length}
 use Rattle.adapt_turn.specs.declared.turn.Side.{Side}
 use Rattle.adapt_turn.specs.declared.turn.TurnAnswer.{TurnAnswer}
-use Rattle.shard_effects.specs.declared.answers.Round.{Round}
-use Rattle.shard_effects.specs.declared.answers.Round.TheVariants as rounds
+use Rattle.shard_exchange.specs.declared.answers.Round.{Round}
+use Rattle.shard_exchange.specs.declared.answers.Round.TheVariants as rounds
 use Rattle.shard_message.specs.Rounds.{Adds, IsRound, IsTurned, ends_round}
 
 pub no_turn : {T : Type 0} (turn : T → Side → TurnAnswer → T → Type 0) (over : T → Bool) (old : T) (sides : List Side) → length sides < 1 → IsRound turn over sides old old rounds.Waiting

@@ -16,7 +16,7 @@ use Rattle.http_side.specs.declared.forward.NextServer.TheVariants.{Origin}
 use Rattle.http_side.specs.declared.forward.OriginWay.{OriginWay}
 use Rattle.proxy_rules.specs.declared.route.Route.{Route}
 use Rattle.shard_message.specs.declared.start.Manner.{Manner}
-use Rattle.shard_outside.specs.declared.planning.Planned.{Planned}
+use Rattle.shard_message.specs.declared.planning.Planned.{Planned}
 
 -- what a transaction is to begin with: the message and its plan, and how it moves
 pub record Beginning : Type 0 where

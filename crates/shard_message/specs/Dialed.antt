@@ -3,7 +3,7 @@ use Rattle.std.specs.Prelude.{Option, Some, None, Box}
 use Rattle.std.specs.declared.alloc.Global.{Global}
 use Rattle.std.specs.declared.net.socket_addr.SocketAddrV4.{SocketAddrV4}
 use Rattle.proxy_rules.specs.declared.route.Route.{Route}
-use Rattle.shard_outside.specs.declared.planning.Planned.{Planned}
+use Rattle.shard_message.specs.declared.planning.Planned.{Planned}
 
 -- there is a route, and it leads to its address
 abbrev pub LeadsTo : (leads : SocketAddrV4 → Type 0) → Option Route → Type 0

@@ -10,10 +10,10 @@ use Rattle.adapt_turn.specs.declared.turn.Outcome.TheVariants.{Done, Fail}
 use Rattle.adapt_turn.specs.Refusals.{refusal_status}
 use Rattle.exchange_core.specs.Dues.{status_of}
 use Rattle.wire_kit.specs.Past.{Past}
-use Rattle.shard_effects.specs.declared.ends.End.{End}
-use Rattle.shard_effects.specs.declared.ends.EndedBy.{EndedBy}
-use Rattle.shard_effects.specs.declared.ends.EndedBy.TheVariants.{Itself, Gate}
-use Rattle.shard_effects.specs.declared.ends.End.TheVariants as ends
+use Rattle.shard_exchange.specs.declared.ends.End.{End}
+use Rattle.shard_exchange.specs.declared.ends.EndedBy.{EndedBy}
+use Rattle.shard_exchange.specs.declared.ends.EndedBy.TheVariants.{Itself, Gate}
+use Rattle.shard_exchange.specs.declared.ends.End.TheVariants as ends
 use Rattle.shard_message.specs.declared.ended.Sequel.{Sequel}
 use Rattle.shard_message.specs.declared.ended.Sequel.TheVariants as sequels
 

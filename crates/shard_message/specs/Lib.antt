@@ -1,3 +1,7 @@
+pub mod Learning
+pub mod Planning
+pub mod Taking
+pub mod Usable
 pub mod Begun
 pub mod Dialed
 pub mod Ended

@@ -9,10 +9,10 @@ use Rattle.proxy_rules.specs.Arrivals.{Arrival, Came, HasCome, point_of}
 use Rattle.proxy_rules.specs.Grown.{Grown}
 use Rattle.proxy_rules.specs.Offers.{text_of}
 use Rattle.proxy_rules.specs.Since.{Snapshot, held_or}
-use Rattle.shard_effects.specs.declared.answers.Round.{Round}
-use Rattle.shard_effects.specs.declared.answers.Round.TheVariants as rounds
-use Rattle.shard_effects.specs.declared.ends.End.{End}
-use Rattle.shard_effects.specs.declared.ends.End.TheVariants as ends
+use Rattle.shard_exchange.specs.declared.answers.Round.{Round}
+use Rattle.shard_exchange.specs.declared.answers.Round.TheVariants as rounds
+use Rattle.shard_exchange.specs.declared.ends.End.{End}
+use Rattle.shard_exchange.specs.declared.ends.End.TheVariants as ends
 use Rattle.shard_message.specs.Begun.{Beginning}
 
 -- How a message set out. Its connections are as they were then, and its source's as it was before the first byte of the message was read

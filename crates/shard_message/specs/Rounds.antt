@@ -11,8 +11,8 @@ use Rattle.adapt_turn.specs.declared.turn.Side.{Side}
 use Rattle.adapt_turn.specs.declared.turn.Side.TheVariants.{Source, Service, NextHop}
 use Rattle.adapt_turn.specs.declared.turn.TurnAnswer.{TurnAnswer}
 use Rattle.adapt_turn.specs.declared.turn.TurnAnswer.TheVariants as said
-use Rattle.shard_effects.specs.declared.answers.Round.{Round}
-use Rattle.shard_effects.specs.declared.answers.Round.TheVariants as rounds
+use Rattle.shard_exchange.specs.declared.answers.Round.{Round}
+use Rattle.shard_exchange.specs.declared.answers.Round.TheVariants as rounds
 
 -- the sides of a round, in their order
 abbrev pub in_turn : List Side

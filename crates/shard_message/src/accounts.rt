@@ -1,14 +1,14 @@
 //! What the connections of a message gave and took since it set out.
 
 ghost use Rattle.std.specs.Prelude.{ℕ, Option};
-ghost use Rattle.shard_effects.specs.declared.answers.Round.{Round as AnyRound};
+ghost use Rattle.shard_exchange.specs.declared.answers.Round.{Round as AnyRound};
 ghost use Rattle.shard_message.specs.Outset.{Outset};
 
 use crate::moving::{Moving, RequestWires, ResponseWires};
+use crate::outside::Kinds;
 use crate::turns::Rounding;
 use adapt_turn::Tx;
 use proxy_rules::{Accounting, OwnEnds, Running};
-use shard_outside::Kinds;
 
 /// What goes over the connections of a message that moves.
 pub trait Accounted<O: Kinds> {

@@ -1,13 +1,14 @@
 //! A leased connection on which a service is asked for its options.
 
 ghost use Rattle.std.specs.Prelude.{◌≡◌, is_some, IfOk, IfErr, IfSome, IsSomeAnd, false, true};
-ghost use Rattle.shard_effects.specs.Reasons.{lies_elsewhere};
-ghost use Rattle.shard_outside.specs.Learning.{IsAsking};
+ghost use Rattle.shard_exchange.specs.Reasons.{lies_elsewhere};
+ghost use Rattle.shard_message.specs.Learning.{IsAsking};
 
 use crate::connection::{Connection, lay_wire};
+use crate::options::{begin_asking, hear_turn};
+use crate::outside::{Kinds, Outside};
 use icap_client::OptionsSide;
-use shard_effects::{OptionsTurn, Reason, lend_reason};
-use shard_outside::{Kinds, Outside, begin_asking, hear_turn};
+use shard_exchange::{OptionsTurn, Reason, lend_reason};
 use std::boxed::Box;
 use trace_core::Point;
 use wire_kit::Wire;

@@ -3,7 +3,7 @@
 ghost use Rattle.std.specs.Prelude.{◌≡◌, is_some, IfSome};
 ghost use Rattle.shard_message.specs.Lines.{line_in, HasLine};
 
-use shard_outside::Kinds;
+use crate::outside::Kinds;
 
 /// A leased connection to a service.
 #[must_use]

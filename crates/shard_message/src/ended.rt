@@ -1,13 +1,13 @@
 //! How messages end.
 
 ghost use Rattle.std.specs.Prelude.{◌≡◌, ◌&&◌, IfSome, None};
-ghost use Rattle.shard_effects.specs.Ends.{EndsBy, IfItself};
+ghost use Rattle.shard_exchange.specs.EndedBy.{EndsBy, IfItself};
 ghost use Rattle.shard_message.specs.Ended.{IfOther, IsEndOf, is_cut, message_in};
 
+use crate::refusal_causes::refusal_cause_after;
 use adapt_turn::Outcome;
 use exchange_core::RefusalCause;
-use shard_effects::{End, EndedBy, Report};
-use shard_outside::refusal_cause_after;
+use shard_exchange::{End, EndedBy, Report};
 use std::boxed::Box;
 use trace_core::{Cause, Point};
 

@@ -4,8 +4,8 @@ ghost use Rattle.shard_message.specs.Outset.{Outset};
 
 use crate::accounts::Accounted;
 use crate::moving::Moving;
+use crate::outside::Kinds;
 use proxy_rules::laws::a_running_transaction_takes_one_message;
-use shard_outside::Kinds;
 
 /// What the connections of a message gave and took, wherever it stands: since each way in which it may have set out, what
 /// `the_wires_take_one_message` of `proxy_rules::laws` says; and there is one. `Moving::begin` says how a message sets out. What was so

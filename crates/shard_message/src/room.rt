@@ -1,20 +1,21 @@
 //! A reservation for a message.
 
 ghost use Rattle.std.specs.Prelude.{◌≡◌, ◌≤◌, IfErr, IfOk, None, true};
-ghost use Rattle.shard_outside.specs.Taking.{taken_if};
+ghost use Rattle.shard_message.specs.Taking.{taken_if};
 ghost use Rattle.std.specs.Option.{ForSome};
 ghost use Rattle.span_bank.specs.declared.limits.TheConstants.{MAX_CAPACITY};
 ghost use Rattle.exchange_core.specs.declared.dialing.Dialing.TheVariants.{KeptFirst};
 ghost use Rattle.exchange_core.specs.declared.event.RefusalCause.TheVariants.{Scarce};
 ghost use Rattle.plan_rules.specs.Claims.{claim_of};
 ghost use Rattle.exchange_report.specs.Reasons.{cause_of};
-ghost use Rattle.shard_effects.specs.Reasons.{lies_elsewhere};
+ghost use Rattle.shard_exchange.specs.Reasons.{lies_elsewhere};
 ghost use Rattle.shard_message.specs.Dialed.{LeadsAsPlanned};
 
+use crate::outside::{Dialed, Outside};
+use crate::planning::Planned;
 use exchange_core::Dialing;
 use plan_rules::{Limits, claim};
-use shard_effects::{Reason, open_reason};
-use shard_outside::{Dialed, Outside, Planned};
+use shard_exchange::{Reason, open_reason};
 use span_bank::{Bank, Ledgers, Stake};
 use std::boxed::Box;
 use std::sync::Wait;

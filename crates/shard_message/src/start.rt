@@ -6,6 +6,8 @@ ghost use Rattle.proxy_rules.specs.Offers.{text_of};
 ghost use Rattle.proxy_rules.specs.Since.{first_snapshot};
 ghost use Rattle.shard_message.specs.Begun.{BeginsWith, IsMannerOf, IsPaceOf, IsUse, IsUseOf, beginning, next_by, way_by};
 
+use crate::outside::Outside;
+use crate::planning::Planned;
 use crate::room::{Room, room_of};
 use crate::taken::left_of;
 use adapt_turn::Tx;
@@ -13,7 +15,6 @@ use exchange_core::Course;
 use http_side::{NextServer, OriginUse, OriginWay};
 use plan_rules::Pace;
 use proxy_rules::{Accounting, Beginning, Incoming, OwnEnds, Route, Running, Way, Wires, begin};
-use shard_outside::{Outside, Planned};
 use span_bank::{Bank, Ledgers};
 use std::alloc::{AllocFailed, Global};
 use std::boxed::Box;

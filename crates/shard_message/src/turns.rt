@@ -3,16 +3,16 @@
 ghost use Rattle.std.specs.Prelude.{◌≡◌, ◌⊎◌, ℕ, is_some, true, false, Bool, Option, IfOk};
 ghost use Rattle.adapt_turn.specs.declared.turn.Side.{Side as AnySide};
 ghost use Rattle.adapt_turn.specs.declared.turn.TurnAnswer.{TurnAnswer as AnyAnswer};
-ghost use Rattle.shard_effects.specs.declared.answers.Round.{Round as AnyRound};
+ghost use Rattle.shard_exchange.specs.declared.answers.Round.{Round as AnyRound};
 ghost use Rattle.shard_message.specs.Outset.{IsLineAfter};
 ghost use Rattle.shard_message.specs.Rounds.{Adds, ComesTo, IsRenewed, IsRound, IsTurned, ends_round, in_turn};
 
 use crate::connection::Connection;
+use crate::outside::Outside;
 use adapt_turn::{Answering, Side, TurnAnswer, Tx};
 use proxy_rules::{Accounting, Lasting, OwnEnds, Running, Wires};
 use service_lines::LendFault;
-use shard_effects::Round;
-use shard_outside::Outside;
+use shard_exchange::Round;
 use span_bank::{Bank, Ledgers};
 use std::sync::Wait;
 use trace_core::{Cause, Seen};

@@ -1,7 +1,7 @@
 //! The surroundings of an exchange, in memory.
 
 ghost use Rattle.std.specs.Prelude.{◌≡◌, IfOk, IfErr, true};
-ghost use Rattle.shard_effects.specs.Reasons.{lies_elsewhere};
+ghost use Rattle.shard_exchange.specs.Reasons.{lies_elsewhere};
 
 mod outside;
 
@@ -11,8 +11,8 @@ use crate::stage::{Peer, Stage, StageWire, first_word};
 use exchange_report::Why;
 use proxy_config::Config;
 use service_lines::{LendFault, PointBook};
-use shard_effects::Reason;
-use shard_outside::{Kinds, Outside};
+use shard_exchange::Reason;
+use shard_message::{Kinds, Outside};
 use span_bank::{Bank, Ledgers};
 use std::alloc::Global;
 use std::net::SocketAddrV4;

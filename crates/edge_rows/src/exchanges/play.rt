@@ -1,6 +1,6 @@
 //! A row's exchange, step by step, and what happens to it from outside.
 
-ghost use Rattle.shard_effects.specs.Hand.{IsFresh};
+ghost use Rattle.shard_exchange.specs.Hand.{IsFresh};
 
 use crate::exchanges::memory::Moment;
 use crate::stage::{Peer, Stage, first_word, name_of};
@@ -8,7 +8,7 @@ use exchange_core::Phase;
 use proxy_rules::Incoming;
 use shard_exchange::{Effects, Exchange, Holder, Step, Task};
 use shard_holdings::Holdings;
-use shard_outside::Outside;
+use shard_message::Outside;
 use std::boxed::Box;
 use std::sync::Wait;
 use test_rows::{Scene, Values, number_by, parts};

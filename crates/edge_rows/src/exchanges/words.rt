@@ -1,6 +1,6 @@
 //! Words by what is so, and keys by numbers.
 
-use shard_outside::MessageEnd;
+use shard_message::MessageEnd;
 use trace_core::Point;
 
 /// The keys of what services do, by the number of their connection.

@@ -3,7 +3,7 @@ use adapt_sides::{ClientFault, RelayFault};
 use exchange_report::{REASONS, Reason};
 use http_side::{HttpFault, own_refusal};
 use options_book::OptFault;
-use shard_effects::{
+use shard_exchange::{
     open_reason, options_reason, origin_head_reason, record_reason, request_reason,
     user_head_reason,
 };

@@ -1,7 +1,7 @@
 //! Which exchanges a loop drives in a turn.
 
 ghost use Rattle.std.specs.Prelude.{◌≡◌, ◌<◌, [], ◌∷◌, ℕ, true, OnOk};
-ghost use Rattle.loop_parts.specs.Marks.{is_marked};
+ghost use Rattle.event_loop.specs.Marks.{is_marked};
 ghost use Rattle.event_loop.specs.Deeds.Deed.{Drove};
 ghost use Rattle.event_loop.specs.Turns.{Works, Does, Did, Drives, Gets, IsDriven, IsAsked, ways};
 

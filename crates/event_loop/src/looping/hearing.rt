@@ -3,11 +3,12 @@
 ghost use Rattle.std.specs.Prelude.{⊤};
 ghost use Rattle.event_loop.specs.Turns.{Answers, Did};
 
+use crate::admin_lines::Request;
+use crate::asker::MAX_ASKERS;
 use crate::askers::Askers;
 use crate::inbox::{Inbox, drain_all, stop_all};
 use crate::looping::EventLoop;
 use crate::work::Work;
-use loop_parts::{MAX_ASKERS, Request};
 use std::sync::Wait;
 
 /// What each connection asks for next, where it asks for something. `stop` and `drain` are done here, before any other is answered.

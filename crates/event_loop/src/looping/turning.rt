@@ -4,13 +4,13 @@ ghost use Rattle.std.specs.Prelude.{◌≡◌, ◌<◌, [], ◌∷◌, ℕ, true
 ghost use Rattle.event_loop.specs.Deeds.Deed.{MadeRoom};
 ghost use Rattle.event_loop.specs.Turns.{Does, Did, AreServed, AreNotes, IsServed, IsAsked, IsAdmitted, Serves};
 
+use crate::asker::MAX_ASKERS;
 use crate::event::Event;
 use crate::inbox::{Handed, Inbox};
 use crate::looping::{ADMIN, EventLoop, LISTENER, METRICS, WAKER};
 use crate::mail::Inboxes;
 use crate::ports::pass_on;
 use crate::work::{Admitted, Work};
-use loop_parts::MAX_ASKERS;
 use socket_wire::{Dial, peer_of};
 use std::alloc::Global;
 use std::io;

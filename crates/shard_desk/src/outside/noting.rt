@@ -7,12 +7,12 @@ ghost use Rattle.proxy_config.specs.declared.config.Config.{Config as AnyConfig}
 use crate::desk::Desk;
 use crate::pausing::{message_end, refusal_end, tell_breaker};
 use crate::shared::Shares;
+use crate::spot::Spot;
 use crate::words::asked_reason;
 use adapt_sides::ClientFault;
 use proxy_rules::{Incoming, Route};
-use shard_effects::Reason;
-use shard_outside::{MessageEnd, Noting};
-use shard_work::Spot;
+use shard_exchange::Reason;
+use shard_message::{MessageEnd, Noting};
 use socket_wire::{Dial, UserWire};
 use std::sync::Wait;
 use std::time::Clock;

@@ -3,21 +3,21 @@
 ghost use Rattle.std.specs.Prelude.{◌≡◌, Some, None, IfOk, IfErr, IfSome, true, false};
 ghost use Rattle.exchange_core.specs.declared.dialing.Dialing.TheVariants.{KeptFirst};
 ghost use Rattle.proxy_config.specs.declared.config.Config.{Config as AnyConfig};
-ghost use Rattle.shard_effects.specs.Reasons.{lies_elsewhere};
-ghost use Rattle.shard_outside.specs.Taking.{taken_of};
-ghost use Rattle.shard_work.specs.Lines.{IsNotPolled};
-ghost use Rattle.shard_work.specs.Seats.{heard_of};
+ghost use Rattle.shard_exchange.specs.Reasons.{lies_elsewhere};
+ghost use Rattle.shard_message.specs.Taking.{taken_of};
+ghost use Rattle.shard_desk.specs.Lines.{IsNotPolled};
+ghost use Rattle.shard_desk.specs.Seats.{heard_of};
 ghost use Rattle.shard_desk.specs.Kept.{HasWire, LaysWire, TakesWire};
 
 use crate::connections::open_origin;
 use crate::desk::Desk;
 use crate::origins::{lay_origin, take_origin};
 use crate::shared::Shares;
+use crate::spot::Spot;
 use exchange_core::Dialing;
-use shard_effects::Reason;
-use shard_outside::{Dialed, LastingOrigin, Origins};
+use shard_exchange::Reason;
+use shard_message::{Dialed, LastingOrigin, Origins};
 use shard_report::{Count, Dealing};
-use shard_work::Spot;
 use socket_wire::{Dial, OriginWire};
 use std::net::SocketAddrV4;
 use std::sync::Wait;

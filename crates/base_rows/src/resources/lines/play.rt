@@ -5,14 +5,13 @@ use crate::resources::lines::stage::{Idle, Memory, Stage};
 use crate::resources::lines::steps::Play;
 use crate::resources::steps::put_steps;
 use adapt_bytes::MAX_CONNECTIONS;
-use service_lines::{PauseRule, Pools, Queues, Waiting};
+use service_lines::{PauseRule, Pools, Queues, Waiter, Waiting};
 use service_pool::{LEDGER_PARTS, Pool};
 use std::alloc::Global;
 use std::marker::Brand;
 use std::sync::Wait;
 use std::sync::ledger::{Blank, Ledger};
 use test_rows::{NoMemory, Row};
-use wait_queue::Waiter;
 
 /// The most connections that a row has lent.
 const HELD: usize = 16;

@@ -7,13 +7,14 @@ use crate::resources::lines::words::{fault_name, first_number, first_word, put_l
 use crate::resources::steps;
 use crate::resources::words::{index_of, put_numbers};
 use adapt_bytes::MAX_CONNECTIONS;
-use service_lines::{Breakers, Edge, LeasedConnection, LendFault, Pools, ServiceEnd, Waiting};
+use service_lines::{
+    Breakers, Edge, LeasedConnection, LendFault, Pools, ServiceEnd, Waiter, Waiting,
+};
 use std::alloc::Global;
 use std::sync::Wait;
 use std::sync::ledger::Ledger;
 use test_rows::{NoMemory, put_line, put_number, put_truth, says};
 use trace_core::Point;
-use wait_queue::Waiter;
 
 /// The steps that threads take, in the order of `put_step`.
 const STEPS: &[u8] =

@@ -2,7 +2,7 @@
 
 ghost use Rattle.std.specs.Prelude.{◌≡◌, IfOk, IfErr, true, ⊤};
 ghost use Rattle.exchange_core.specs.declared.dialing.Dialing.TheVariants.{KeptFirst};
-ghost use Rattle.shard_effects.specs.Reasons.{lies_elsewhere};
+ghost use Rattle.shard_exchange.specs.Reasons.{lies_elsewhere};
 
 use crate::exchanges::memory::{Lease, Memory, Moment};
 use crate::exchanges::services::NOW;
@@ -17,8 +17,8 @@ use plan_rules::Limits;
 use proxy_config::Config;
 use proxy_rules::{Incoming, Route, limits_of};
 use service_lines::{LendFault, PointBook};
-use shard_effects::{Lingered, Reason};
-use shard_outside::{
+use shard_exchange::{Lingered, Reason};
+use shard_message::{
     Clocked, Dialed, LastingOrigin, MessageEnd, Noting, Origins, Outside, Reusable, Services,
     Settings, UserEnd,
 };

@@ -3,7 +3,7 @@ use Rattle.std.specs.Bool.{⊤}
 use Rattle.shard_desk.specs.declared.origins.KeptOrigin.{KeptOrigin}
 use Rattle.shard_desk.specs.Kept.{IsFit, IsUnfit, IsTaken}
 use Rattle.shard_desk.proofs.Sifting.{lay_there}
-use Rattle.shard_work.specs.Lines.{IsNotPolled}
+use Rattle.shard_desk.specs.Lines.{IsNotPolled}
 use Rattle.shard_desk.proofs.origins.take_origin.Goals as goal
 
 -- the one that is taken lay idle there, and its connection is the one that is answered

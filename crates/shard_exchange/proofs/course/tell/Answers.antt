@@ -6,8 +6,8 @@ use Rattle.exchange_core.specs.Dues.{status_of}
 use Rattle.exchange_core.specs.declared.event.Event.TheVariants.{Answered, Begun}
 use Rattle.exchange_core.specs.May.{may_come, is_moving, is_refusing, is_request}
 use Rattle.exchange_core.proofs.Stepping.{goes_on}
-use Rattle.shard_effects.specs.declared.ends.End.{End}
-use Rattle.shard_effects.specs.declared.ends.End.TheVariants as ends
+use Rattle.shard_exchange.specs.declared.ends.End.{End}
+use Rattle.shard_exchange.specs.declared.ends.End.TheVariants as ends
 use Rattle.shard_exchange.specs.Ends.{LastsAs, refusal_at}
 use Rattle.shard_exchange.proofs.course.tell.Goals as goal
 

@@ -8,7 +8,7 @@ use Rattle.proxy_rules.specs.Running.{StandsOver}
 use Rattle.proxy_rules.specs.Since.{Since, first_snapshot}
 use Rattle.proxy_rules.specs.Arrivals.{Arrival, Came}
 use Rattle.proxy_rules.specs.Beginnings.{MayBegin, service_end_of}
-use Rattle.shard_outside.specs.declared.planning.Planned.{Planned}
+use Rattle.shard_message.specs.declared.planning.Planned.{Planned}
 use Rattle.shard_message.specs.Begun.{BeginsWith, beginning, way_by}
 use Rattle.shard_message.proofs.start.set_out.Goals as goal
 

@@ -1,6 +1,6 @@
 use Rattle.std.proofs.Common.{◌≡◌, false, Option, None, refl, inl, inr}
-use Rattle.shard_effects.specs.declared.answers.Round.{Round}
-use Rattle.shard_effects.specs.declared.answers.Round.TheVariants as rounds
+use Rattle.shard_exchange.specs.declared.answers.Round.{Round}
+use Rattle.shard_exchange.specs.declared.answers.Round.TheVariants as rounds
 use Rattle.shard_message.specs.Outset.{IsLineAfter}
 use Rattle.shard_message.specs.Rounds.{is_broken}
 use Rattle.shard_message.proofs.turns.round_of.Goals as goal

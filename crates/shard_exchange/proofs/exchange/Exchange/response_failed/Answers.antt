@@ -6,11 +6,11 @@ use Rattle.exchange_core.specs.declared.event.Event.TheVariants.{Failed, Withdra
 use Rattle.exchange_core.specs.Course.{after}
 use Rattle.exchange_core.specs.May.{may_come}
 use Rattle.http_side.specs.declared.fault.HttpFault.{HttpFault}
-use Rattle.shard_effects.specs.declared.answers.Withdrawal.{Withdrawal}
-use Rattle.shard_effects.specs.declared.answers.Withdrawal.TheVariants.{Again}
+use Rattle.shard_exchange.specs.declared.answers.Withdrawal.{Withdrawal}
+use Rattle.shard_exchange.specs.declared.answers.Withdrawal.TheVariants.{Again}
 use Rattle.exchange_report.specs.Reasons.{cause_of}
 use Rattle.exchange_report.specs.declared.reason.Reason.{Reason}
-use Rattle.shard_effects.specs.Reasons.{is_end_of_wire, origin_head_reason}
+use Rattle.shard_exchange.specs.Reasons.{is_end_of_wire, origin_head_reason}
 use Rattle.shard_exchange.specs.Outcomes.{FaultLeads}
 use Rattle.shard_exchange.proofs.exchange.Exchange.response_failed.Goals as goal
 use Rattle.shard_exchange.proofs.exchange.Exchange.response_failed.Goals.{else-is_end_of_wire-via-then-is_end_of_wire+then-may+else-withdraw-eq0, else-is_end_of_wire-via-then-is_end_of_wire+else-may, else-is_end_of_wire-via-else-is_end_of_wire}

@@ -3,11 +3,11 @@ use Rattle.exchange_core.specs.declared.course.Course.{Course}
 use Rattle.exchange_core.specs.declared.event.RefusalCause.{RefusalCause}
 use Rattle.exchange_core.specs.declared.event.RefusalCause.TheVariants as causes
 use Rattle.exchange_core.specs.Dues.{status_of}
-use Rattle.shard_effects.specs.Ends.{EndsBy, IfItself}
-use Rattle.shard_effects.specs.declared.ends.End.{End}
-use Rattle.shard_effects.specs.declared.ends.End.TheVariants as ends
-use Rattle.shard_effects.specs.declared.ends.EndedBy.{EndedBy}
-use Rattle.shard_effects.specs.declared.ends.EndedBy.TheVariants as ended
+use Rattle.shard_exchange.specs.EndedBy.{EndsBy, IfItself}
+use Rattle.shard_exchange.specs.declared.ends.End.{End}
+use Rattle.shard_exchange.specs.declared.ends.End.TheVariants as ends
+use Rattle.shard_exchange.specs.declared.ends.EndedBy.{EndedBy}
+use Rattle.shard_exchange.specs.declared.ends.EndedBy.TheVariants as ended
 use Rattle.shard_exchange.specs.Ends.{IsOwed, IsOwedBy, LastsAs}
 use Rattle.shard_exchange.proofs.exchange.Exchange.settle.Goals as goal
 

@@ -1,5 +1,5 @@
 use Rattle.std.proofs.Common.{Option, Some, sym, subst}
-use Rattle.shard_effects.specs.declared.answers.HeadTurn.{HeadTurn}
+use Rattle.shard_exchange.specs.declared.answers.HeadTurn.{HeadTurn}
 use Rattle.shard_exchange.specs.Outcomes.{TurnLeads}
 use Rattle.shard_exchange.proofs.exchange.Exchange.take_turn.Goals as goal
 

@@ -9,9 +9,9 @@ use Rattle.exchange_core.specs.declared.phase.Phase.TheVariants.{Moving}
 use Rattle.exchange_core.specs.Course.{after, renewed}
 use Rattle.exchange_core.specs.May.{may_come, is_at_gate, is_moving, is_refusing, is_withdrawing}
 use Rattle.exchange_core.proofs.Stepping.{goes_on}
-use Rattle.shard_effects.specs.declared.answers.Round.{Round}
-use Rattle.shard_effects.specs.declared.answers.Round.TheVariants.{Broken}
-use Rattle.shard_effects.specs.declared.ends.End.{End}
+use Rattle.shard_exchange.specs.declared.answers.Round.{Round}
+use Rattle.shard_exchange.specs.declared.answers.Round.TheVariants.{Broken}
+use Rattle.shard_exchange.specs.declared.ends.End.{End}
 use Rattle.shard_exchange.specs.Ends.{moves, IsEnded, IsServedBy}
 use Rattle.shard_exchange.specs.Outcomes.{has_answer, IsTurned}
 use Rattle.shard_exchange.proofs.exchange.Exchange.turn.Goals as goal

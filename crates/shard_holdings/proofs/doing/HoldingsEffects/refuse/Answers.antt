@@ -1,5 +1,5 @@
 use Rattle.std.proofs.Common.{◌≡◌, ℕ, List, subst}
-use Rattle.shard_effects.specs.Saying.{SaysOn, past_of}
+use Rattle.shard_exchange.specs.Saying.{SaysOn, past_of}
 use Rattle.shard_holdings.proofs.doing.HoldingsEffects.refuse.Goals as goal
 
 pub returns-clause-says : goal.returns-clause-says

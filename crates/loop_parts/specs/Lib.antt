@@ -1,4 +1,0 @@
-pub mod Marks
-pub mod Requests
-pub mod Shares
-pub mod Sparing

@@ -1,0 +1,98 @@
+-- An exchange that is driven, step by step.
+use Rattle.std.proofs.Common.{◌≡◌, ℕ, ◌+◌, ◌<◌, ◌≤◌, inl, inr, true, cond, List, [], ◌∷◌, ◌++◌, length, refl, ap, sym, ◌∙◌, subst, arith}
+use Rattle.event_loop.specs.declared.work.Driven.TheVariants.{Waiting, CutShort, Blocked, Over}
+use Rattle.exchange_core.specs.declared.phase.Phase.{Phase}
+use Rattle.shard_exchange.specs.declared.tasks.Task.TheVariants as tasks
+use Rattle.shard_exchange.specs.declared.tasks.Step.{Step}
+use Rattle.shard_exchange.specs.declared.tasks.Step.TheVariants as steps
+use Rattle.shard_desk.specs.declared.driving.TheConstants.{ROUNDS, STEPS}
+use Rattle.shard_desk.specs.Driving.{Doing, Adds, is_round, weight, rounds, MayStep, leads_on, LeadOn, Drives}
+use Rattle.shard_desk.specs.Driving.Doing.{Did}
+
+-- the steps so far led on; so many they are, and so much was done at connections
+pub record Led (before after : List Doing → Type 0) (taken spent : ℕ) : Type 0 where
+  pub doings : List Doing
+  pub past : (past : List Doing) → before past → after (doings ++ past)
+  pub on : LeadOn doings
+  pub many : length doings ≡ taken
+  pub rounds_are : rounds doings ≡ spent
+
+-- before the first one
+pub led_none : (before : List Doing → Type 0) → Led before before 0 0
+led_none before = record { doings = []; past = λ past h. h; on = tt; many = refl; rounds_are = refl }
+
+may_step : (phase : Phase) (before after : List Doing → Type 0) (taken spent : ℕ) (led : Led before after taken spent)
+    → (is_round phase ≡ true → spent < ROUNDS) → MayStep phase led.doings
+may_step phase before after taken spent led room is = subst (λ (n : ℕ). n < ROUNDS) (sym led.rounds_are) (room is)
+
+-- one more
+pub led_more : (before mid after : List Doing → Type 0) (taken spent : ℕ) (phase : Phase) (step : Step) → Led before mid taken spent
+    → (is_round phase ≡ true → spent < ROUNDS) → Adds mid after (Did phase tasks.Step step) → leads_on step ≡ true
+    → Led before after (taken + 1) (cond (is_round phase) (spent + weight step) spent)
+led_more before mid after taken spent phase step led room adds on = record {
+  doings = Did phase tasks.Step step ∷ led.doings;
+  past = λ past h. adds (led.doings ++ past) (led.past past h);
+  on = (refl, on, may_step phase before mid taken spent led room, led.on);
+  many = let many = led.many in omega (arith, many);
+  rounds_are = ap (λ (n : ℕ). cond (is_round phase) (n + weight step) n) led.rounds_are;
+}
+
+-- it is blocked
+pub drives_blocked : (before after : List Doing → Type 0) (taken spent other : ℕ) → Led before after taken spent → taken ≤ STEPS
+    → Drives before after (Blocked other)
+drives_blocked before after taken spent other led most = record {
+  doings = led.doings;
+  past = led.past;
+  most = subst (λ (n : ℕ). n ≤ STEPS) (sym led.many) most;
+  leads = led.on;
+}
+
+-- others get their turn, since so much was done at its connections
+pub drives_spent : (before after : List Doing → Type 0) (taken spent : ℕ) → Led before after taken spent → taken ≤ STEPS → ROUNDS ≤ spent
+    → Drives before after CutShort
+drives_spent before after taken spent led most much = record {
+  doings = led.doings;
+  past = led.past;
+  most = subst (λ (n : ℕ). n ≤ STEPS) (sym led.many) most;
+  leads = (led.on, inr (subst (λ (n : ℕ). ROUNDS ≤ n) (sym led.rounds_are) much));
+}
+
+-- others get their turn, since so many steps were taken
+pub drives_all : (before after : List Doing → Type 0) (taken spent : ℕ) → Led before after taken spent → taken ≡ STEPS
+    → Drives before after CutShort
+drives_all before after taken spent led all = record {
+  doings = led.doings;
+  past = led.past;
+  most = let e = led.many ∙ all in omega (arith, e);
+  leads = (led.on, inl (led.many ∙ all));
+}
+
+-- its user is lost
+pub drives_lost : (before mid after : List Doing → Type 0) (taken spent : ℕ) (phase : Phase) (step : Step) → Led before mid taken spent
+    → taken < STEPS → Adds mid after (Did phase tasks.Lose step) → Drives before after Over
+drives_lost before mid after taken spent phase step led most adds = record {
+  doings = Did phase tasks.Lose step ∷ led.doings;
+  past = λ past h. adds (led.doings ++ past) (led.past past h);
+  most = let many = led.many in omega (arith, many, most);
+  leads = inr (step, record { phase = phase; before = led.doings; is = refl; may = λ no. let no : tasks.Lose ≡ tasks.Step = no in cc; on = led.on });
+}
+
+-- the last step waits
+pub drives_waiting : (before mid after : List Doing → Type 0) (taken spent : ℕ) (phase : Phase) → Led before mid taken spent
+    → taken < STEPS → (is_round phase ≡ true → spent < ROUNDS) → Adds mid after (Did phase tasks.Step steps.Waits) → Drives before after Waiting
+drives_waiting before mid after taken spent phase led most room adds = record {
+  doings = Did phase tasks.Step steps.Waits ∷ led.doings;
+  past = λ past h. adds (led.doings ++ past) (led.past past h);
+  most = let many = led.many in omega (arith, many, most);
+  leads = record { phase = phase; before = led.doings; is = refl; may = λ is. may_step phase before mid taken spent led room; on = led.on };
+}
+
+-- with the last step it is over
+pub drives_over : (before mid after : List Doing → Type 0) (taken spent : ℕ) (phase : Phase) → Led before mid taken spent
+    → taken < STEPS → (is_round phase ≡ true → spent < ROUNDS) → Adds mid after (Did phase tasks.Step steps.Over) → Drives before after Over
+drives_over before mid after taken spent phase led most room adds = record {
+  doings = Did phase tasks.Step steps.Over ∷ led.doings;
+  past = λ past h. adds (led.doings ++ past) (led.past past h);
+  most = let many = led.many in omega (arith, many, most);
+  leads = inl (record { phase = phase; before = led.doings; is = refl; may = λ is. may_step phase before mid taken spent led room; on = led.on });
+}

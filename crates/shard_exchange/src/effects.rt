@@ -1,0 +1,419 @@
+//! What an exchange asks of what it holds.
+
+ghost use Rattle.std.specs.Prelude.{◌≡◌, ◌&&◌, ℕ, Bool, List, IsTrue, Some, Option, Result, is_ok, true, false, IfSome, IfOk, IfErr};
+ghost use Rattle.exchange_core.specs.Course.{is_ready};
+ghost use Rattle.exchange_core.specs.declared.course.Course.{Course as AnyCourse};
+ghost use Rattle.exchange_core.specs.declared.dialing.Dialing.{Dialing as AnyDialing};
+ghost use Rattle.exchange_core.specs.declared.dialing.Dialing.TheVariants.{KeptFirst};
+ghost use Rattle.exchange_core.specs.declared.event.Event.TheVariants.{Withdrawn};
+ghost use Rattle.exchange_core.specs.Dues.{due_of, is_for_telling, refusal_due};
+ghost use Rattle.exchange_core.specs.declared.event.RefusalCause.TheVariants.{Scarce};
+ghost use Rattle.exchange_core.specs.Log.{is_silent};
+ghost use Rattle.exchange_core.specs.May.{is_gone, may_come, may_keep_origin};
+ghost use Rattle.http_side.specs.Refusals.{is_own_status};
+ghost use Rattle.icap_head.specs.Heads.{Response as AnyResponse, response_parts};
+ghost use Rattle.trace_core.specs.declared.history.Point.{Point as AnyPoint};
+ghost use Rattle.wire_kit.specs.Past.{Past};
+ghost use Rattle.service_lines.specs.declared.connector.LendFault.{LendFault as AnyFault};
+ghost use Rattle.shard_exchange.specs.Hand.{Hand, IsEmpty, Keeps, KeepsButTold, KeepsButRefused, KeepsButLease, KeepsButRoom, KeepsButOrigin, SetsOut, ComesBack};
+ghost use Rattle.shard_exchange.specs.EndedBy.{EndsBy, IfItself};
+ghost use Rattle.shard_exchange.specs.Leases.{Renews};
+ghost use Rattle.exchange_report.specs.Reasons.{cause_of};
+ghost use Rattle.shard_exchange.specs.Reasons.{lies_elsewhere, unplanned_reason};
+ghost use Rattle.shard_exchange.specs.Saying.{LaysPage, SaysOn, interim_text, refusal_by};
+ghost use Rattle.shard_exchange.specs.declared.answers.HeadTurn.{HeadTurn as AnyHeadTurn};
+ghost use Rattle.shard_exchange.specs.declared.answers.Marks.{Marks as AnyMarks};
+ghost use Rattle.shard_exchange.specs.declared.answers.Round.{Round as AnyRound};
+ghost use Rattle.shard_exchange.specs.declared.answers.Unplanned.{Unplanned as AnyUnplanned};
+ghost use Rattle.shard_exchange.specs.declared.answers.Withdrawal.{Withdrawal as AnyWithdrawal};
+ghost use Rattle.shard_exchange.specs.declared.ends.End.{End as AnyEnd};
+
+use crate::answers::{
+    HeadTurn, Lingered, Marks, OptionsTurn, Round, Said, Started, Unplanned, Withdrawal,
+};
+use crate::ends::{End, EndedBy, Report};
+use adapt_sides::ClientFault;
+use exchange_core::{Course, Dialing, Exchange};
+use exchange_report::Reason;
+use http_side::HttpFault;
+use icap_head::IcapResponse;
+use service_lines::LendFault;
+use std::sync::Wait;
+use trace_core::Point;
+
+/// What is held of what the course of an exchange counts.
+pub trait InHand {
+    // what is held
+    ghost hand: { Self → Hand };
+}
+
+/// What an exchange holds beside its course: the connections, the message, its plan, its reservation and its transaction.
+pub trait Holder: InHand {
+    // a byte of an answer of the message that moves went to its user
+    ghost answered: { Self → Bool };
+
+    // the connection to its service may carry another request
+    ghost reusable: { Self → Bool };
+
+    // what may have happened on the user's connection so far, where no transaction has it
+    ghost user_past: { Self → Past → Type 0 };
+
+    // so may that on which a service was asked for its options and answered this
+    ghost usable_after: { Self → AnyResponse → Bool };
+
+    // what the course is told of the message that moves where nothing else ends it: by how its transaction ended, and whether the course
+    // lets it be withdrawn
+    ghost ends: { Self → (may_withdraw : Bool) → AnyEnd → Type 0 };
+
+    // what is held once it ended so: the message that follows on the user's connection begins with what was left over; where an answer
+    // begins, its origin's connection has given nothing since the request set out
+    ghost follows: { Self → AnyEnd → Self → Type 0 };
+
+    // the connection of a service that has said all comes out of the transaction, and may carry another request or not
+    ghost frees: { Self → Self → Option Bool → Type 0 };
+
+    // the request that went out is here to be sent again, and its origin's connection has given no byte since it was dialed
+    ghost repeats: { Self → Type 0 };
+
+    // what came of it where it was to be the message again
+    ghost withdraws: { Self → AnyWithdrawal → Type 0 };
+
+    // a turn at the head of the user's request leads from the one to the other, and brings this
+    ghost reads: { Self → Self → Option AnyHeadTurn → Type 0 };
+
+    // so does one at the head of the origin's response
+    ghost hears: { Self → Self → Option AnyHeadTurn → Type 0 };
+
+    // by whether a byte of an answer went to its user: that one's connection is cut, so that the user sees that the answer isn't whole
+    ghost cut_is: { Self → (answered cut : Bool) → Type 0 };
+
+    /// The surroundings of the exchanges of a thread.
+    type Outside;
+
+    // a byte of the head came that is read
+    ghost has_begun: { Self → Bool };
+
+    /// Whether a byte of the head came that is read.
+    fn has_begun(&self) -> bool
+        ensures { result ≡ has_begun self.now };
+
+    /// What is at fault in the head that is read.
+    fn head_fault(&self) -> Option<HttpFault>;
+
+    /// Whether a message's transaction is held.
+    fn is_moving(&self) -> bool
+        ensures { result ≡ (Self.hand self.now).moving };
+
+    /// A turn at the head of the user's request. `None` where nobody reads it, or the user is gone.
+    fn read_request(&mut self) -> Option<HeadTurn>
+        ensures reads { Self.reads self.old self.new result }
+        ensures kept { Keeps (Self.hand self.old) (Self.hand self.new) };
+
+    /// A turn at the head of the origin's response. `None` where nobody reads it, or there is no connection.
+    fn read_response(&mut self) -> Option<HeadTurn>
+        ensures hears { Self.hears self.old self.new result }
+        ensures kept { Keeps (Self.hand self.old) (Self.hand self.new) };
+
+    /// A turn at asking the service for its options. `None` where nobody asks, or there is no connection for it.
+    fn hear(&mut self) -> Option<OptionsTurn>
+        ensures { Keeps (Self.hand self.old) (Self.hand self.new) };
+
+    /// Tells the user to send its body, as far as it takes the text, from where the last call ended. At this course that is due.
+    fn tell(&mut self, course: &Exchange) -> Said
+        requires due { is_for_telling (due_of course.now) ≡ true }
+        ensures says { SaysOn (user_past self.old) (user_past self.new) interim_text (Self.hand self.old).told (Self.hand self.new).told result }
+        ensures kept { KeepsButTold (Self.hand self.old) (Self.hand self.new) };
+
+    // the user was told that nothing more comes
+    ghost finished: { Self → Bool };
+
+    /// Whether the user was told that nothing more comes.
+    fn is_finished(&self) -> bool
+        ensures { result ≡ finished self.now };
+
+    /// Closes the user's connection. At this course the user is gone.
+    fn lose_user(&mut self, course: &Exchange)
+        requires gone { is_gone course.now.phase ≡ true }
+        ensures kept { Keeps (Self.hand self.old) (Self.hand self.new) };
+
+    /// Closes the origin's connection.
+    fn hang_up(&mut self)
+        ensures hung { (Self.hand self.new).origin ≡ false }
+        ensures kept { KeepsButOrigin (Self.hand self.old) (Self.hand self.new) };
+
+    /// Whether a byte of an answer went to the user.
+    fn has_answered(&self) -> bool
+        requires { (Self.hand self.now).moving ≡ true }
+        ensures { result ≡ answered self.now };
+
+    /// Takes the service's connection back from the transaction once the service has said all: whether it may carry another request.
+    fn free_service(&mut self) -> Option<bool>
+        requires { (Self.hand self.old).moving ≡ true }
+        ensures kept { Keeps (Self.hand self.old) (Self.hand self.new) }
+        ensures freed { frees self.old self.new result }
+        ensures served { IfSome result (λ usable. usable ≡ reusable self.old) };
+
+    /// Lets all go of an exchange that is over.
+    fn finish(self)
+        requires { IsEmpty (Self.hand self) };
+}
+
+/// All that an exchange may have to do. `P` is its place in its surroundings: its key, the moment, and what reaches the system.
+pub trait Effects<P>: Holder {
+    // no byte of the exchange moved for longer than the deadline
+    ghost is_late: { Self.Outside → P → Bool };
+
+    // a message has waited for a connection to its service as long as it may, or hasn't
+    ghost has_waited: { Self.Outside → P → Bool → Type 0 };
+
+    // no connection was lent, for this fault: the surroundings after that
+    ghost fails: { Self.Outside → P → AnyFault → Type 0 };
+
+    // a message was to wait for a connection of this point's service, and does, or doesn't: the surroundings after that
+    ghost joins: { Self.Outside → P → AnyPoint → Bool → Type 0 };
+
+    // a message is planned: what is held before and after that, its surroundings, whether its service was asked for it, and the answer
+    ghost plans: { Self → Self → Self.Outside → P → Bool → Result AnyMarks AnyUnplanned → Type 0 };
+
+    // what a point's service said of its options was read of this answer, and is kept: the surroundings before and after that
+    ghost learns: { Self.Outside → Self.Outside → P → AnyPoint → AnyResponse → Type 0 };
+
+    // the leased connection that is held is one of this point's service, and was idle before, or is a fresh one
+    ghost leases: { Self → AnyPoint → (reused : Bool) → Type 0 };
+
+    // the service of this point is asked for its options: the request for that is to be sent
+    ghost asks: { Self → Self.Outside → AnyPoint → Type 0 };
+
+    // the connection to the origin, dialed so, leads where the plan of its message says, and was kept or is a fresh one: what is held
+    // before it is dialed and after that, and the surroundings
+    ghost dials: { Self → Self → Self.Outside → Self.Outside → P → AnyDialing → (kept : Bool) → Type 0 };
+
+    // the message that begins to move began with this: what was held before that and is after it, the surroundings and the course
+    ghost starts: { Self → Self → Self.Outside → P → AnyCourse → Type 0 };
+
+    // a round of turns of the message that moves leads from the one to the other, and answers this: with the surroundings before it and
+    // after it
+    ghost rounds: { Self → Self → Self.Outside → Self.Outside → P → AnyRound → Type 0 };
+
+    // the origin's connection that is held was laid down for later exchanges, or there was no room for it: the surroundings before that
+    // and after it; or it was closed
+    ghost lays: { Self → Self.Outside → Self.Outside → P → (kept : Bool) → Type 0 };
+
+    ghost closes: { Self → Self.Outside → Self.Outside → P → Type 0 };
+
+    // the leased connection that is held was put back, or its lease given up: the surroundings before that and after it
+    ghost puts: { Self → Self.Outside → Self.Outside → P → Type 0 };
+
+    ghost gives_up: { Self → Self.Outside → Self.Outside → P → Type 0 };
+
+    // it is there, beside its lease
+    ghost has_line: { Self → Bool };
+
+    // refusals of this status have this page
+    ghost has_page: { Self.Outside → P → (status : ℕ) → List ℕ → Type 0 };
+
+    /// Whether no byte moved for longer than the deadline.
+    fn is_late(at: &P, out: &Self::Outside) -> bool
+        ensures { result ≡ is_late out.now at.now };
+
+    /// Whether the user has said nothing for so long that a proxy that drains lets it go.
+    fn has_rested(at: &P, out: &Self::Outside) -> bool;
+
+    /// Whether the message has waited for a connection to its service as long as it may.
+    fn has_waited(at: &P, out: &Self::Outside) -> bool
+        ensures { has_waited out.now at.now result };
+
+    /// Whether a question for options may be asked anew.
+    fn may_retry(at: &P, out: &Self::Outside) -> bool;
+
+    /// Whether the transaction of a message may move.
+    fn may_pass(at: &P, out: &mut Self::Outside) -> bool;
+
+    /// Plans the message, and keeps its plan. Its service was asked for it, or not.
+    fn plan(&mut self, at: &P, out: &Self::Outside, asked: bool) -> Result<Marks, Unplanned>
+        ensures plans { plans self.old self.new out.now at.now asked result }
+        ensures suits { IfErr result (λ unplanned. lies_elsewhere (unplanned_reason unplanned) ≡ true) }
+        ensures kept { Keeps (Self.hand self.old) (Self.hand self.new) };
+
+    /// Leases a connection of the point's service: whether it was idle before.
+    fn lend(&mut self, at: &P, out: &mut Self::Outside, point: Point) -> Result<bool, LendFault>
+        requires { (Self.hand self.old).leased ≡ false }
+        ensures lent { is_ok result ≡ (Self.hand self.new).leased }
+        ensures leases { IfOk result (leases self.new point) }
+        ensures fails { IfErr result (fails out.new at.now) }
+        ensures kept { KeepsButLease (Self.hand self.old) (Self.hand self.new) };
+
+    /// Leases a connection to a message that waits, once it is its turn. With a connection it has left the queue.
+    fn lend_in_turn(
+        &mut self,
+        at: &P,
+        out: &mut Self::Outside,
+        point: Point,
+    ) -> Result<bool, LendFault>
+        requires { (Self.hand self.old).leased ≡ false }
+        ensures lent { is_ok result ≡ (Self.hand self.new).leased }
+        ensures leases { IfOk result (leases self.new point) }
+        ensures fails { IfErr result (fails out.new at.now) }
+        ensures kept { KeepsButLease (Self.hand self.old) (Self.hand self.new) };
+
+    /// Has a message wait for a connection. False where it may not.
+    fn join_queue(at: &P, out: &mut Self::Outside, point: Point) -> bool
+        ensures { joins out.new at.now point result };
+
+    /// Has a message wait no more, where it waits for a connection.
+    fn leave_queue(at: &P, out: &mut Self::Outside, course: &Exchange);
+
+    /// Begins to ask the point's service for its options.
+    fn ask(&mut self, at: &P, out: &Self::Outside, point: Point) -> Result<(), Reason>
+        ensures asks { IfOk result (λ _. asks self.new out.now point) }
+        ensures suits { IfErr result (λ reason. lies_elsewhere reason ≡ true) }
+        ensures kept { Keeps (Self.hand self.old) (Self.hand self.new) };
+
+    /// Begins to ask the point's service anew, on a fresh connection.
+    fn ask_anew(&mut self, at: &P, out: &mut Self::Outside, point: Point) -> Result<(), Reason>
+        ensures asks { IfOk result (λ _. asks self.new out.new point) }
+        ensures fresh { IfOk result (λ _. Renews leases self.old self.new) }
+        ensures suits { IfErr result (λ reason. lies_elsewhere reason ≡ true) }
+        ensures kept { Keeps (Self.hand self.old) (Self.hand self.new) };
+
+    /// Keeps what the point's service said of its options: whether its connection may serve again.
+    fn learn(
+        &mut self,
+        at: &P,
+        out: &mut Self::Outside,
+        point: Point,
+        answer: &IcapResponse,
+    ) -> Result<bool, Reason>
+        ensures usable { IfOk result (λ usable. usable ≡ Self.usable_after self.old (response_parts answer.now)) }
+        ensures learned { IfOk result (λ _. learns out.old out.new at.now point (response_parts answer.now)) }
+        ensures suits { IfErr result (λ reason. lies_elsewhere reason ≡ true) }
+        ensures kept { Keeps (Self.hand self.old) (Self.hand self.new) };
+
+    /// Takes note that the service's connection failed while it was asked.
+    fn blame(&self, at: &P, out: &mut Self::Outside, fault: ClientFault);
+
+    /// Reserves what the planned message may need.
+    fn reserve<R: Wait>(&mut self, rt: &R, at: &P, out: &mut Self::Outside) -> Result<(), Reason>
+        requires { ((Self.hand self.old).room ≡ false) × ((Self.hand self.old).moving ≡ false) }
+        ensures reserved { is_ok result ≡ (Self.hand self.new).room }
+        ensures suits { IfErr result (λ reason. cause_of reason ≡ Scarce) }
+        ensures kept { KeepsButRoom (Self.hand self.old) (Self.hand self.new) };
+
+    /// Opens the connection that a request goes to for which this was reserved, or takes one that was kept, where it may: whether it is a
+    /// kept one.
+    fn dial(&mut self, at: &P, out: &mut Self::Outside, dialing: Dialing) -> Result<bool, Reason>
+        requires { ((Self.hand self.old).origin ≡ false) × ((Self.hand self.old).moving ≡ false) }
+        ensures opened { is_ok result ≡ (Self.hand self.new).origin }
+        ensures leads { IfOk result (λ kept. dials self.old self.new out.old out.new at.now dialing kept) }
+        ensures fresh { IfOk result (λ kept. kept ≡ true → dialing ≡ KeptFirst) }
+        ensures suits { IfErr result (λ reason. lies_elsewhere reason ≡ true) }
+        ensures kept { KeepsButOrigin (Self.hand self.old) (Self.hand self.new) };
+
+    /// Starts the transaction of a message that has all that it needs. Where it can't, what it would have stood over stays here.
+    fn start<R: Wait>(&mut self, rt: &R, at: &P, out: &mut Self::Outside, course: Course) -> Started
+        requires needs { ((Self.hand self.old).room ≡ true) × ((Self.hand self.old).origin ≡ true) }
+        requires still { (Self.hand self.old).moving ≡ false }
+        ensures begins { result ≡ Started.Moves → starts self.old self.new out.old at.now course }
+        ensures moves { result ≡ Started.Moves → SetsOut (Self.hand self.old) (Self.hand self.new) }
+        ensures fails { result ≡ Started.Fails → Keeps (Self.hand self.old) (Self.hand self.new) }
+        ensures gone { result ≡ Started.NoUser → Keeps (Self.hand self.old) (Self.hand self.new) };
+
+    /// A round of turns of the message's transaction.
+    fn round<R: Wait>(&mut self, rt: &R, at: &P, out: &mut Self::Outside, may_renew: bool) -> Round
+        requires { (Self.hand self.old).moving ≡ true }
+        ensures kept { Keeps (Self.hand self.old) (Self.hand self.new) }
+        ensures rounds { rounds self.old self.new out.old out.new at.now result }
+        ensures renewed { result ≡ Round.Broken → may_renew ≡ true };
+
+    /// Takes the transaction apart of a message that is over, or ends by this. What it stood over comes back. Where a request may be
+    /// withdrawn at this course, and its origin's kept connection has ended, it is the message again.
+    fn settle<R: Wait>(
+        &mut self,
+        rt: &R,
+        at: &P,
+        out: &mut Self::Outside,
+        by: EndedBy,
+        course: &Exchange,
+    ) -> Report
+        requires { (Self.hand self.old).moving ≡ true }
+        ensures withdrawn { result.end ≡ End.Withdrawn true
+            → (may_come course.now Withdrawn ≡ true) × Self.repeats self.old × (result.has_answered ≡ false) }
+        ensures back { ComesBack (Self.hand self.old) (Self.hand self.new) }
+        ensures ends { EndsBy by result.end }
+        ensures answered { result.has_answered ≡ Self.answered self.old }
+        ensures followed { Self.follows self.old result.end self.new }
+        ensures told { IfItself by (Self.ends self.old (may_come course.now Withdrawn) result.end) }
+        ensures cuts { result.has_answered ≡ false → result.cuts ≡ false }
+        ensures cut { Self.cut_is self.old result.has_answered result.cuts }
+        ensures served { IfSome result.served (λ usable. usable ≡ Self.reusable self.old) };
+
+    /// Has the request that went out be the message again, where its origin has said nothing, and memory is found for that. At this course
+    /// its connection was kept, and has ended.
+    fn withdraw(&mut self, at: &P, out: &mut Self::Outside, course: &Exchange) -> Withdrawal
+        requires may { may_come course.now Withdrawn ≡ true }
+        ensures answers { Self.withdraws self.old result }
+        ensures repeats { result ≡ Withdrawal.Again → Self.repeats self.old }
+        ensures kept { Keeps (Self.hand self.old) (Self.hand self.new) };
+
+    /// Keeps the origin's connection for later exchanges where it lasts at this course, and there is room for it. Else it is closed. Says
+    /// whether it is kept.
+    fn keep_origin(&mut self, at: &P, out: &mut Self::Outside, course: &Exchange) -> bool
+        requires { (Self.hand self.old).origin ≡ true }
+        ensures hung { (Self.hand self.new).origin ≡ false }
+        ensures kept { KeepsButOrigin (Self.hand self.old) (Self.hand self.new) }
+        ensures lasts { result ≡ true → may_keep_origin course.now ≡ true }
+        ensures laid { may_keep_origin course.now ≡ true → lays self.old out.old out.new at.now result }
+        ensures closed { may_keep_origin course.now ≡ false → closes self.old out.old out.new at.now };
+
+    /// Puts the service's connection back where by this course nothing is under way on it, and it may serve again: the one that was leased,
+    /// with its lease. Else it is closed, and its lease given up. Says whether it was put back.
+    fn give_back(&mut self, at: &P, out: &mut Self::Outside, course: &Exchange) -> bool
+        requires { (Self.hand self.old).leased ≡ true }
+        ensures back { (Self.hand self.new).leased ≡ false }
+        ensures kept { KeepsButLease (Self.hand self.old) (Self.hand self.new) }
+        ensures put { result ≡ true → puts self.old out.old out.new at.now }
+        ensures closed { result ≡ false → gives_up self.old out.old out.new at.now }
+        ensures ready { result ≡ (is_ready course.now.connection && has_line self.old) };
+
+    /// Closes the reservation.
+    fn release<R: Wait>(&mut self, rt: &R, at: &P, out: &mut Self::Outside)
+        requires { (Self.hand self.old).room ≡ true }
+        ensures released { (Self.hand self.new).room ≡ false }
+        ensures kept { KeepsButRoom (Self.hand self.old) (Self.hand self.new) };
+
+    /// Says the refusal of this status to the user, as far as it takes it, from where the last call ended. At this course it is due, so
+    /// no byte of an answer or of another text is out. The proxy has a refusal of that status. It is the one with a page where refusals of
+    /// the status have one, and memory is found for it; once a byte is out it stays what it is.
+    fn refuse(&mut self, at: &P, out: &mut Self::Outside, course: &Exchange, status: u16) -> Said
+        requires due { refusal_due (due_of course.now) ≡ Some status }
+        requires own { IsTrue (is_own_status status) }
+        ensures lays { LaysPage (has_page out.old at.now status) status (Self.hand self.old).refused (Self.hand self.new).refused.page }
+        ensures says { SaysOn (Self.user_past self.old) (Self.user_past self.new) (refusal_by status (Self.hand self.new).refused.page)
+            (Self.hand self.old).refused.out (Self.hand self.new).refused.out result }
+        ensures kept { KeepsButRefused (Self.hand self.old) (Self.hand self.new) };
+
+    /// Says to the user that nothing more comes. At this course all is said to it, also the refusal.
+    fn close(&mut self, at: &P, course: &Exchange)
+        requires silent { is_silent course.now.phase ≡ true }
+        ensures said { Self.finished self.new ≡ true }
+        ensures kept { Keeps (Self.hand self.old) (Self.hand self.new) };
+
+    /// Drops what the user still sends. At this course all is said to it.
+    fn linger(&mut self, at: &P, out: &mut Self::Outside, course: &Exchange) -> Lingered
+        requires silent { is_silent course.now.phase ≡ true }
+        ensures kept { Keeps (Self.hand self.old) (Self.hand self.new) };
+
+    /// The head of a request was read. Its user was told nothing yet.
+    fn note_request(&mut self, at: &P, out: &mut Self::Outside)
+        ensures untold { (Self.hand self.new).told ≡ 0 }
+        ensures kept { KeepsButTold (Self.hand self.old) (Self.hand self.new) };
+
+    /// The head of the origin's response was read.
+    fn note_response(&self, at: &P, out: &mut Self::Outside);
+
+    /// The user is refused for this reason, where a refusal goes out at this course.
+    fn note_refusal(&self, at: &P, out: &mut Self::Outside, course: &Exchange, reason: Reason);
+
+    /// An answer ends unfinished because the proxy stops, where it does at this course.
+    fn note_stop(at: &P, out: &mut Self::Outside, course: &Exchange);
+}

@@ -1,0 +1,61 @@
+//! Heads of messages: the user's requests, and the origins' responses.
+
+ghost use Rattle.std.specs.Prelude.{◌≡◌, ◌++◌, ℕ, List, IfSome, is_some};
+ghost use Rattle.proxy_rules.specs.Arrivals.{Came};
+
+use http_relay::HeadProgress;
+use http_side::HttpFault;
+use proxy_rules::Incoming;
+use shard_exchange::HeadTurn;
+use std::boxed::Box;
+use wire_kit::Wire;
+
+/// What a turn means that read bytes of a head which isn't whole. After an interim response they count as one: an origin that never
+/// answers could send such heads in pieces for ever.
+fn part_of(message: &Incoming) -> HeadTurn {
+    if message.has_interims() {
+        HeadTurn::Interim
+    } else {
+        HeadTurn::More
+    }
+}
+
+/// A turn at a message's head over this wire.
+fn head_turn<W: Wire>(message: &mut Incoming, wire: &mut W) -> HeadTurn
+    ensures { (first : W) (ahead since beside : List ℕ) → Came W.Wire first ahead since beside message.old.side wire.old
+        → (more : List ℕ) × Came W.Wire first ahead (since ++ more) beside message.new.side wire.new }
+{
+    let (before, _) = wire.counts();
+    match message.head_turn(wire) {
+        Ok(HeadProgress::Taken) => HeadTurn::Whole,
+        Ok(HeadProgress::Interim) => HeadTurn::Interim,
+        Ok(HeadProgress::More) if wire.counts().0 != before => part_of(message),
+        Ok(HeadProgress::More) => HeadTurn::Nothing,
+        Err(fault) => HeadTurn::Fault(fault),
+    }
+}
+
+/// A turn at a message's head over its connection. `None` where either is missing.
+pub fn turn_on<W: Wire>(
+    message: &mut Option<Box<Incoming>>,
+    wire: &mut Option<W>,
+) -> Option<HeadTurn>
+    ensures there { is_some wire.new ≡ is_some wire.old }
+
+    // What the message has is what came over the connection since its first read.
+    ensures came { IfSome message.old (λ m. IfSome wire.old (λ w. (first : W) (ahead since beside : List ℕ) → Came W.Wire first ahead since beside m.value.side w
+        → IfSome message.new (λ n. IfSome wire.new (λ v. (more : List ℕ) × Came W.Wire first ahead (since ++ more) beside n.value.side v)))) }
+{
+    match (message, wire) {
+        (Some(message), Some(wire)) => Some(head_turn(message, wire)),
+        _ => None,
+    }
+}
+
+/// What is at fault in a message's head.
+pub fn fault_of(message: &Option<Box<Incoming>>) -> Option<HttpFault> {
+    match message {
+        Some(message) => message.head_fault(),
+        None => None,
+    }
+}

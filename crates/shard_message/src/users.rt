@@ -1,0 +1,57 @@
+//! What an exchange has its surroundings do by its course: for a user that is refused or closes, and for a message that waits.
+
+use crate::outside::Outside;
+use exchange_core::{Exchange, Phase};
+use proxy_rules::Incoming;
+use shard_exchange::{Lingered, Reason};
+use std::boxed::Box;
+
+/// Takes note of a refusal, where one goes out.
+pub fn note_refused<P, O: Outside<P>>(
+    at: &P,
+    out: &mut O,
+    course: &Exchange,
+    user: &Option<O::User>,
+    message: &Option<Box<Incoming>>,
+    reason: Reason,
+) {
+    if course.course().is_mid_text() {
+        return;
+    }
+    let message: Option<&Incoming> = match message {
+        Some(message) => Some(message),
+        None => None,
+    };
+    if let Some(user) = user {
+        out.note_refusal(at, user, message, reason);
+    }
+}
+
+/// Says to a user that nothing more comes.
+pub fn finish_user<P, O: Outside<P>>(user: &Option<O::User>) {
+    if let Some(user) = user {
+        O::finish(user);
+    }
+}
+
+/// Drops what a user still sends.
+pub fn linger_on<P, O: Outside<P>>(user: &mut Option<O::User>, out: &mut O) -> Lingered {
+    match user {
+        Some(user) => out.linger(user),
+        None => Lingered::Over,
+    }
+}
+
+/// Has a message that waits for a connection of its service wait no more.
+pub fn leave_queue<P, O: Outside<P>>(at: &P, out: &mut O, course: &Exchange) {
+    if let Phase::InQueue { point } = course.course().phase {
+        out.leave_queue(at, point);
+    }
+}
+
+/// Takes note that an answer ends unfinished, where it does.
+pub fn note_stopped<P, O: Outside<P>>(at: &P, out: &mut O, course: &Exchange) {
+    if course.course().phase == Phase::Gone {
+        out.note_stop(at);
+    }
+}

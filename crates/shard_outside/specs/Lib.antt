@@ -1,4 +1,0 @@
-pub mod Learning
-pub mod Planning
-pub mod Taking
-pub mod Usable

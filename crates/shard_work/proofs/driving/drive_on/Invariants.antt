@@ -1,6 +1,0 @@
--- The steps so far led on.
-use Rattle.shard_work.proofs.Led.{Led}
-use Rattle.shard_work.proofs.driving.drive_on.Given as goal
-
-abbrev pub invariant-loop-taken : goal.invariant-loop-taken
-invariant-loop-taken g l = Led (g.E.Exchange.Slotted.past l.fn.exchange) (g.E.Exchange.Slotted.past l.exchange) l._taken l.noted.rounds

@@ -1,7 +1,0 @@
--- The first one so far gives way.
-use Rattle.std.specs.Prelude.{IfSome}
-use Rattle.shard_work.specs.Sparing.{GivesWay}
-use Rattle.shard_work.proofs.seats.Seats.ended_with.Given as goal
-
-abbrev pub invariant-loop-key : goal.invariant-loop-key
-invariant-loop-key l = IfSome l.first (GivesWay l.initial.self l.initial.point)
