@@ -13,10 +13,10 @@ use Rattle.http_relay.specs.Judging.{IsInterim}
 use Rattle.http_relay.specs.Reading.{AtHead, Begins, AreInterims, IsBefore, IsHeadText, IsFinal, framing_of}
 use Rattle.http_relay.specs.Reading.AreInterims.{nothing, further}
 use Rattle.http_relay.specs.declared.side.SourceSide.{SourceSide}
-use Rattle.http_relay.specs.declared.side.SourceHead.{SourceHead}
-use Rattle.http_relay.specs.declared.side.SourceHead.TheVariants as heads
-use Rattle.http_relay.specs.declared.side.Asks.{Asks}
-use Rattle.http_relay.specs.declared.side.Asks.TheVariants as asks
+use Rattle.http_relay.specs.declared.side.head.SourceHead.{SourceHead}
+use Rattle.http_relay.specs.declared.side.head.SourceHead.TheVariants as heads
+use Rattle.http_relay.specs.declared.side.head.Asks.{Asks}
+use Rattle.http_relay.specs.declared.side.head.Asks.TheVariants as asks
 
 -- a text that stands at the front of the raw bytes is all of itself
 pub at_front : (raw text rest : List ℕ) (n : ℕ) → take 16384 raw ≡ text ++ rest → n ≡ length text → take n raw ≡ text

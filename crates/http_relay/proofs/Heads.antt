@@ -17,9 +17,9 @@ use Rattle.http_relay.specs.declared.source_body.SourceBody.{SourceBody}
 use Rattle.http_relay.proofs.Sides.{filled_more}
 use Rattle.adapt_sides.specs.declared.fault.RelayFault.{RelayFault}
 use Rattle.adapt_sides.specs.declared.fault.RelayFault.TheVariants.{Head, Chunk, Closed, Device, Length, NoMemory}
-use Rattle.http_relay.specs.declared.side.Asks.{Asks}
-use Rattle.http_relay.specs.declared.side.Asks.TheVariants as asks
-use Rattle.http_relay.specs.declared.side.SourceHead.TheVariants as heads
+use Rattle.http_relay.specs.declared.side.head.Asks.{Asks}
+use Rattle.http_relay.specs.declared.side.head.Asks.TheVariants as asks
+use Rattle.http_relay.specs.declared.side.head.SourceHead.TheVariants as heads
 use Rattle.http_relay.specs.declared.side.head.HeadProgress.{HeadProgress}
 use Rattle.http_relay.specs.declared.side.head.HeadProgress.TheVariants as progress
 use Rattle.adapt_sides.specs.declared.filling.Filled.TheVariants as filled

@@ -12,8 +12,8 @@ use Rattle.http_side.specs.declared.fault.HttpFault.TheVariants.{More}
 use Rattle.adapt_bytes.specs.Text.{has_line}
 use Rattle.http_relay.specs.Judging.{HasNoHead, RefusesBytes}
 use Rattle.http_relay.specs.declared.side.SourceSide.{SourceSide}
-use Rattle.http_relay.specs.declared.side.Asks.{Asks}
-use Rattle.http_relay.specs.declared.side.Asks.TheVariants as asks
+use Rattle.http_relay.specs.declared.side.head.Asks.{Asks}
+use Rattle.http_relay.specs.declared.side.head.Asks.TheVariants as asks
 use Rattle.http_relay.proofs.Beginning.{at_front}
 
 -- the last byte of a text is LF

@@ -8,8 +8,8 @@ use Rattle.http_relay.specs.Source.{Agrees, BodyRead, BodyReads, MustWait}
 use Rattle.http_relay.specs.Reading.{SideRead, SideReads, IsBefore, IsHeadText, framing_of}
 use Rattle.http_relay.specs.declared.source_body.SourceBody.{SourceBody}
 use Rattle.http_relay.specs.declared.side.SourceSide.{SourceSide}
-use Rattle.http_relay.specs.declared.side.SourceHead.{SourceHead}
-use Rattle.http_relay.specs.declared.side.Asks.{Asks}
+use Rattle.http_relay.specs.declared.side.head.SourceHead.{SourceHead}
+use Rattle.http_relay.specs.declared.side.head.Asks.{Asks}
 
 -- the same message, and the same framing of its body
 pub record SameMessage (old new : SourceSide) : Type 0 where

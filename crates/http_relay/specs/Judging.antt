@@ -10,9 +10,9 @@ use Rattle.adapt_sides.specs.declared.fault.RelayFault.{RelayFault}
 use Rattle.adapt_sides.specs.declared.fault.RelayFault.TheVariants.{Head, Closed, Device, NoMemory}
 use Rattle.adapt_bytes.specs.declared.limits.TheConstants.{MAX_HEAD}
 use Rattle.http_relay.specs.declared.side.SourceSide.{SourceSide}
-use Rattle.http_relay.specs.declared.side.Asks.{Asks}
-use Rattle.http_relay.specs.declared.side.Asks.TheVariants as asks
-use Rattle.http_relay.specs.declared.side.SourceHead.TheVariants as heads
+use Rattle.http_relay.specs.declared.side.head.Asks.{Asks}
+use Rattle.http_relay.specs.declared.side.head.Asks.TheVariants as asks
+use Rattle.http_relay.specs.declared.side.head.SourceHead.TheVariants as heads
 use Rattle.http_relay.specs.declared.side.head.TheConstants.{MAX_INTERIMS}
 use Rattle.http_relay.specs.declared.side.head.HeadProgress.{HeadProgress}
 use Rattle.http_relay.specs.declared.side.head.HeadProgress.TheVariants as progress

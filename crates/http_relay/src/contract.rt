@@ -11,7 +11,7 @@ use wire_kit::Wire;
 impl Source for SourceSide {
     ghost use Rattle.std.specs.Prelude.{◌≡◌, [], None};
     ghost use Rattle.trace_core.specs.History.{seen};
-    ghost use Rattle.http_relay.specs.declared.side.SourceHead.TheVariants as unread;
+    ghost use Rattle.http_relay.specs.declared.side.head.SourceHead.TheVariants as unread;
     ghost use Rattle.http_relay.specs.Source.{Agrees};
     ghost use Rattle.http_relay.specs.Reading.{SideRead, Rests, HasFramed, IsCause, IsOver};
     ghost use Rattle.http_relay.specs.SourceLaws as laws;

@@ -13,7 +13,7 @@ ghost use Rattle.http_side.specs.Heads.{RequestParts, ResponseParts};
 ghost use Rattle.http_side.specs.Requests.{IsRead};
 ghost use Rattle.http_side.specs.Responses.{IsResponseRead};
 ghost use Rattle.http_relay.specs.declared.side.SourceSide.{SourceSide};
-ghost use Rattle.http_relay.specs.declared.side.Asks.TheVariants as asks;
+ghost use Rattle.http_relay.specs.declared.side.head.Asks.TheVariants as asks;
 ghost use Rattle.http_relay.specs.Judging.{HasNoHead};
 ghost use Rattle.http_relay.specs.Reading.{Begins, SideRead};
 ghost use Rattle.http_relay.specs.declared.hop.Stage.TheVariants as at;

@@ -22,22 +22,7 @@ use wire_kit::Wire;
 
 mod head;
 
-pub use head::{HeadProgress, MAX_INTERIMS};
-
-/// Which messages come: requests, or responses, to HEAD or to another request.
-#[derive(Clone, Copy)]
-pub enum Asks {
-    Request,
-    Response(bool),
-}
-
-/// A message's head, once it was read.
-#[derive(Drop)]
-pub enum SourceHead {
-    Unread,
-    Request(HttpRequest),
-    Response(HttpResponse),
-}
+pub use head::{Asks, HeadProgress, MAX_INTERIMS, SourceHead};
 
 /// A message's source: it reads the head, then the body, over a wire, by turns of one read at most.
 ///

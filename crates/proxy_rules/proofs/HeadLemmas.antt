@@ -5,8 +5,8 @@ use Rattle.trace_core.specs.declared.history.Cause.{Cause}
 use Rattle.trace_core.specs.declared.history.Seen.{Seen}
 use Rattle.http_side.specs.Heads.{RequestParts}
 use Rattle.http_side.specs.declared.forward.OriginWay.{OriginWay}
-use Rattle.http_relay.specs.declared.side.SourceHead.{SourceHead}
-use Rattle.http_relay.specs.declared.side.SourceHead.TheVariants as heads
+use Rattle.http_relay.specs.declared.side.head.SourceHead.{SourceHead}
+use Rattle.http_relay.specs.declared.side.head.SourceHead.TheVariants as heads
 use Rattle.http_relay.specs.declared.side.SourceSide.{SourceSide}
 use Rattle.http_relay.specs.Reading.{request_of}
 use Rattle.proxy_rules.specs.Heads.{Makes, MakesOf, user_head, carries_on_of}

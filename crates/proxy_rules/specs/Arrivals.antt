@@ -4,8 +4,8 @@ use Rattle.std.specs.declared.alloc.Global.{Global}
 use Rattle.trace_core.specs.declared.history.Point.{Point}
 use Rattle.trace_core.specs.declared.history.Point.TheVariants.{Reqmod, Respmod}
 use Rattle.http_side.specs.Heads.{RequestParts}
-use Rattle.http_relay.specs.declared.side.Asks.{Asks}
-use Rattle.http_relay.specs.declared.side.Asks.TheVariants as asks
+use Rattle.http_relay.specs.declared.side.head.Asks.{Asks}
+use Rattle.http_relay.specs.declared.side.head.Asks.TheVariants as asks
 use Rattle.http_relay.specs.declared.side.SourceSide.{SourceSide}
 use Rattle.http_relay.specs.Reading.{AtHead, Begins, request_of}
 use Rattle.wire_kit.specs.declared.wire.Wire.{Ghosts as Wire}

@@ -2,7 +2,7 @@
 use Rattle.std.specs.Prelude.{◌≡◌, [], Bool, Option, Some, None, is_some}
 use Rattle.trace_core.specs.History.{seen}
 use Rattle.adapt_turn.specs.declared.ends.ServiceEnd.{ServiceEnd}
-use Rattle.http_relay.specs.declared.side.SourceHead.TheVariants.{Unread}
+use Rattle.http_relay.specs.declared.side.head.SourceHead.TheVariants.{Unread}
 use Rattle.http_relay.specs.Source.{Agrees}
 use Rattle.icap_client.specs.Turns.{Service}
 use Rattle.proxy_rules.specs.Arrivals.{Arrival, point_of}

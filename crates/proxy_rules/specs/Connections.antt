@@ -8,7 +8,7 @@ use Rattle.http_side.specs.Lasting.{lets_last}
 use Rattle.http_side.specs.declared.body.Framing.{Framing}
 use Rattle.http_side.specs.declared.body.Framing.TheVariants as by
 use Rattle.http_relay.specs.declared.side.SourceSide.{SourceSide}
-use Rattle.http_relay.specs.declared.side.SourceHead.TheVariants.{Unread}
+use Rattle.http_relay.specs.declared.side.head.SourceHead.TheVariants.{Unread}
 use Rattle.http_relay.specs.Reading.{response_of}
 
 -- A user's connection carries a further request: the answer went out whole, its head didn't say that the connection closes, and

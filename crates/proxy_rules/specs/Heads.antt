@@ -8,8 +8,8 @@ use Rattle.http_side.specs.declared.forward.Message.{Message}
 use Rattle.http_side.specs.declared.forward.OriginWay.{OriginWay}
 use Rattle.http_side.specs.declared.forward.BodyKind.TheVariants.{Own}
 use Rattle.http_side.specs.Heads.{RequestParts}
-use Rattle.http_relay.specs.declared.side.SourceHead.{SourceHead}
-use Rattle.http_relay.specs.declared.side.SourceHead.TheVariants as heads
+use Rattle.http_relay.specs.declared.side.head.SourceHead.{SourceHead}
+use Rattle.http_relay.specs.declared.side.head.SourceHead.TheVariants as heads
 use Rattle.http_relay.specs.declared.side.SourceSide.{SourceSide}
 use Rattle.http_relay.specs.Reading.{request_of}
 use Rattle.proxy_rules.specs.Users.{is_head_request}

@@ -17,7 +17,7 @@ ghost use Rattle.adapt_turn.specs.ChosenHead.{IsMade, adapted_of, response_of};
 ghost use Rattle.adapt_turn.specs.declared.turn.TurnAnswer.{TurnAnswer as AnyAnswer};
 ghost use Rattle.adapt_turn.specs.declared.turn.Outcome.TheVariants as outcomes;
 ghost use Rattle.adapt_turn.specs.Stands.{Texts};
-ghost use Rattle.http_relay.specs.declared.side.SourceHead.{SourceHead};
+ghost use Rattle.http_relay.specs.declared.side.head.SourceHead.{SourceHead};
 ghost use Rattle.http_relay.specs.declared.side.SourceSide.{SourceSide as UserSide};
 ghost use Rattle.http_relay.specs.Reading.{SideRead};
 ghost use Rattle.icap_client.specs.Turns.{ServiceHeard};

@@ -1,5 +1,5 @@
 -- What each exchange of a thread goes by.
-use Rattle.std.specs.Prelude.{ℕ, Option, Some, None, slice_get}
+use Rattle.std.specs.Prelude.{◌≡◌, ℕ, ⊤, Option, Some, None, slice_get}
 use Rattle.std.specs.Arc.{arc_value}
 use Rattle.event_loop.specs.declared.live.DatedConfig.{DatedConfig}
 use Rattle.proxy_config.specs.declared.config.Config.{Config}
@@ -14,3 +14,9 @@ chosen latest None = latest
 -- what the exchange under the key goes by
 abbrev pub goes_by : Standings → ℕ → Config
 goes_by standings key = chosen (arc_value standings.latest.dated.config) (slice_get standings.own.items key)
+
+-- its own configuration has this number, where it has one
+abbrev pub IsAsOf : (number : ℕ) → Option (Option DatedConfig) → Type 0
+IsAsOf number (Some (Some own)) = own.number ≡ number
+IsAsOf number (Some None) = ⊤
+IsAsOf number None = ⊤

@@ -14,7 +14,8 @@ ghost use Rattle.shard_desk.specs.Books.{Keeps, HasKept};
 ghost use Rattle.shard_desk.specs.Places.{place_at};
 ghost use Rattle.shard_message.specs.Planning.{service_of as service_at};
 
-use crate::pools::{Berth, Port, dial, dial_late, pools_of};
+use crate::dials::{dial, dial_late};
+use crate::pools::{Berth, Port, pools_of};
 use crate::seats::Seats;
 use crate::shared::Shares;
 use crate::spot::Spot;

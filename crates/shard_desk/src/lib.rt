@@ -13,6 +13,7 @@
 
 mod connections;
 mod desk;
+mod dials;
 mod driving;
 mod exchanges;
 mod headers;

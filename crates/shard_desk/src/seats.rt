@@ -3,11 +3,11 @@
 ghost use Rattle.std.specs.Prelude.{◌≡◌, ◌↔◌, ◌/◌, if◌then◌else◌, true, false, None, IfSome};
 ghost use Rattle.shard_desk.specs.Sparing.{GivesWay, HasRank, has_ended, is_gone};
 
+mod waiting;
 mod wiring;
 
 use crate::lines::Lines;
 use crate::seat::{Purpose, Seat};
-use crate::terms::Terms;
 use event_loop::{Share, Spared, Stay, UserPermit, is_young, youth_of};
 use slab::Slab;
 use std::alloc::{AllocError, Global};
@@ -41,8 +41,8 @@ pub struct Seats {
 
 impl Seats {
     ghost use Rattle.event_loop.specs.Shares.{has_none, is_over};
-    ghost use Rattle.shard_desk.specs.Seats.{heard_of, HasRoom, IsAnnounced, IsFor, MayRefuse, has_waited, is_late, is_overdue, moved_at, IsTaken, user_address};
-    ghost use Rattle.slab.specs.Slab.{get, Updates};
+    ghost use Rattle.shard_desk.specs.Seats.{heard_of, HasRoom, IsAnnounced, IsFor, MayRefuse, IsTaken, user_address};
+    ghost use Rattle.slab.specs.Slab.{get};
 
     /// No seat is taken, and at most `most` users may be served at once. `Err` if no memory was found for their seats.
     pub fn new(alloc: Global, most: usize) -> Result<Seats, AllocError> {
@@ -326,67 +326,6 @@ impl Seats {
             }
         }
         first
-    }
-
-    /// A message waits for a connection to its service. One that waited before has waited since then.
-    pub fn begin_wait(&mut self, key: usize, now: u64) {
-        if let Some(seat) = self.all.get_mut(key)
-            && seat.waits.is_none()
-        {
-            seat.waits = Some(now);
-        }
-    }
-
-    /// A further message comes, which hasn't waited.
-    pub fn end_wait(&mut self, key: usize) {
-        if let Some(seat) = self.all.get_mut(key) {
-            seat.waits = None;
-        }
-    }
-
-    /// Whether it has waited for more than this number of seconds: that is never early, and a second late at most.
-    pub fn has_waited(&self, key: usize, now: u64, seconds: u64) -> bool
-        ensures { result ≡ has_waited self.now key now seconds }
-    {
-        match self.all.get(key) {
-            Some(
-                Seat {
-                    waits: Some(since),
-                    ..
-                },
-            ) => now.saturating_sub(*since) > seconds,
-            _ => false,
-        }
-    }
-
-    /// A byte moved, or the exchange went on.
-    pub fn touch(&mut self, key: usize, now: u64)
-        ensures { Updates self.old.all self.new.all key (moved_at now (get self.old.all key)) }
-    {
-        if let Some(seat) = self.all.get_mut(key) {
-            seat.moved = now;
-        }
-    }
-
-    /// Whether more than this number of seconds have passed without a moved byte. Moments are whole seconds, so that is a second late
-    /// at most, and never early.
-    pub fn is_late(&self, key: usize, now: u64, seconds: u64) -> bool
-        ensures { result ≡ is_late self.now key now seconds }
-    {
-        match self.all.get(key) {
-            Some(seat) => now.saturating_sub(seat.moved) > seconds,
-            None => true,
-        }
-    }
-
-    /// Whether what it awaits takes longer than it may.
-    pub fn is_overdue(&self, key: usize, now: u64, terms: Terms) -> bool
-        ensures { result ≡ is_overdue self.now key now terms }
-    {
-        match self.all.get(key) {
-            Some(seat) => seat.awaited.is_overdue(now, terms),
-            None => false,
-        }
     }
 
     /// The poll of this turn reported all that there was to report, or only as much as it had room for.

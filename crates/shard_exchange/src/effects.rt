@@ -1,162 +1,39 @@
 //! What an exchange asks of what it holds.
 
-ghost use Rattle.std.specs.Prelude.{◌≡◌, ◌&&◌, ℕ, Bool, List, IsTrue, Some, Option, Result, is_ok, true, false, IfSome, IfOk, IfErr};
+ghost use Rattle.std.specs.Prelude.{◌≡◌, ◌&&◌, ℕ, Bool, List, IsTrue, Some, Result, is_ok, true, false, IfSome, IfOk, IfErr};
 ghost use Rattle.exchange_core.specs.Course.{is_ready};
 ghost use Rattle.exchange_core.specs.declared.course.Course.{Course as AnyCourse};
 ghost use Rattle.exchange_core.specs.declared.dialing.Dialing.{Dialing as AnyDialing};
 ghost use Rattle.exchange_core.specs.declared.dialing.Dialing.TheVariants.{KeptFirst};
 ghost use Rattle.exchange_core.specs.declared.event.Event.TheVariants.{Withdrawn};
-ghost use Rattle.exchange_core.specs.Dues.{due_of, is_for_telling, refusal_due};
+ghost use Rattle.exchange_core.specs.Dues.{due_of, refusal_due};
 ghost use Rattle.exchange_core.specs.declared.event.RefusalCause.TheVariants.{Scarce};
 ghost use Rattle.exchange_core.specs.Log.{is_silent};
-ghost use Rattle.exchange_core.specs.May.{is_gone, may_come, may_keep_origin};
+ghost use Rattle.exchange_core.specs.May.{may_come, may_keep_origin};
 ghost use Rattle.http_side.specs.Refusals.{is_own_status};
 ghost use Rattle.icap_head.specs.Heads.{Response as AnyResponse, response_parts};
 ghost use Rattle.trace_core.specs.declared.history.Point.{Point as AnyPoint};
-ghost use Rattle.wire_kit.specs.Past.{Past};
 ghost use Rattle.service_lines.specs.declared.connector.LendFault.{LendFault as AnyFault};
-ghost use Rattle.shard_exchange.specs.Hand.{Hand, IsEmpty, Keeps, KeepsButTold, KeepsButRefused, KeepsButLease, KeepsButRoom, KeepsButOrigin, SetsOut, ComesBack};
+ghost use Rattle.shard_exchange.specs.Hand.{Keeps, KeepsButTold, KeepsButRefused, KeepsButLease, KeepsButRoom, KeepsButOrigin, SetsOut, ComesBack};
 ghost use Rattle.shard_exchange.specs.EndedBy.{EndsBy, IfItself};
 ghost use Rattle.shard_exchange.specs.Leases.{Renews};
 ghost use Rattle.exchange_report.specs.Reasons.{cause_of};
 ghost use Rattle.shard_exchange.specs.Reasons.{lies_elsewhere, unplanned_reason};
-ghost use Rattle.shard_exchange.specs.Saying.{LaysPage, SaysOn, interim_text, refusal_by};
-ghost use Rattle.shard_exchange.specs.declared.answers.HeadTurn.{HeadTurn as AnyHeadTurn};
+ghost use Rattle.shard_exchange.specs.Saying.{LaysPage, SaysOn, refusal_by};
 ghost use Rattle.shard_exchange.specs.declared.answers.Marks.{Marks as AnyMarks};
 ghost use Rattle.shard_exchange.specs.declared.answers.Round.{Round as AnyRound};
 ghost use Rattle.shard_exchange.specs.declared.answers.Unplanned.{Unplanned as AnyUnplanned};
-ghost use Rattle.shard_exchange.specs.declared.answers.Withdrawal.{Withdrawal as AnyWithdrawal};
-ghost use Rattle.shard_exchange.specs.declared.ends.End.{End as AnyEnd};
 
-use crate::answers::{
-    HeadTurn, Lingered, Marks, OptionsTurn, Round, Said, Started, Unplanned, Withdrawal,
-};
+use crate::answers::{Lingered, Marks, Round, Said, Started, Unplanned, Withdrawal};
 use crate::ends::{End, EndedBy, Report};
+use crate::holder::Holder;
 use adapt_sides::ClientFault;
 use exchange_core::{Course, Dialing, Exchange};
 use exchange_report::Reason;
-use http_side::HttpFault;
 use icap_head::IcapResponse;
 use service_lines::LendFault;
 use std::sync::Wait;
 use trace_core::Point;
-
-/// What is held of what the course of an exchange counts.
-pub trait InHand {
-    // what is held
-    ghost hand: { Self → Hand };
-}
-
-/// What an exchange holds beside its course: the connections, the message, its plan, its reservation and its transaction.
-pub trait Holder: InHand {
-    // a byte of an answer of the message that moves went to its user
-    ghost answered: { Self → Bool };
-
-    // the connection to its service may carry another request
-    ghost reusable: { Self → Bool };
-
-    // what may have happened on the user's connection so far, where no transaction has it
-    ghost user_past: { Self → Past → Type 0 };
-
-    // so may that on which a service was asked for its options and answered this
-    ghost usable_after: { Self → AnyResponse → Bool };
-
-    // what the course is told of the message that moves where nothing else ends it: by how its transaction ended, and whether the course
-    // lets it be withdrawn
-    ghost ends: { Self → (may_withdraw : Bool) → AnyEnd → Type 0 };
-
-    // what is held once it ended so: the message that follows on the user's connection begins with what was left over; where an answer
-    // begins, its origin's connection has given nothing since the request set out
-    ghost follows: { Self → AnyEnd → Self → Type 0 };
-
-    // the connection of a service that has said all comes out of the transaction, and may carry another request or not
-    ghost frees: { Self → Self → Option Bool → Type 0 };
-
-    // the request that went out is here to be sent again, and its origin's connection has given no byte since it was dialed
-    ghost repeats: { Self → Type 0 };
-
-    // what came of it where it was to be the message again
-    ghost withdraws: { Self → AnyWithdrawal → Type 0 };
-
-    // a turn at the head of the user's request leads from the one to the other, and brings this
-    ghost reads: { Self → Self → Option AnyHeadTurn → Type 0 };
-
-    // so does one at the head of the origin's response
-    ghost hears: { Self → Self → Option AnyHeadTurn → Type 0 };
-
-    // by whether a byte of an answer went to its user: that one's connection is cut, so that the user sees that the answer isn't whole
-    ghost cut_is: { Self → (answered cut : Bool) → Type 0 };
-
-    /// The surroundings of the exchanges of a thread.
-    type Outside;
-
-    // a byte of the head came that is read
-    ghost has_begun: { Self → Bool };
-
-    /// Whether a byte of the head came that is read.
-    fn has_begun(&self) -> bool
-        ensures { result ≡ has_begun self.now };
-
-    /// What is at fault in the head that is read.
-    fn head_fault(&self) -> Option<HttpFault>;
-
-    /// Whether a message's transaction is held.
-    fn is_moving(&self) -> bool
-        ensures { result ≡ (Self.hand self.now).moving };
-
-    /// A turn at the head of the user's request. `None` where nobody reads it, or the user is gone.
-    fn read_request(&mut self) -> Option<HeadTurn>
-        ensures reads { Self.reads self.old self.new result }
-        ensures kept { Keeps (Self.hand self.old) (Self.hand self.new) };
-
-    /// A turn at the head of the origin's response. `None` where nobody reads it, or there is no connection.
-    fn read_response(&mut self) -> Option<HeadTurn>
-        ensures hears { Self.hears self.old self.new result }
-        ensures kept { Keeps (Self.hand self.old) (Self.hand self.new) };
-
-    /// A turn at asking the service for its options. `None` where nobody asks, or there is no connection for it.
-    fn hear(&mut self) -> Option<OptionsTurn>
-        ensures { Keeps (Self.hand self.old) (Self.hand self.new) };
-
-    /// Tells the user to send its body, as far as it takes the text, from where the last call ended. At this course that is due.
-    fn tell(&mut self, course: &Exchange) -> Said
-        requires due { is_for_telling (due_of course.now) ≡ true }
-        ensures says { SaysOn (user_past self.old) (user_past self.new) interim_text (Self.hand self.old).told (Self.hand self.new).told result }
-        ensures kept { KeepsButTold (Self.hand self.old) (Self.hand self.new) };
-
-    // the user was told that nothing more comes
-    ghost finished: { Self → Bool };
-
-    /// Whether the user was told that nothing more comes.
-    fn is_finished(&self) -> bool
-        ensures { result ≡ finished self.now };
-
-    /// Closes the user's connection. At this course the user is gone.
-    fn lose_user(&mut self, course: &Exchange)
-        requires gone { is_gone course.now.phase ≡ true }
-        ensures kept { Keeps (Self.hand self.old) (Self.hand self.new) };
-
-    /// Closes the origin's connection.
-    fn hang_up(&mut self)
-        ensures hung { (Self.hand self.new).origin ≡ false }
-        ensures kept { KeepsButOrigin (Self.hand self.old) (Self.hand self.new) };
-
-    /// Whether a byte of an answer went to the user.
-    fn has_answered(&self) -> bool
-        requires { (Self.hand self.now).moving ≡ true }
-        ensures { result ≡ answered self.now };
-
-    /// Takes the service's connection back from the transaction once the service has said all: whether it may carry another request.
-    fn free_service(&mut self) -> Option<bool>
-        requires { (Self.hand self.old).moving ≡ true }
-        ensures kept { Keeps (Self.hand self.old) (Self.hand self.new) }
-        ensures freed { frees self.old self.new result }
-        ensures served { IfSome result (λ usable. usable ≡ reusable self.old) };
-
-    /// Lets all go of an exchange that is over.
-    fn finish(self)
-        requires { IsEmpty (Self.hand self) };
-}
 
 /// All that an exchange may have to do. `P` is its place in its surroundings: its key, the moment, and what reaches the system.
 pub trait Effects<P>: Holder {

@@ -4,7 +4,7 @@ ghost use Rattle.std.specs.Prelude.{◌≡◌, ◌&&◌, ◌||◌, true, false};
 ghost use Rattle.exchange_core.specs.Course.{is_leased};
 ghost use Rattle.exchange_core.specs.May.{is_at_gate, is_moving};
 
-use crate::effects::{Holder, InHand};
+use crate::holder::{Holder, InHand};
 use exchange_core::{Event, Phase, RefusalCause};
 
 /// A user's connection, with what is held for it.

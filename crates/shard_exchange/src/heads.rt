@@ -6,8 +6,9 @@ ghost use Rattle.shard_exchange.specs.Reasons as reasons;
 
 use crate::answers::{HeadTurn, Withdrawal};
 use crate::course::begin_head;
-use crate::effects::{Effects, Holder};
+use crate::effects::Effects;
 use crate::exchange::Exchange;
+use crate::holder::Holder;
 use crate::reason::{is_end_of_wire, origin_head_reason, user_head_reason};
 use crate::tasks::Step;
 use adapt_sides::RelayFault;

@@ -2,8 +2,9 @@
 
 ghost use Rattle.std.specs.Prelude.{◌≡◌, true, false};
 
-use crate::effects::{Effects, Holder};
+use crate::effects::Effects;
 use crate::exchange::Exchange;
+use crate::holder::Holder;
 use crate::reason::lend_reason;
 use crate::tasks::Step;
 use exchange_core::Event;

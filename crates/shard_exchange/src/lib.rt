@@ -13,6 +13,7 @@ mod effects;
 mod ends;
 mod exchange;
 mod heads;
+mod holder;
 mod leasing;
 mod loss;
 mod moving;
@@ -28,10 +29,11 @@ mod tasks;
 pub use answers::{
     HeadTurn, Lingered, Marks, OptionsTurn, Round, Said, Started, Unplanned, Withdrawal,
 };
-pub use effects::{Effects, Holder, InHand};
+pub use effects::Effects;
 pub use ends::{End, EndedBy, Report};
 pub use exchange::Exchange;
 pub use exchange_report::Reason;
+pub use holder::{Holder, InHand};
 pub use reason::{
     is_end_of_wire, lend_reason, open_reason, options_reason, origin_head_reason, record_reason,
     request_reason, user_head_reason,

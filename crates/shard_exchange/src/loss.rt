@@ -2,9 +2,10 @@
 
 ghost use Rattle.std.specs.Prelude.{◌≡◌, true, false};
 
-use crate::effects::{Effects, Holder};
+use crate::effects::Effects;
 use crate::ends::EndedBy;
 use crate::exchange::Exchange;
+use crate::holder::Holder;
 use exchange_core::{Due, Event};
 use std::sync::Wait;
 

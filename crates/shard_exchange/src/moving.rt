@@ -4,9 +4,10 @@ ghost use Rattle.std.specs.Prelude.{◌≡◌, ◌⊎◌, ◌&&◌, ◌||◌, if
 
 use crate::answers::{Round, Started};
 use crate::course::tell;
-use crate::effects::{Effects, Holder};
+use crate::effects::Effects;
 use crate::ends::EndedBy;
 use crate::exchange::Exchange;
+use crate::holder::Holder;
 use crate::tasks::Step;
 use exchange_core::Event;
 use exchange_report::Reason;

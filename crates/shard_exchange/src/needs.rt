@@ -3,8 +3,9 @@
 ghost use Rattle.std.specs.Prelude.{◌≡◌};
 
 use crate::answers::Unplanned;
-use crate::effects::{Effects, Holder};
+use crate::effects::Effects;
 use crate::exchange::Exchange;
+use crate::holder::Holder;
 use crate::tasks::Step;
 use exchange_core::{Dialing, Event};
 use std::sync::Wait;

@@ -3,8 +3,9 @@
 ghost use Rattle.std.specs.Prelude.{◌≡◌, true};
 
 use crate::answers::OptionsTurn;
-use crate::effects::{Effects, Holder};
+use crate::effects::Effects;
 use crate::exchange::Exchange;
+use crate::holder::Holder;
 use crate::reason::options_reason;
 use crate::tasks::Step;
 use adapt_sides::ClientFault;

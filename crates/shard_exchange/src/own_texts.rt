@@ -5,8 +5,9 @@ ghost use Rattle.exchange_core.specs.declared.event.RefusalCause.TheVariants as 
 ghost use Rattle.exchange_report.specs.Reasons as reasons;
 
 use crate::answers::{Lingered, Said};
-use crate::effects::{Effects, Holder};
+use crate::effects::Effects;
 use crate::exchange::Exchange;
+use crate::holder::Holder;
 use crate::tasks::Step;
 use exchange_core::Event;
 use exchange_report::Reason;

@@ -3,8 +3,9 @@
 ghost use Rattle.std.specs.Prelude.{◌≡◌, ◌↔◌, true, false};
 ghost use Rattle.shard_exchange.specs.Ends.{is_closing, moves, Halts};
 
-use crate::effects::{Effects, Holder};
+use crate::effects::Effects;
 use crate::exchange::Exchange;
+use crate::holder::Holder;
 use crate::tasks::{Step, Task};
 use exchange_core::{Due, Phase};
 use std::sync::Wait;

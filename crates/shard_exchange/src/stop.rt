@@ -10,9 +10,10 @@ ghost use Rattle.shard_exchange.specs.Ends.{moves, Frees, Halts, is_stopped};
 
 use crate::answers::{Lingered, Said};
 use crate::course::take_stop;
-use crate::effects::{Effects, Holder};
+use crate::effects::Effects;
 use crate::ends::EndedBy;
 use crate::exchange::Exchange;
+use crate::holder::Holder;
 use crate::tasks::Step;
 use exchange_core::{Due, Event, Phase};
 use exchange_report::Reason;

@@ -1,8 +1,8 @@
 -- The message whose head comes, or was read.
 use Rattle.std.specs.Prelude.{ℕ, Bool, true, false, ◌&&◌, not, List, [], ◌∷◌, Option, Some, None, Box}
 use Rattle.std.specs.Box.{box_value}
-use Rattle.http_relay.specs.declared.side.SourceHead.{SourceHead}
-use Rattle.http_relay.specs.declared.side.SourceHead.TheVariants.{Unread}
+use Rattle.http_relay.specs.declared.side.head.SourceHead.{SourceHead}
+use Rattle.http_relay.specs.declared.side.head.SourceHead.TheVariants.{Unread}
 use Rattle.proxy_rules.specs.declared.incoming.Incoming.{Incoming}
 
 -- it wasn't read

@@ -1,17 +1,13 @@
 //! The threads: each makes its work, runs its loop, and hands over what is left.
 
-ghost use Rattle.std.specs.Prelude.{◌≡◌};
-
 use crate::admission::admission_of;
+use crate::bases::{HasBase, entrance_of, loop_fault, make_bases};
 use crate::board::{BothPools, Common, PoolPair, Rules, board_of};
 use crate::exchanges::DeskExchanges;
 use crate::left::Left;
 use crate::office::Office;
 use crate::reloading::Reloads;
-use event_loop::{
-    AdminPorts, Admission, Base, Ended, Entrance, Inbox, LoopFault, Room, Work, add_loop,
-    name_thread, run_loop, stop_all,
-};
+use event_loop::{AdminPorts, Base, Ended, Inbox, Work, name_thread, run_loop, stop_all};
 use mio::net::TcpListener;
 use proxy_config::{Config, MAX_SHARDS};
 use service_lines::Waiting;
@@ -29,96 +25,6 @@ use std::sync::{Arc, Mutex, Wait};
 use std::thread::{self, Threads};
 use std::time::Clock;
 use wire_kit::Gate;
-
-/// Where users connect, for whom there is this room: as many loops take them as are configured.
-fn entrance_of(
-    config: &Config,
-    listener: TcpListener,
-    room: Arc<Room>,
-    admission: Admission,
-) -> Entrance
-    ensures loops { result.loops ≡ config.now.shards }
-    ensures given { (result.listener ≡ listener) × (result.room ≡ room) × (result.admission ≡ admission) }
-{
-    Entrance {
-        listener,
-        room,
-        loops: config.shards as usize,
-        admission,
-    }
-}
-
-/// Makes a base for one more loop, after the others.
-fn add_base<R: Net>(
-    rt: &R,
-    alloc: Global,
-    users: Option<Entrance>,
-    admin: Option<AdminPorts>,
-    inboxes: &mut Vec<Inbox>,
-    bases: &mut Vec<Option<Base>>,
-) -> Result<(), ProxyFault> {
-    let base = match add_loop(rt, alloc, users, admin, inboxes) {
-        Ok(base) => base,
-        Err(error) => return Err(start_fault(LoopFault::of(error))),
-    };
-    if bases.push(Some(base)).is_err() {
-        return Err(ProxyFault::NoMemory);
-    }
-    Ok(())
-}
-
-/// Makes a base for each loop that takes users, and one for the administrator's. The first one has the users' port, the last
-/// one the administrator's: it runs in the thread that waits for the others, and keeps the program's name.
-fn make_bases<R: Net>(
-    rt: &R,
-    alloc: Global,
-    count: u64,
-    users: Entrance,
-    admin: AdminPorts,
-    inboxes: &mut Vec<Inbox>,
-) -> Result<Vec<Option<Base>>, ProxyFault> {
-    let mut bases = Vec::new(alloc);
-    let mut users = Some(users);
-    for _ in 0..count {
-        add_base(rt, alloc, users.take(), None, inboxes, &mut bases)?;
-    }
-    add_base(rt, alloc, None, Some(admin), inboxes, &mut bases)?;
-    Ok(bases)
-}
-
-/// Why the proxy can't begin, where a loop can't be made.
-fn start_fault(fault: LoopFault) -> ProxyFault
-    ensures system { fault ≡ LoopFault.System → result ≡ ProxyFault.System }
-    ensures memory { fault ≡ LoopFault.NoMemory → result ≡ ProxyFault.NoMemory }
-{
-    match fault {
-        LoopFault::System => ProxyFault::System,
-        LoopFault::NoMemory => ProxyFault::NoMemory,
-    }
-}
-
-/// Why the proxy can't go on, where a loop failed.
-fn loop_fault(fault: LoopFault) -> ProxyFault
-    ensures system { fault ≡ LoopFault.System → result ≡ ProxyFault.Loop }
-    ensures memory { fault ≡ LoopFault.NoMemory → result ≡ ProxyFault.NoMemory }
-{
-    match fault {
-        LoopFault::System => ProxyFault::Loop,
-        LoopFault::NoMemory => ProxyFault::NoMemory,
-    }
-}
-
-/// What a thread takes the base of its loop from.
-trait HasBase {
-    /// The base, once.
-    fn take_base(&mut self) -> Option<Base>;
-}
-
-impl HasBase for Option<Base> {
-    fn take_base(&mut self) -> Option<Base> {
-        self.take()
-    }
-}
 
 /// Runs a loop on each base, in a thread of its own, until one has to stop or fails: then all end. What is left comes
 /// together.

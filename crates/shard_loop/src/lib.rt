@@ -7,6 +7,7 @@
 #![tactic(auto)]
 
 mod admission;
+mod bases;
 mod board;
 mod crew;
 mod exchanges;

@@ -8,6 +8,7 @@ use shard_report::{Append, change_capacity};
 use span_bank::{CapacityFault, MAX_CAPACITY};
 use std::alloc::{AllocError, Global};
 use std::fs::File;
+use std::io;
 use std::sync::{Arc, Wait};
 
 /// Reads a configuration anew. The system's runtime does.
@@ -57,13 +58,10 @@ fn taken_text(alloc: Global, config: &Config, names: u64) -> Result<Vec<u8>, All
     Ok(text.into_bytes())
 }
 
-/// The log's file, where another configuration names another one.
-fn other_log<F: Append>(files: &F, old: &Config, new: &Config) -> Result<Option<File>, AllocError> {
+/// The log's file, where another configuration names another one. `Err` where it can't be opened.
+fn other_log<F: Append>(files: &F, old: &Config, new: &Config) -> io::Result<Option<File>> {
     match (&old.log, &new.log) {
-        (Some(old), Some(new)) if old != new => match files.append(new.as_str()) {
-            Ok(file) => Ok(Some(file)),
-            Err(_) => Err(AllocError),
-        },
+        (Some(old), Some(new)) if old != new => Ok(Some(files.append(new.as_str())?)),
         _ => Ok(None),
     }
 }

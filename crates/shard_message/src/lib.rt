@@ -24,6 +24,7 @@ mod refusal_causes;
 mod reusable;
 mod room;
 mod saying;
+mod sequels;
 mod settled;
 mod sides;
 mod slots;

@@ -6,15 +6,30 @@ ghost use Rattle.adapt_bytes.specs.declared.limits.TheConstants.{MAX_HEAD};
 ghost use Rattle.http_relay.specs.Judging.{RefusesBytes, IsLooking, JudgesHead, interims_in};
 ghost use Rattle.http_relay.specs.Reading.{AtHead, HeadTurn, JudgesHeadTo};
 
-use crate::side::{Asks, SourceHead, SourceSide};
+use crate::side::SourceSide;
 use crate::source_body::SourceBody;
 use adapt_bytes::{MAX_HEAD, behind};
 use adapt_sides::{Filled, RelayFault, fill};
-use http_side::{HttpFault, read_request, read_response};
+use http_side::{HttpFault, HttpRequest, HttpResponse, read_request, read_response};
 use wire_kit::Wire;
 
 /// The most interim responses that are read before an answer. The next one is refused.
 pub const MAX_INTERIMS: u32 = 32;
+
+/// Which messages come: requests, or responses, to HEAD or to another request.
+#[derive(Clone, Copy)]
+pub enum Asks {
+    Request,
+    Response(bool),
+}
+
+/// A message's head, once it was read.
+#[derive(Drop)]
+pub enum SourceHead {
+    Unread,
+    Request(HttpRequest),
+    Response(HttpResponse),
+}
 
 /// How far a turn at a head came.
 #[derive(Clone, Copy, PartialEq, Eq)]

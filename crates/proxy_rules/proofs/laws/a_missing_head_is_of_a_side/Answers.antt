@@ -4,7 +4,7 @@ use Rattle.trace_core.specs.declared.history.Cause.TheVariants as causes
 use Rattle.http_side.specs.Heads.{RequestParts}
 use Rattle.http_side.specs.declared.forward.OriginWay.{OriginWay}
 use Rattle.trace_core.specs.declared.history.Seen.{Seen}
-use Rattle.http_relay.specs.declared.side.SourceHead.{SourceHead}
+use Rattle.http_relay.specs.declared.side.head.SourceHead.{SourceHead}
 use Rattle.http_relay.specs.declared.side.SourceSide.{SourceSide}
 use Rattle.adapt_turn.specs.Reports.{IsOfSide}
 use Rattle.proxy_rules.specs.Heads.{MakesNone, MakesNoneOf}

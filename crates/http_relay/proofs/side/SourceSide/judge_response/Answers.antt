@@ -2,10 +2,10 @@ use Rattle.std.proofs.Common.{ℕ, List, [], ◌+◌, ◌<◌, ◌≤◌, ◌⊎
 use Rattle.http_side.specs.Body.{HasRead}
 use Rattle.http_side.specs.Responses.{IsResponseRead, MayRefuseResponse}
 use Rattle.http_relay.specs.Judging.{RefusesBytes}
-use Rattle.http_relay.specs.declared.side.Asks.{Asks}
+use Rattle.http_relay.specs.declared.side.head.Asks.{Asks}
 use Rattle.http_side.specs.declared.body.Framing.{Framing}
 use Rattle.http_relay.specs.declared.side.SourceSide.{SourceSide}
-use Rattle.http_relay.specs.declared.side.SourceHead.TheVariants as heads
+use Rattle.http_relay.specs.declared.side.head.SourceHead.TheVariants as heads
 use Rattle.http_relay.proofs.Beginning.{begins_response, drops_interim, response_within}
 use Rattle.http_relay.proofs.side.SourceSide.judge_response.Goals as goal
 
