@@ -1,6 +1,6 @@
 -- Hosts are added for the words of a line, and for the lines of a text.
-use Rattle.std.proofs.Common.{◌≡◌, ℕ, List, [], ◌∷◌, ◌++◌, length, map, Bool, true, false, nat_lt, All, IsUtf8, string_bytes, inl, inr, sym, ap, ◌∙◌, subst, arith, rules}
-use Rattle.std.proofs.lemmas.Bool.{lt-ltb, false≢true}
+use Rattle.std.proofs.Common.{◌≡◌, ℕ, List, [], ◌∷◌, ◌++◌, length, map, Bool, true, nat_lt, All, IsUtf8, string_bytes, inl, inr, sym, ap, ◌∙◌, subst, arith, rules}
+use Rattle.std.proofs.lemmas.Bool.{lt-ltb}
 use Rattle.std.proofs.lemmas.List.{append_assoc, length-append, map-append}
 use Rattle.std.proofs.lemmas.List.Elements.{All-push}
 use Rattle.std.proofs.lemmas.Str.{IsUtf8-string_bytes}
@@ -9,7 +9,7 @@ use Rattle.std.specs.Net.Socket.{v4_ip}
 use Rattle.std.specs.declared.net.ipv4_addr.Ipv4Addr.{Ipv4Addr}
 use Rattle.std.specs.declared.net.socket_addr.SocketAddrV4.{SocketAddrV4}
 use Rattle.proxy_config.specs.declared.host.Host.{Host}
-use Rattle.proxy_config.specs.HostsFile.{has_colon, Says}
+use Rattle.proxy_config.specs.HostsFile.{IsIpv6Word, Says}
 
 -- the names of hosts
 abbrev pub names_of : List Host → List (List ℕ)
@@ -49,11 +49,11 @@ adds_one address words old word before rest hosts new is_named adding split host
 }
 
 -- a line whose first word is no address, of whichever kind, says nothing
-pub no_entry : (words : List (List ℕ)) (first : List ℕ) (names : List (List ℕ)) → words ≡ first ∷ names → has_colon first ≡ false
+pub no_entry : (words : List (List ℕ)) (first : List ℕ) (names : List (List ℕ)) → words ≡ first ∷ names → (IsIpv6Word first → ⊥)
     → ((ip : Ipv4Addr) → IsIpv4Text first ip → ⊥) → (hosts : List Host) → Says words hosts → ⊥
-no_entry words first names are colon none hosts says =
+no_entry words first names are other none hosts says =
     let at : Says (first ∷ names) hosts = subst (λ ws. Says ws hosts) are says in
     elim at as (λ _. ⊥) [
-      | inl skipped ↦ false≢true (sym colon ∙ skipped.0)
+      | inl skipped ↦ other skipped.0
       | inr entry ↦ none (v4_ip entry.1.address) entry.1.ip
     ]

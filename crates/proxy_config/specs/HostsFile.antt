@@ -1,9 +1,10 @@
 -- A hosts file (hosts(5)): an address and the names at it a line.
-use Rattle.std.specs.Prelude.{◌≡◌, ◌==◌, ◌+◌, ◌<◌, ◌⊎◌, ℕ, List, [], ◌∷◌, ◌++◌, length, map, filter, Bool, true, false, ◌||◌, nat_lt, All, ⊤, Option, Some, None, string_bytes}
+use Rattle.std.specs.Prelude.{◌≡◌, ◌==◌, ◌+◌, ◌<◌, ◌⊎◌, ℕ, List, [], ◌∷◌, ◌++◌, length, map, filter, Bool, ◌||◌, nat_lt, All, ⊤, Option, Some, None, string_bytes}
 use Rattle.std.specs.Borrow.{Bor}
-use Rattle.std.specs.List.{slice_split, before_first, list_any}
-use Rattle.std.specs.Net.Grammar.{IsIpv4Text}
+use Rattle.std.specs.List.{slice_split, before_first}
+use Rattle.std.specs.Net.Grammar.{IsIpv4Text, IsIpv6Text}
 use Rattle.std.specs.Net.Socket.{v4_ip, v4_port}
+use Rattle.std.specs.declared.net.ipv6_addr.Ipv6Addr.{Ipv6Addr}
 use Rattle.std.specs.declared.net.socket_addr.SocketAddrV4.{SocketAddrV4}
 use Rattle.adapt_bytes.specs.Text.{is_blank}
 use Rattle.proxy_config.specs.declared.host.Host.{Host}
@@ -47,9 +48,13 @@ parts_left (Some rest) = slice_split is_gap rest.now
 abbrev pub words_left : Words → List (List ℕ)
 words_left words = filled (parts_left words.rest)
 
--- the word is an IPv6 address, or none
-abbrev pub has_colon : List ℕ → Bool
-has_colon word = list_any (λ byte. byte == 58) word
+-- the zone of an IPv6 address begins
+abbrev pub is_percent : ℕ → Bool
+is_percent byte = byte == 37
+
+-- the word is an IPv6 address (RFC 4291, section 2.2), with its zone where it has one (RFC 4007, section 11)
+abbrev pub IsIpv6Word : List ℕ → Type 0
+IsIpv6Word word = (address : Ipv6Addr) × IsIpv6Text (before_first is_percent word) address
 
 -- these are hosts of these names, all at one address
 pub record AreNamed (address : SocketAddrV4) (names : List (List ℕ)) (hosts : List Host) : Type 0 where
@@ -64,10 +69,10 @@ pub record IsEntry (first : List ℕ) (names : List (List ℕ)) (hosts : List Ho
   pub some : 0 < length names
   pub named : AreNamed address names hosts
 
--- a line of these words says these hosts: none where it has no words, or where its address is no IPv4 address but one of IPv6
+-- a line of these words says these hosts: none where it has no words, or where its address is one of IPv6
 abbrev pub Says : List (List ℕ) → List Host → Type 0
 Says [] hosts = hosts ≡ []
-Says (first ∷ names) hosts = ((has_colon first ≡ true) × (hosts ≡ [])) ⊎ ((has_colon first ≡ false) × IsEntry first names hosts)
+Says (first ∷ names) hosts = (IsIpv6Word first × (hosts ≡ [])) ⊎ ((IsIpv6Word first → ⊥) × IsEntry first names hosts)
 
 -- the line can be read, and can't
 abbrev pub IsGoodLine : List ℕ → Type 0

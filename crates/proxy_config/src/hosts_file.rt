@@ -1,16 +1,16 @@
 //! Reading a hosts file (hosts(5)): an address and the names at it a line.
 
 ghost use Rattle.std.specs.Prelude.{◌≡◌, OnErr, IfOk, IfErr, MatchBool};
-ghost use Rattle.proxy_config.specs.HostsFile.{lines_of, words_left, AddsLine, AddsNames, AreSaid, HasNoHosts, IsBadLine, IsHostsFault, NamesHosts};
+ghost use Rattle.proxy_config.specs.HostsFile.{lines_of, words_left, AddsLine, AddsNames, AreSaid, HasNoHosts, IsBadLine, IsHostsFault, IsIpv6Word, NamesHosts};
 ghost use Rattle.proxy_config.specs.declared.hosts_file.HostsFault.TheVariants.{NoMemory as NothingLeft};
 
 use crate::config::Config;
 use crate::host::{Host, host_at};
 use crate::hosts::HTTP_PORT;
 use crate::sorting::sorted;
-use crate::words::{Words, cut_line, words_of};
+use crate::words::{Words, before, cut_line, words_of};
 use std::alloc::{AllocError, Global};
-use std::net::{Ipv4Addr, SocketAddrV4};
+use std::net::{Ipv4Addr, Ipv6Addr, SocketAddrV4};
 use std::str;
 
 /// Why a hosts file isn't taken.
@@ -54,6 +54,16 @@ fn add_names(
     Ok(is_named)
 }
 
+/// Whether a word is an IPv6 address, with its zone where it has one.
+fn is_ipv6(word: &[u8]) -> bool
+    ensures { MatchBool result (IsIpv6Word word.now) (IsIpv6Word word.now → ⊥) }
+{
+    match Ipv6Addr::parse_ascii(before(word, b'%')) {
+        Ok(_) => true,
+        Err(_) => false,
+    }
+}
+
 /// Adds the hosts that a line says. Answers whether it can be read.
 fn add_line(alloc: Global, line: &[u8], hosts: &mut Vec<Host>) -> Result<bool, AllocError>
     ensures { IfOk result (λ good. MatchBool good (AddsLine line.now hosts.old.items hosts.new.items) (IsBadLine line.now)) }
@@ -62,7 +72,7 @@ fn add_line(alloc: Global, line: &[u8], hosts: &mut Vec<Host>) -> Result<bool, A
     let Some(first) = words.next() else {
         return Ok(true);
     };
-    if first.contains(&b':') {
+    if is_ipv6(first) {
         return Ok(true);
     }
     match Ipv4Addr::parse_ascii(first) {

@@ -1,8 +1,8 @@
 //! The lines of a hosts file, and the words of a line.
 
-ghost use Rattle.std.specs.Prelude.{◌≡◌, ◌∷◌};
+ghost use Rattle.std.specs.Prelude.{◌≡◌, ◌∷◌, ◌==◌};
 ghost use Rattle.std.specs.Iterator.{YieldsFirstRef, item_count};
-ghost use Rattle.std.specs.List.{slice_split};
+ghost use Rattle.std.specs.List.{before_first, slice_split};
 ghost use Rattle.proxy_config.specs.HostsFile.{is_gap, is_line_end, lines_left, parts_left, words_of, words_left};
 
 use adapt_bytes::is_blank;
@@ -40,15 +40,23 @@ pub(crate) struct Words<'a> {
     rest: Option<&'a [u8]>,
 }
 
+/// The text before the first one of this byte, or all of it where there is none.
+pub(crate) fn before(text: &[u8], byte: u8) -> &[u8]
+    ensures { result.now ≡ before_first (λ it. it == byte) text.now }
+{
+    match text.iter().position(|it| *it == byte) {
+        Some(end) => &text[..end],
+        None => text,
+    }
+}
+
 /// The words of a line in order, up to a `#`.
 pub(crate) fn words_of(line: &[u8]) -> Words<'_>
     ensures { words_left result ≡ words_of line.now }
 {
-    let said = match line.iter().position(|byte| *byte == b'#') {
-        Some(end) => &line[..end],
-        None => line,
-    };
-    Words { rest: Some(said) }
+    Words {
+        rest: Some(before(line, b'#')),
+    }
 }
 
 impl<'a> Iterator for Words<'a> {
