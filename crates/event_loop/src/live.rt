@@ -13,7 +13,7 @@ use std::sync::{Arc, Mutex, Wait};
 /// ```
 /// let live = Arc::new(alloc, LiveConfig::new(Arc::new(alloc, config)?))?;
 /// let mut latest = LatestConfig::of(rt, &live)?;
-/// live.change(rt, Arc::new(alloc, other)?);
+/// let old = live.change(rt, Arc::new(alloc, other)?);
 /// // The thread has the first one until it asks.
 /// latest.renew(rt);
 /// ```
@@ -33,14 +33,13 @@ impl LiveConfig {
         }
     }
 
-    /// Another one takes its place.
-    pub fn change<R: Wait>(&self, rt: &R, config: Arc<Config>) {
+    /// Another one takes its place, and the old one is handed out. Threads may still hold it: whoever is the last to let it go frees all
+    /// its names, which takes a while where they are many.
+    pub fn change<R: Wait>(&self, rt: &R, config: Arc<Config>) -> Arc<Config> {
         let mut stands = self.config.lock(rt);
         let old = mem::replace(&mut *stands, config);
         let _ = self.changes.fetch_add(1, Ordering::SeqCst);
-        drop(stands);
-        // The last one that holds it frees it, while nobody waits for the lock.
-        drop(old);
+        old
     }
 
     /// The one that stands, with its number. `None` where too many hold it.

@@ -9,7 +9,7 @@ use Rattle.proxy_config.specs.declared.fault.ConfigFault.TheVariants.{Text as No
 use Rattle.adapt_bytes.specs.declared.limits.TheConstants.{MAX_INPUT}
 use Rattle.proxy_commands.specs.declared.error.Error.TheVariants.{Usage, ReadFailed, WriteFailed, InputTooLong, Line, NoMemory}
 use Rattle.proxy_commands.specs.declared.serve_error.ServeError.{ServeError}
-use Rattle.proxy_commands.specs.declared.serve_error.ServeError.TheVariants.{Ended, Config, Key, KeyLine, CannotListen, CannotListenOn, NoAnswer, AuditMissing}
+use Rattle.proxy_commands.specs.declared.serve_error.ServeError.TheVariants.{Ended, CannotRead, Config, Key, KeyLine, CannotListen, CannotListenOn, NoAnswer, AuditMissing}
 use Rattle.proxy_commands.specs.Serve.{IsConfigured, IsRefusedAs, IsUnconfigured}
 use Rattle.proxy_commands.proofs.Runs.{whole, more}
 
@@ -53,6 +53,7 @@ refused bytes input (KeyLine key number) read h = absurd h
 refused bytes input CannotListen read h = absurd h
 refused bytes input (CannotListenOn address) read h = absurd h
 refused bytes input NoAnswer read h = absurd h
+refused bytes input (CannotRead path) read h = absurd h
 refused bytes input AuditMissing read h = absurd h
 
 pub unconfigured : (known : Option (List ℕ)) (input : List ℕ) (r : Result Configuration ServeError) → IfSome known (λ bytes. input ≡ take (MAX_INPUT + 1) bytes)

@@ -15,3 +15,5 @@ pub mod Endings
 pub mod Telling
 pub mod Memory
 pub mod Whole
+pub mod Sources
+pub mod Reloads

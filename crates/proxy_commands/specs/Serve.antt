@@ -9,7 +9,7 @@ use Rattle.proxy_config.specs.declared.fault.ConfigFault.TheVariants.{Text as No
 use Rattle.adapt_bytes.specs.declared.limits.TheConstants.{MAX_INPUT}
 use Rattle.proxy_commands.specs.declared.error.Error.TheVariants.{InputTooLong, NoMemory, ReadFailed}
 use Rattle.proxy_commands.specs.declared.serve_error.ServeError.{ServeError}
-use Rattle.proxy_commands.specs.declared.serve_error.ServeError.TheVariants.{Ended, Config, Key, KeyLine, CannotListen, CannotListenOn, NoAnswer, AuditMissing}
+use Rattle.proxy_commands.specs.declared.serve_error.ServeError.TheVariants.{Ended, CannotRead, Config, Key, KeyLine, CannotListen, CannotListenOn, NoAnswer, AuditMissing}
 
 -- the error that a refused configuration ends the program with
 abbrev pub IsRefusedAs : ConfigFault → ServeError → Type 0
@@ -30,6 +30,7 @@ IsUnconfigured text (Ended InputTooLong) = MAX_INPUT < length text
 IsUnconfigured text (Ended NoMemory) = ⊤
 IsUnconfigured text (Ended ReadFailed) = ⊤
 IsUnconfigured text (Ended other) = ⊥
+IsUnconfigured text (CannotRead path) = ⊥
 IsUnconfigured text Config = (length text ≤ MAX_INPUT) × Refuses text NoDocument
 IsUnconfigured text (Key key) = (length text ≤ MAX_INPUT) × Refuses text (AtKey key)
 IsUnconfigured text (KeyLine key number) = ⊥

@@ -1,13 +1,15 @@
 //! A new configuration for a proxy that runs.
 
-ghost use Rattle.std.specs.Prelude.{None, IfOk};
-ghost use Rattle.proxy_config.specs.Changes.{fixed_rows, IsFirstChange};
+ghost use Rattle.std.specs.Prelude.{◌≡◌, ◌++◌, ◌⊎◌, [], codes, string_bytes, IfOk, IfErr};
+ghost use Rattle.adapt_bytes.specs.Numeral.{numeral};
+ghost use Rattle.proxy_commands.specs.ServeErrors.{serve_error_text};
+ghost use Rattle.proxy_commands.specs.Reloads.{Answers, IsNotTaken, IsReadFault, IsTaken};
 
 use crate::answers::write_number;
 use crate::checking::has_room;
 use crate::error::Error;
 use crate::serve_error::{ServeError, put_error};
-use crate::source::{Source, read_source};
+use crate::source::{Source, comes_at_once, read_source};
 use crate::whole::{WholeFault, whole_of};
 use proxy_config::{Config, fixed_change};
 use std::alloc::{AllocError as NoMemory, Global};
@@ -16,49 +18,85 @@ use std::rt::Files;
 /// The first words of a line on standard error.
 const NAME: &[u8] = b"adaptproxy: ";
 
-/// What the line on standard error says of an error, without the program's name and the LF.
-fn put_said(alloc: Global, out: &mut Vec<u8>, error: &ServeError) -> Result<(), NoMemory> {
-    let mut line = Vec::new(alloc);
-    if put_error(error, &mut line).is_err() {
+/// A line without the program's name and the LF. `Err` also where it isn't one of the program's.
+fn cut_said(alloc: Global, line: &[u8]) -> Result<Vec<u8>, NoMemory>
+    ensures { IfOk result (λ said. line.now ≡ codes "adaptproxy: " ++ said.items ++ codes "\n") }
+{
+    let Some(said) = line.strip_prefix(NAME) else {
         return Err(NoMemory);
+    };
+    match said.strip_suffix(b"\n") {
+        Some(said) => said.to_vec(alloc),
+        None => Err(NoMemory),
     }
-    let said = line.strip_prefix(NAME).unwrap_or(&line);
-    out.extend_from_slice(said.strip_suffix(b"\n").unwrap_or(said))
 }
 
-/// Adds why a new configuration isn't taken.
-fn put_fault(alloc: Global, out: &mut Vec<u8>, fault: &WholeFault) -> Result<(), NoMemory> {
+/// What the line on standard error says of an error, without the program's name and the LF.
+fn said_of(alloc: Global, error: &ServeError) -> Result<Vec<u8>, NoMemory>
+    ensures { IfOk result (λ said. serve_error_text error.now ≡ codes "adaptproxy: " ++ said.items ++ codes "\n") }
+{
+    let mut line = Vec::new(alloc);
+    match put_error(error, &mut line) {
+        Ok(()) => cut_said(alloc, &line),
+        Err(_) => Err(NoMemory),
+    }
+}
+
+/// What is said of a line of a hosts file that can't be read.
+fn bad_line(alloc: Global, number: u64) -> Result<Vec<u8>, NoMemory>
+    ensures { IfOk result (λ text. text.items ≡ codes "bad line " ++ numeral 10 number) }
+{
+    let mut text = b"bad line ".to_vec(alloc)?;
+    write_number(&mut text, number)?;
+    Ok(text)
+}
+
+/// Why a new configuration isn't taken.
+fn text_of(alloc: Global, fault: &WholeFault) -> Result<Vec<u8>, NoMemory>
+    ensures { IfOk result (λ text. Answers fault.now text.items) }
+{
     match fault {
-        WholeFault::Refused(error) => put_said(alloc, out, error),
-        WholeFault::Hosts => out.extend_from_slice(b"cannot open"),
-        WholeFault::HostsLine(number) => {
-            out.extend_from_slice(b"bad line ")?;
-            write_number(out, *number)
-        }
-        WholeFault::Page => out.extend_from_slice(b"config refusal_pages"),
-        WholeFault::NoMemory => out.extend_from_slice(b"out of memory"),
+        WholeFault::Refused(error) => said_of(alloc, error),
+        WholeFault::Hosts => b"cannot open".to_vec(alloc),
+        WholeFault::HostsLine(number) => bad_line(alloc, *number),
+        WholeFault::Page => b"config refusal_pages".to_vec(alloc),
+        WholeFault::NoMemory => b"out of memory".to_vec(alloc),
     }
 }
 
 /// The answer to a fault; empty where it finds no memory.
-fn answer_of(alloc: Global, fault: &WholeFault) -> Vec<u8> {
-    let mut answer = Vec::new(alloc);
-    match put_fault(alloc, &mut answer, fault) {
-        Ok(()) => answer,
+fn answer_of(alloc: Global, fault: &WholeFault) -> Vec<u8>
+    ensures { (result.items ≡ []) ⊎ Answers fault.now result.items }
+{
+    match text_of(alloc, fault) {
+        Ok(answer) => answer,
         Err(_) => Vec::new(alloc),
     }
 }
 
+/// What is said where this key differs.
+fn restart_text(alloc: Global, key: &str) -> Result<Vec<u8>, NoMemory>
+    ensures { IfOk result (λ text. text.items ≡ codes "restart " ++ string_bytes key.now) }
+{
+    let mut text = b"restart ".to_vec(alloc)?;
+    text.extend_from_slice(key.as_bytes())?;
+    Ok(text)
+}
+
 /// The answer where a key changes that can't while the proxy runs; empty where it finds no memory.
-fn restart_answer(alloc: Global, key: &str) -> Vec<u8> {
-    match format!(in alloc; "restart {key}") {
-        Ok(answer) => answer.into_bytes(),
+fn restart_answer(alloc: Global, key: &str) -> Vec<u8>
+    ensures { (result.items ≡ []) ⊎ (result.items ≡ codes "restart " ++ string_bytes key.now) }
+{
+    match restart_text(alloc, key) {
+        Ok(answer) => answer,
         Err(_) => Vec::new(alloc),
     }
 }
 
 /// The fault of a source that can't be read: like a hosts file, it can't be opened.
-fn source_fault(error: &ServeError) -> WholeFault {
+fn source_fault(error: &ServeError) -> WholeFault
+    ensures { IsReadFault error.now result }
+{
     match error {
         ServeError::Ended(Error::NoMemory) => WholeFault::NoMemory,
         _ => WholeFault::Hosts,
@@ -77,8 +115,12 @@ pub fn reload<R: Files + AllocGlobal>(
     source: &Source,
     old: &Config,
 ) -> Result<(Config, u64), Vec<u8>>
-    ensures { IfOk result (λ taken. IsFirstChange fixed_rows old.now taken.0 None) }
+    ensures taken { IfOk result (λ taken. IsTaken source.now old.now taken.0 taken.1) }
+    ensures not_taken { IfErr result (λ line. IsNotTaken source.now old.now line.items) }
 {
+    if !comes_at_once(rt, source) {
+        return Err(answer_of(alloc, &WholeFault::Hosts));
+    }
     let text = match read_source(rt, alloc, source) {
         Ok(text) => text,
         Err(error) => return Err(answer_of(alloc, &source_fault(&error))),

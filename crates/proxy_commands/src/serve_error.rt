@@ -13,6 +13,8 @@ use std::io::{self, Write};
 pub enum ServeError {
     /// What any command may end with.
     Ended(Error),
+    /// The file of this path can't be read.
+    CannotRead(String),
     /// The configuration is no TOML, or no UTF-8.
     Config,
     /// This key of the configuration is missing, unknown, of another kind or out of its range.
@@ -37,7 +39,8 @@ impl ServeError {
         match self {
             ServeError::Ended(error) => error.status(),
             ServeError::Config | ServeError::Key(_) | ServeError::KeyLine(..) => 2,
-            ServeError::CannotListen
+            ServeError::CannotRead(_)
+            | ServeError::CannotListen
             | ServeError::CannotListenOn(_)
             | ServeError::NoAnswer
             | ServeError::AuditMissing => 1,
@@ -62,6 +65,11 @@ pub fn put_error<W: Write>(error: &ServeError, errors: &mut W) -> io::Result<()>
 {
     match error {
         ServeError::Ended(error) => errors.write_all(error.text().as_slice()),
+        ServeError::CannotRead(path) => {
+            errors.write_all(b"adaptproxy: cannot read: ")?;
+            errors.write_all(path.as_bytes())?;
+            errors.write_all(b"\n")
+        }
         ServeError::Config => errors.write_all(b"adaptproxy: config\n"),
         ServeError::Key(key) => {
             errors.write_all(b"adaptproxy: config ")?;

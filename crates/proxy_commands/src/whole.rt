@@ -1,15 +1,15 @@
 //! A configuration with the files that it names: its hosts file, and the pages of its refusals.
 
-ghost use Rattle.std.specs.Prelude.{◌≡◌, IfOk, OnOk};
-ghost use Rattle.proxy_commands.specs.Whole.{IsWhole, SetsNames, SetsPages};
-ghost use Rattle.proxy_commands.specs.declared.whole.WholeFault.TheVariants.{NoMemory as NothingLeft};
+ghost use Rattle.std.specs.Prelude.{◌≡◌, ℕ, ◌⊎◌, string_bytes, IfOk, IfErr, OnOk};
+ghost use Rattle.proxy_commands.specs.Whole.{EndsAs, HasNames, HasPages, IsHostsFault, IsOfKey, IsPageFault, IsRefused, IsWhole, IsWholeFault};
+ghost use Rattle.proxy_commands.specs.declared.whole.WholeFault.TheVariants.{Hosts as NoFile, NoMemory as NothingLeft, Page as NoPage};
 
 use crate::error::Error;
 use crate::serve::configuration_of;
 use crate::serve_error::ServeError;
+use crate::source::open_regular;
 use proxy_config::{Config, HostsFault, MAX_PAGE, OWN_STATUSES, Pages};
 use std::alloc::{AllocError, Global};
-use std::fs::File;
 use std::io::{self, ErrorKind, Read};
 use std::rt::Files;
 
@@ -40,7 +40,9 @@ impl From<AllocError> for WholeFault {
 }
 
 /// The fault of a file that can't be read: the one that is given, unless memory ran out.
-fn file_fault(error: &io::Error, other: WholeFault) -> WholeFault {
+fn file_fault(error: &io::Error, other: WholeFault) -> WholeFault
+    ensures { (result ≡ other) ⊎ (result ≡ NothingLeft) }
+{
     if error.kind() == ErrorKind::OutOfMemory {
         WholeFault::NoMemory
     } else {
@@ -49,8 +51,10 @@ fn file_fault(error: &io::Error, other: WholeFault) -> WholeFault {
 }
 
 /// Reads the text of a hosts file.
-fn read_hosts_file<R: Files>(rt: &R, alloc: Global, path: &str) -> Result<Vec<u8>, WholeFault> {
-    let file = match File::open(rt, path) {
+fn read_hosts_file<R: Files>(rt: &R, alloc: Global, path: &str) -> Result<Vec<u8>, WholeFault>
+    ensures { IfErr result (λ fault. (fault ≡ NoFile) ⊎ (fault ≡ NothingLeft)) }
+{
+    let file = match open_regular(rt, path) {
         Ok(file) => file,
         Err(error) => return Err(file_fault(&error, WholeFault::Hosts)),
     };
@@ -64,7 +68,8 @@ fn read_hosts_file<R: Files>(rt: &R, alloc: Global, path: &str) -> Result<Vec<u8
 
 /// Reads the hosts file, where there is one, and answers how many names it has.
 fn take_hosts<R: Files>(rt: &R, alloc: Global, config: &mut Config) -> Result<u64, WholeFault>
-    ensures { OnOk result (SetsNames config.old config.new) }
+    ensures ok { IfOk result (HasNames config.old.hosts_file config.old config.new) }
+    ensures err { IfErr result (IsHostsFault config.old.hosts_file) }
 {
     let Some(path) = &config.hosts_file else {
         return Ok(0);
@@ -83,9 +88,11 @@ fn read_page<R: Files>(
     alloc: Global,
     folder: &str,
     status: u16,
-) -> Result<Option<Vec<u8>>, WholeFault> {
+) -> Result<Option<Vec<u8>>, WholeFault>
+    ensures { IfErr result (λ fault. (fault ≡ NoPage) ⊎ (fault ≡ NothingLeft)) }
+{
     let path = format!(in alloc; "{folder}/{status}.html")?;
-    let file = match File::open(rt, path.as_str()) {
+    let file = match open_regular(rt, path.as_str()) {
         Ok(file) => file,
         Err(error) if error.kind() == ErrorKind::NotFound => return Ok(None),
         Err(error) => return Err(file_fault(&error, WholeFault::Page)),
@@ -99,7 +106,9 @@ fn read_page<R: Files>(
 }
 
 /// Reads the pages of a folder.
-fn read_pages<R: Files>(rt: &R, alloc: Global, folder: &str) -> Result<Pages, WholeFault> {
+fn read_pages<R: Files>(rt: &R, alloc: Global, folder: &str) -> Result<Pages, WholeFault>
+    ensures { IfErr result (λ fault. (fault ≡ NoPage) ⊎ (fault ≡ NothingLeft)) }
+{
     let mut pages = Pages::new();
     for status in OWN_STATUSES {
         if let Some(page) = read_page(rt, alloc, folder, status)? {
@@ -111,7 +120,8 @@ fn read_pages<R: Files>(rt: &R, alloc: Global, folder: &str) -> Result<Pages, Wh
 
 /// Reads the pages of refusals, where there are some.
 fn take_pages<R: Files>(rt: &R, alloc: Global, config: &mut Config) -> Result<(), WholeFault>
-    ensures { OnOk result (SetsPages config.old config.new) }
+    ensures ok { OnOk result (HasPages config.old.refusal_pages config.old config.new) }
+    ensures err { IfErr result (IsPageFault config.old.refusal_pages) }
 {
     let Some(folder) = &config.refusal_pages else {
         return Ok(());
@@ -127,7 +137,8 @@ pub(crate) fn whole_of<R: Files>(
     alloc: Global,
     text: &[u8],
 ) -> Result<(Config, u64), WholeFault>
-    ensures { IfOk result (λ whole. IsWhole text.now whole.0) }
+    ensures ok { IfOk result (λ whole. IsWhole text.now whole.0 whole.1) }
+    ensures err { IfErr result (IsWholeFault text.now) }
 {
     let mut config = match configuration_of(alloc, text) {
         Ok(config) => config,
@@ -139,7 +150,9 @@ pub(crate) fn whole_of<R: Files>(
 }
 
 /// The error of a key.
-fn key_error(alloc: Global, key: &str) -> ServeError {
+fn key_error(alloc: Global, key: &str) -> ServeError
+    ensures { IsOfKey (string_bytes key.now) result }
+{
     match String::from_str(alloc, key) {
         Ok(key) => ServeError::Key(key),
         Err(_) => ServeError::Ended(Error::NoMemory),
@@ -147,7 +160,9 @@ fn key_error(alloc: Global, key: &str) -> ServeError {
 }
 
 /// The error that a fault ends the program with.
-fn error_of_whole(alloc: Global, fault: WholeFault) -> ServeError {
+fn error_of_whole(alloc: Global, fault: WholeFault) -> ServeError
+    ensures { EndsAs fault result }
+{
     match fault {
         WholeFault::Refused(error) => error,
         WholeFault::Hosts => key_error(alloc, "hosts_file"),
@@ -165,7 +180,8 @@ fn error_of_whole(alloc: Global, fault: WholeFault) -> ServeError {
 /// `KeyLine` with the first line of the hosts file that can't be read; `Key` where that file can't be, or a page can't be, or
 /// is longer than [`MAX_PAGE`]. A page that isn't there is no fault. Else as [`configuration_of`].
 pub fn read_whole<R: Files>(rt: &R, alloc: Global, text: &[u8]) -> Result<Config, ServeError>
-    ensures { IfOk result (IsWhole text.now) }
+    ensures ok { IfOk result (λ config. (count : ℕ) × IsWhole text.now config count) }
+    ensures err { IfErr result (IsRefused text.now) }
 {
     match whole_of(rt, alloc, text) {
         Ok((config, _)) => Ok(config),

@@ -4,6 +4,7 @@ ghost use Rattle.std.specs.Prelude.{◌≡◌, IfOk, IsTrue};
 ghost use Rattle.proxy_config.specs.declared.config.Config.{Config as AnyConfig};
 ghost use Rattle.proxy_rules.specs.Plans.{AreLimits};
 ghost use Rattle.shard_report.specs.Notes.{IsOpen};
+ghost use Rattle.shard_desk.specs.Standings.{SameButAt};
 
 use crate::headers::{announce, header_of};
 use crate::hearing::Hearing;
@@ -114,6 +115,7 @@ impl<S: Shares> Desk<S> {
     pub fn take_up<R: Wait>(&mut self, rt: &R, key: usize)
         ensures goes { S.config_is self.new.shared (S.goes_by self.new.shared key) }
         ensures open { IsOpen self.old.reporter.notes.notes.items key → S.goes_by self.new.shared key ≡ S.goes_by self.old.shared key }
+        ensures others { SameButAt key (S.own self.old.shared) (S.own self.new.shared) }
         ensures deadline { (config : AnyConfig) × S.config_is self.new.shared config × (self.new.deadline ≡ config.deadline) }
         ensures kept { self.new ≡ record self.old { shared = self.new.shared; deadline = self.new.deadline } }
     {

@@ -1,8 +1,9 @@
 //! What all threads share.
 
-ghost use Rattle.std.specs.Prelude.{◌≡◌, ℕ, true, ⊤};
+ghost use Rattle.std.specs.Prelude.{◌≡◌, ℕ, List, Option, true, ⊤, slice_get};
+ghost use Rattle.event_loop.specs.declared.live.DatedConfig.{DatedConfig as AnyDated};
 ghost use Rattle.proxy_config.specs.declared.config.Config.{Config as AnyConfig};
-ghost use Rattle.shard_desk.specs.Standings.{goes_by};
+ghost use Rattle.shard_desk.specs.Standings.{HasNone, SameButAt, goes_by};
 
 use crate::pools::Spare;
 use crate::standings::Standings;
@@ -33,6 +34,9 @@ pub trait Shares {
     // what the exchange under this key goes by
     ghost goes_by: { Self → ℕ → AnyConfig };
 
+    // what each exchange has of its own to go by
+    ghost own: { Self → List (Option AnyDated) };
+
     /// What the exchange goes by that is served; before the first one, and elsewhere than with exchanges, what stands now.
     fn config(&self) -> &Config
         ensures { config_is self.now result.now };
@@ -44,10 +48,13 @@ pub trait Shares {
     /// now.
     fn take_up<R: Wait>(&mut self, rt: &R, key: usize, is_open: bool)
         ensures served { config_is self.new (goes_by self.new key) }
-        ensures open { is_open ≡ true → goes_by self.new key ≡ goes_by self.old key };
+        ensures open { is_open ≡ true → goes_by self.new key ≡ goes_by self.old key }
+        ensures others { SameButAt key (own self.old) (own self.new) };
 
     /// The user under this key has left.
-    fn leave(&mut self, key: usize);
+    fn leave(&mut self, key: usize)
+        ensures gone { HasNone (slice_get (own self.new) key) }
+        ensures others { SameButAt key (own self.old) (own self.new) };
 
     fn bank(&self) -> &Bank<Self::Ledgers>;
 
@@ -106,6 +113,8 @@ impl<'a, B: Ledgers, Q: Ledger, A: Ledger> Shares for Shared<'a, B, Q, A> {
     ghost config_is = { λ shared config. config ≡ goes_by shared.standings shared.standings.serving };
 
     ghost goes_by = { λ shared key. goes_by shared.standings key };
+
+    ghost own = { λ shared. shared.standings.own.items };
 
     fn config(&self) -> &Config {
         self.standings.config()

@@ -1,7 +1,7 @@
 //! The configuration as the exchanges of one thread have it: each goes on by what stood when it began.
 
 ghost use Rattle.std.specs.Prelude.{◌≡◌, true, false, slice_get};
-ghost use Rattle.shard_desk.specs.Standings.{IsAsOf, goes_by};
+ghost use Rattle.shard_desk.specs.Standings.{HasNone, IsAsOf, SameButAt, goes_by};
 
 use event_loop::{DatedConfig, LatestConfig, LiveConfig};
 use proxy_config::Config;
@@ -52,6 +52,7 @@ impl Standings {
     pub fn take_up<R: Wait>(&mut self, rt: &R, key: usize, is_open: bool)
         ensures serving { self.new.serving ≡ key }
         ensures open { is_open ≡ true → goes_by self.new key ≡ goes_by self.old key }
+        ensures others { SameButAt key self.old.own.items self.new.own.items }
         ensures now { is_open ≡ false → IsAsOf self.new.latest.dated.number (slice_get self.new.own.items key) }
     {
         self.serving = key;
@@ -72,7 +73,11 @@ impl Standings {
     }
 
     /// The user under this key has left.
-    pub fn leave(&mut self, key: usize) {
+    pub fn leave(&mut self, key: usize)
+        ensures gone { HasNone (slice_get self.new.own.items key) }
+        ensures others { SameButAt key self.old.own.items self.new.own.items }
+        ensures kept { self.new ≡ record self.old { own = self.new.own } }
+    {
         if let Some(own) = self.own.get_mut(key) {
             *own = None;
         }

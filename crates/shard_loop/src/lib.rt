@@ -14,6 +14,7 @@ mod exchanges;
 mod left;
 mod office;
 mod reloading;
+mod replaced;
 mod running;
 
 pub use board::Rules;

@@ -4,6 +4,7 @@
 ghost use Rattle.std.specs.Prelude.{⊤};
 
 use crate::reloading::{Reloads, changed_text, reload_from};
+use crate::replaced::Replaced;
 use event_loop::{Admitted, Driven, Handed, LiveConfig, Request, Told, Work};
 use mio::Registry;
 use proxy_commands::Source;
@@ -31,6 +32,7 @@ pub struct Office<'a, S, F> {
     source: &'a Source,
     tallies: &'a [LoopTally],
     files: &'a F,
+    replaced: Replaced,
 }
 
 impl<'a, S: Shares, F: Append + Reloads> Office<'a, S, F> {
@@ -51,6 +53,7 @@ impl<'a, S: Shares, F: Append + Reloads> Office<'a, S, F> {
             source,
             tallies,
             files,
+            replaced: Replaced::new(alloc),
         }
     }
 
@@ -117,6 +120,7 @@ impl<'a, S: Shares, F: Append + Reloads> Office<'a, S, F> {
             self.alloc,
             &mut self.shared,
             self.live,
+            &mut self.replaced,
             self.source,
             self.files,
         )
@@ -176,7 +180,8 @@ impl<'a, S: Shares + Drop, F: Append + Reloads> Work for Office<'a, S, F> {
         None
     }
 
-    /// Is called each second: idle connections to services that are of no use any more are closed.
+    /// Is called each second: idle connections to services that are of no use any more are closed, and configurations freed that nobody goes
+    /// by.
     fn drive<R: Wait + Dial + Clock>(
         &mut self,
         rt: &R,
@@ -185,6 +190,7 @@ impl<'a, S: Shares + Drop, F: Append + Reloads> Work for Office<'a, S, F> {
         now: u64,
     ) -> Driven {
         pools_of(&self.shared).tidy(rt, now);
+        self.replaced.tidy();
         Driven::Waiting
     }
 

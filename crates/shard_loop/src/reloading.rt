@@ -1,5 +1,9 @@
 //! The admin word `reload`: the configuration and its files are read again, and what can change while the proxy runs is taken over.
 
+ghost use Rattle.std.specs.Prelude.{◌≡◌, ◌==◌, if◌then◌else◌, nat_max, nat_min, None, Some};
+ghost use Rattle.span_bank.specs.declared.limits.TheConstants.{MAX_CAPACITY};
+
+use crate::replaced::Replaced;
 use event_loop::LiveConfig;
 use proxy_commands::{Source, reload};
 use proxy_config::Config;
@@ -66,38 +70,60 @@ fn other_log<F: Append>(files: &F, old: &Config, new: &Config) -> io::Result<Opt
     }
 }
 
-/// Has the budget this size, if it has another one.
-fn resize<S: Shares, R: Wait>(rt: &R, shared: &S, size: u64) -> Result<(), CapacityFault> {
-    let size = size.max(1).min(MAX_CAPACITY);
-    if shared.bank().book(rt, None).capacity == size {
-        return Ok(());
+/// The size that the budget gets, where another configuration says another one: an administrator's own stays where it doesn't.
+fn new_size(old: &Config, new: &Config) -> Option<u64>
+    ensures { result ≡ (if old.now.capacity == new.now.capacity then None else Some (nat_min (nat_max new.now.capacity 1) MAX_CAPACITY)) }
+{
+    if old.capacity == new.capacity {
+        return None;
     }
-    change_capacity(rt, shared.bank(), shared.log(), size)
+    Some(new.capacity.max(1).min(MAX_CAPACITY))
 }
 
-/// Takes another configuration over, and says so; or why not: then nothing has changed.
+/// Whether more bytes are reserved than this size has: how many they are then.
+fn reserved_over<S: Shares, R: Wait>(rt: &R, shared: &S, size: u64) -> Option<u64> {
+    let claimed = shared.bank().book(rt, None).claimed;
+    if claimed > size { Some(claimed) } else { None }
+}
+
+/// Has the budget this size, if one is given.
+fn resize<S: Shares, R: Wait>(rt: &R, shared: &S, size: Option<u64>) -> Result<(), CapacityFault> {
+    match size {
+        Some(size) => change_capacity(rt, shared.bank(), shared.log(), size),
+        None => Ok(()),
+    }
+}
+
+/// Takes another configuration over, and says so; or why not: then nothing has changed. The old one is put to those that were replaced.
 fn take_over<S: Shares, F: Append, R: Wait>(
     rt: &R,
     alloc: Global,
     shared: &mut S,
     live: &LiveConfig,
+    replaced: &mut Replaced,
     files: &F,
     new: (Config, u64),
 ) -> Result<Vec<u8>, AllocError> {
     let (config, names) = new;
+    let size = new_size(shared.config(), &config);
+    if let Some(size) = size
+        && let Some(claimed) = reserved_over(rt, shared, size)
+    {
+        return changed_text(alloc, Err(CapacityFault::TooLow { claimed }));
+    }
     let Ok(log) = other_log(files, shared.config(), &config) else {
         return b"config log\n".to_vec(alloc);
     };
     let text = taken_text(alloc, &config, names)?;
-    let size = config.capacity;
     let config = Arc::new(alloc, config)?;
+    replaced.reserve()?;
     if let Err(fault) = resize(rt, shared, size) {
         return changed_text(alloc, Err(fault));
     }
     if let Some(file) = log {
         shared.log().change(rt, file);
     }
-    live.change(rt, config);
+    replaced.put(live.change(rt, config));
     shared.take_up(rt, 0, false);
     Ok(text)
 }
@@ -119,11 +145,12 @@ pub(crate) fn reload_from<S: Shares, F: Append + Reloads, R: Wait>(
     alloc: Global,
     shared: &mut S,
     live: &LiveConfig,
+    replaced: &mut Replaced,
     source: &Source,
     files: &F,
 ) -> Result<Vec<u8>, AllocError> {
     match files.reload(alloc, source, shared.config()) {
-        Ok(new) => take_over(rt, alloc, shared, live, files, new),
+        Ok(new) => take_over(rt, alloc, shared, live, replaced, files, new),
         Err(line) => line_of(line),
     }
 }

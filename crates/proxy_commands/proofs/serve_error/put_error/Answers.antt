@@ -19,6 +19,12 @@ returns-in_ok-write_all-in-KeyLine-2 g c =
     ∙ ap (λ (t : List ℕ). (codes "adaptproxy: config " ++ c.as_bytes-in-KeyLine.result.now) ++ t) (sym end) in
     on_ok _ _ c.write_all-in-KeyLine-3.result (λ last. chain _ _ _ _ _ _ _ _ text c.in_ok-write_all-in-KeyLine.ensures.bytes c.in_ok-write_all-in-KeyLine-2.ensures.bytes last) c.write_all-in-KeyLine-3.ensures.bytes
 
+pub returns-in_ok-write_all-in-CannotRead-2 : goal.returns-in_ok-write_all-in-CannotRead-2
+returns-in_ok-write_all-in-CannotRead-2 g c =
+    let text : serve_error_text c.args.error.now ≡ (codes "adaptproxy: cannot read: " ++ c.as_bytes-in-CannotRead.result.now) ++ codes "\n" =
+    ap serve_error_text c.in-CannotRead.is ∙ ap (λ (t : List ℕ). (codes "adaptproxy: cannot read: " ++ t) ++ codes "\n") (sym c.as_bytes-in-CannotRead.ensures.value) in
+    on_ok _ _ c.write_all-in-CannotRead-3.result (λ last. chain _ _ _ _ _ _ _ _ text c.in_ok-write_all-in-CannotRead.ensures.bytes c.in_ok-write_all-in-CannotRead-2.ensures.bytes last) c.write_all-in-CannotRead-3.ensures.bytes
+
 pub returns-in_ok-write_all-in-CannotListenOn-2 : goal.returns-in_ok-write_all-in-CannotListenOn-2
 returns-in_ok-write_all-in-CannotListenOn-2 g c =
     let text : serve_error_text c.args.error.now ≡ (codes "adaptproxy: cannot listen: " ++ c.as_bytes-in-CannotListenOn.result.now) ++ codes "\n" =
