@@ -1,5 +1,5 @@
 -- What is said where a new configuration isn't taken over.
-use Rattle.std.specs.Prelude.{◌≡◌, ◌⊎◌, ℕ, List, [], ◌++◌, ⊤, Some, None, codes}
+use Rattle.std.specs.Prelude.{◌≡◌, ◌⊎◌, ◌-◌, ℕ, List, [], ◌++◌, ⊤, Some, None, codes, drop, take, length}
 use Rattle.adapt_bytes.specs.Numeral.{numeral}
 use Rattle.proxy_config.specs.Changes.{fixed_rows, IsFirstChange}
 use Rattle.proxy_config.specs.declared.config.Config.{Config as Configuration}
@@ -14,9 +14,13 @@ use Rattle.proxy_commands.specs.declared.source.Source.TheVariants.{Path, Text}
 use Rattle.proxy_commands.specs.declared.whole.WholeFault.{WholeFault}
 use Rattle.proxy_commands.specs.declared.whole.WholeFault.TheVariants.{Refused, Hosts, HostsLine, Page, NoMemory}
 
--- the answer to a fault: that of a text is its line on standard error without the program's name
+-- a line of the program without its name and the LF
+abbrev pub said_in : List ℕ → List ℕ
+said_in line = drop (length (codes "adaptproxy: ")) (take (length line - 1) line)
+
+-- the answer to a fault: that of a text is its line on standard error without the program's name and the LF
 abbrev pub Answers : WholeFault → List ℕ → Type 0
-Answers (Refused error) line = serve_error_text error ≡ codes "adaptproxy: " ++ line ++ codes "\n"
+Answers (Refused error) line = line ≡ said_in (serve_error_text error)
 Answers Hosts line = line ≡ codes "cannot open"
 Answers (HostsLine number) line = line ≡ codes "bad line " ++ numeral 10 number
 Answers Page line = line ≡ codes "config refusal_pages"
@@ -52,7 +56,7 @@ pub record IsRestart (source : Source) (old : Configuration) (line : List ℕ) :
   pub said : Says source text
   pub whole : IsWhole text new count
   pub fixed : IsFirstChange fixed_rows old new (Some key)
-  pub line : line ≡ codes "restart " ++ key
+  pub says : line ≡ codes "restart " ++ key
 
 -- the answer where a source isn't taken over: none where no memory was found for it
 abbrev pub IsNotTaken : Source → (old : Configuration) → (line : List ℕ) → Type 0

@@ -1,5 +1,5 @@
 -- A configuration with the files that it names.
-use Rattle.std.specs.Prelude.{◌≡◌, ◌⊎◌, ℕ, List, ⊤, Option, Some, None, String, codes, string_bytes}
+use Rattle.std.specs.Prelude.{◌≡◌, ◌⊎◌, ℕ, List, ⊤, Option, Some, None, codes, string_bytes}
 use Rattle.proxy_config.specs.HostsFile.{IsBadAt, NamesHosts}
 use Rattle.proxy_config.specs.declared.config.Config.{Config as Configuration}
 use Rattle.proxy_commands.specs.Serve.{IsConfigured, IsUnconfigured}
@@ -10,39 +10,47 @@ use Rattle.proxy_commands.specs.declared.whole.WholeFault.{WholeFault}
 use Rattle.proxy_commands.specs.declared.whole.WholeFault.TheVariants.{Refused, Hosts, HostsLine, Page, NoMemory}
 
 -- a configuration has the names that a text says in place of those of its hosts file, and so many, where it names such a file
-abbrev pub HasNames : (file : Option String) → (old new : Configuration) → (count : ℕ) → Type 0
+abbrev pub HasNames : {X : Type 0} → (file : Option X) → (old new : Configuration) → (count : ℕ) → Type 0
 HasNames None old new count = (new ≡ old) × (count ≡ 0)
 HasNames (Some path) old new count = (text : List ℕ) × NamesHosts text old new count
 
 -- it has other pages, where it names a folder of them, and else is the same
-abbrev pub HasPages : (folder : Option String) → (old new : Configuration) → Type 0
+abbrev pub HasPages : {X : Type 0} → (folder : Option X) → (old new : Configuration) → Type 0
 HasPages None old new = new ≡ old
 HasPages (Some path) old new = new ≡ record old { pages = new.pages }
+
+-- it has the names of its hosts file, which are so many, and the pages of its refusals
+pub record HasFiles (plain config : Configuration) (count : ℕ) : Type 0 where
+  pub named : Configuration
+  pub names : HasNames plain.hosts_file plain named count
+  pub pages : HasPages plain.refusal_pages named config
 
 -- the text is a configuration, but for the names of its hosts file, which are so many, and the pages of its refusals
 pub record IsWhole (text : List ℕ) (config : Configuration) (count : ℕ) : Type 0 where
   pub plain : Configuration
-  pub named : Configuration
   pub says : IsConfigured text plain
-  pub names : HasNames plain.hosts_file plain named count
-  pub pages : HasPages named.refusal_pages named config
+  pub files : HasFiles plain config count
 
 -- why a configuration with this hosts file isn't whole
-abbrev pub IsHostsFault : (file : Option String) → WholeFault → Type 0
-IsHostsFault (Some path) Hosts = ⊤
-IsHostsFault (Some path) (HostsLine number) = (text : List ℕ) × IsBadAt text number
-IsHostsFault (Some path) NoMemory = ⊤
+abbrev pub IsHostsFault : {X : Type 0} → WholeFault → (file : Option X) → Type 0
+IsHostsFault Hosts (Some path) = ⊤
+IsHostsFault (HostsLine number) (Some path) = (text : List ℕ) × IsBadAt text number
+IsHostsFault NoMemory (Some path) = ⊤
 IsHostsFault _ _ = ⊥
 
 -- why one with this folder of pages isn't
-abbrev pub IsPageFault : (folder : Option String) → WholeFault → Type 0
-IsPageFault (Some path) Page = ⊤
-IsPageFault (Some path) NoMemory = ⊤
+abbrev pub IsPageFault : {X : Type 0} → WholeFault → (folder : Option X) → Type 0
+IsPageFault Page (Some path) = ⊤
+IsPageFault NoMemory (Some path) = ⊤
 IsPageFault _ _ = ⊥
+
+-- why a configuration isn't whole
+abbrev pub Lacks : Configuration → WholeFault → Type 0
+Lacks plain fault = IsHostsFault fault plain.hosts_file ⊎ IsPageFault fault plain.refusal_pages
 
 -- a text that is a configuration names a file that can't be taken
 abbrev pub LacksFile : List ℕ → WholeFault → Type 0
-LacksFile text fault = (plain : Configuration) × IsConfigured text plain × (IsHostsFault plain.hosts_file fault ⊎ IsPageFault plain.refusal_pages fault)
+LacksFile text fault = (plain : Configuration) × IsConfigured text plain × Lacks plain fault
 
 -- why a text and the files that it names are no configuration: the text's own fault first
 abbrev pub IsWholeFault : List ℕ → WholeFault → Type 0

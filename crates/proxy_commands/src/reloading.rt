@@ -1,9 +1,9 @@
 //! A new configuration for a proxy that runs.
 
-ghost use Rattle.std.specs.Prelude.{◌≡◌, ◌++◌, ◌⊎◌, [], codes, string_bytes, IfOk, IfErr};
+ghost use Rattle.std.specs.Prelude.{◌≡◌, ◌++◌, ◌⊎◌, [], codes, IfOk, IfErr};
 ghost use Rattle.adapt_bytes.specs.Numeral.{numeral};
 ghost use Rattle.proxy_commands.specs.ServeErrors.{serve_error_text};
-ghost use Rattle.proxy_commands.specs.Reloads.{Answers, IsNotTaken, IsReadFault, IsTaken};
+ghost use Rattle.proxy_commands.specs.Reloads.{Answers, IsNotTaken, IsReadFault, IsTaken, said_in};
 
 use crate::answers::write_number;
 use crate::checking::has_room;
@@ -18,28 +18,26 @@ use std::rt::Files;
 /// The first words of a line on standard error.
 const NAME: &[u8] = b"adaptproxy: ";
 
-/// A line without the program's name and the LF. `Err` also where it isn't one of the program's.
-fn cut_said(alloc: Global, line: &[u8]) -> Result<Vec<u8>, NoMemory>
-    ensures { IfOk result (λ said. line.now ≡ codes "adaptproxy: " ++ said.items ++ codes "\n") }
+/// A line of the program without its name and the LF.
+fn said_in(line: &[u8]) -> &[u8]
+    ensures { result.now ≡ said_in line.now }
 {
-    let Some(said) = line.strip_prefix(NAME) else {
-        return Err(NoMemory);
-    };
-    match said.strip_suffix(b"\n") {
-        Some(said) => said.to_vec(alloc),
-        None => Err(NoMemory),
+    let text = &line[..line.len().saturating_sub(1)];
+    match text.get(NAME.len()..) {
+        Some(said) => said,
+        None => &[],
     }
 }
 
 /// What the line on standard error says of an error, without the program's name and the LF.
 fn said_of(alloc: Global, error: &ServeError) -> Result<Vec<u8>, NoMemory>
-    ensures { IfOk result (λ said. serve_error_text error.now ≡ codes "adaptproxy: " ++ said.items ++ codes "\n") }
+    ensures { IfOk result (λ said. said.items ≡ said_in (serve_error_text error.now)) }
 {
     let mut line = Vec::new(alloc);
-    match put_error(error, &mut line) {
-        Ok(()) => cut_said(alloc, &line),
-        Err(_) => Err(NoMemory),
+    if put_error(error, &mut line).is_err() {
+        return Err(NoMemory);
     }
+    said_in(&line).to_vec(alloc)
 }
 
 /// What is said of a line of a hosts file that can't be read.
@@ -76,7 +74,7 @@ fn answer_of(alloc: Global, fault: &WholeFault) -> Vec<u8>
 
 /// What is said where this key differs.
 fn restart_text(alloc: Global, key: &str) -> Result<Vec<u8>, NoMemory>
-    ensures { IfOk result (λ text. text.items ≡ codes "restart " ++ string_bytes key.now) }
+    ensures { IfOk result (λ text. text.items ≡ codes "restart " ++ key.now) }
 {
     let mut text = b"restart ".to_vec(alloc)?;
     text.extend_from_slice(key.as_bytes())?;
@@ -85,7 +83,7 @@ fn restart_text(alloc: Global, key: &str) -> Result<Vec<u8>, NoMemory>
 
 /// The answer where a key changes that can't while the proxy runs; empty where it finds no memory.
 fn restart_answer(alloc: Global, key: &str) -> Vec<u8>
-    ensures { (result.items ≡ []) ⊎ (result.items ≡ codes "restart " ++ string_bytes key.now) }
+    ensures { (result.items ≡ []) ⊎ (result.items ≡ codes "restart " ++ key.now) }
 {
     match restart_text(alloc, key) {
         Ok(answer) => answer,

@@ -65,11 +65,6 @@ pub fn put_error<W: Write>(error: &ServeError, errors: &mut W) -> io::Result<()>
 {
     match error {
         ServeError::Ended(error) => errors.write_all(error.text().as_slice()),
-        ServeError::CannotRead(path) => {
-            errors.write_all(b"adaptproxy: cannot read: ")?;
-            errors.write_all(path.as_bytes())?;
-            errors.write_all(b"\n")
-        }
         ServeError::Config => errors.write_all(b"adaptproxy: config\n"),
         ServeError::Key(key) => {
             errors.write_all(b"adaptproxy: config ")?;
@@ -80,6 +75,11 @@ pub fn put_error<W: Write>(error: &ServeError, errors: &mut W) -> io::Result<()>
             errors.write_all(b"adaptproxy: config ")?;
             errors.write_all(key.as_bytes())?;
             errors.write_all(line_end(*number).as_slice())
+        }
+        ServeError::CannotRead(path) => {
+            errors.write_all(b"adaptproxy: cannot read: ")?;
+            errors.write_all(path.as_bytes())?;
+            errors.write_all(b"\n")
         }
         ServeError::CannotListen => errors.write_all(b"adaptproxy: cannot listen\n"),
         ServeError::CannotListenOn(address) => {

@@ -53,7 +53,7 @@ fn read_file<R: Files>(rt: &R, alloc: Global, path: &str) -> Result<Vec<u8>, Err
 
 /// The error of a file that can't be read: it names the path, unless memory ran out.
 fn path_error(alloc: Global, path: &str, error: Error) -> ServeError
-    ensures { IsOfPath (string_bytes path.now) result }
+    ensures { IsOfPath path.now result }
 {
     if matches!(error, Error::NoMemory) {
         return ServeError::Ended(error);

@@ -1,7 +1,7 @@
 //! A configuration with the files that it names: its hosts file, and the pages of its refusals.
 
-ghost use Rattle.std.specs.Prelude.{◌≡◌, ℕ, ◌⊎◌, string_bytes, IfOk, IfErr, OnOk};
-ghost use Rattle.proxy_commands.specs.Whole.{EndsAs, HasNames, HasPages, IsHostsFault, IsOfKey, IsPageFault, IsRefused, IsWhole, IsWholeFault};
+ghost use Rattle.std.specs.Prelude.{◌≡◌, ℕ, ◌⊎◌, IfOk, IfErr, OnOk};
+ghost use Rattle.proxy_commands.specs.Whole.{EndsAs, HasFiles, HasNames, HasPages, IsHostsFault, IsOfKey, IsPageFault, IsRefused, IsWhole, IsWholeFault, Lacks};
 ghost use Rattle.proxy_commands.specs.declared.whole.WholeFault.TheVariants.{Hosts as NoFile, NoMemory as NothingLeft, Page as NoPage};
 
 use crate::error::Error;
@@ -69,7 +69,7 @@ fn read_hosts_file<R: Files>(rt: &R, alloc: Global, path: &str) -> Result<Vec<u8
 /// Reads the hosts file, where there is one, and answers how many names it has.
 fn take_hosts<R: Files>(rt: &R, alloc: Global, config: &mut Config) -> Result<u64, WholeFault>
     ensures ok { IfOk result (HasNames config.old.hosts_file config.old config.new) }
-    ensures err { IfErr result (IsHostsFault config.old.hosts_file) }
+    ensures err { IfErr result (λ fault. IsHostsFault fault config.old.hosts_file) }
 {
     let Some(path) = &config.hosts_file else {
         return Ok(0);
@@ -121,7 +121,7 @@ fn read_pages<R: Files>(rt: &R, alloc: Global, folder: &str) -> Result<Pages, Wh
 /// Reads the pages of refusals, where there are some.
 fn take_pages<R: Files>(rt: &R, alloc: Global, config: &mut Config) -> Result<(), WholeFault>
     ensures ok { OnOk result (HasPages config.old.refusal_pages config.old config.new) }
-    ensures err { IfErr result (IsPageFault config.old.refusal_pages) }
+    ensures err { IfErr result (λ fault. IsPageFault fault config.old.refusal_pages) }
 {
     let Some(folder) = &config.refusal_pages else {
         return Ok(());
@@ -131,7 +131,18 @@ fn take_pages<R: Files>(rt: &R, alloc: Global, config: &mut Config) -> Result<()
     Ok(())
 }
 
+/// Reads the files that a configuration names, and answers how many names its hosts file has.
+fn take_files<R: Files>(rt: &R, alloc: Global, config: &mut Config) -> Result<u64, WholeFault>
+    ensures ok { IfOk result (HasFiles config.old config.new) }
+    ensures err { IfErr result (Lacks config.old) }
+{
+    let count = take_hosts(rt, alloc, config)?;
+    take_pages(rt, alloc, config)?;
+    Ok(count)
+}
+
 /// The configuration that a text says, with the files that it names, and how many names its hosts file has.
+#[tactic(auto, using(crate::proofs::WholeForms::lacks_file))]
 pub(crate) fn whole_of<R: Files>(
     rt: &R,
     alloc: Global,
@@ -144,14 +155,15 @@ pub(crate) fn whole_of<R: Files>(
         Ok(config) => config,
         Err(error) => return Err(WholeFault::Refused(error)),
     };
-    let count = take_hosts(rt, alloc, &mut config)?;
-    take_pages(rt, alloc, &mut config)?;
-    Ok((config, count))
+    match take_files(rt, alloc, &mut config) {
+        Ok(count) => Ok((config, count)),
+        Err(fault) => Err(fault),
+    }
 }
 
 /// The error of a key.
 fn key_error(alloc: Global, key: &str) -> ServeError
-    ensures { IsOfKey (string_bytes key.now) result }
+    ensures { IsOfKey key.now result }
 {
     match String::from_str(alloc, key) {
         Ok(key) => ServeError::Key(key),
