@@ -2,6 +2,7 @@
 on by what stood when it began."""
 import os
 import random
+import shlex
 import signal
 import subprocess
 import threading
@@ -195,8 +196,39 @@ def a_reload_changes_the_capacity(bench):
 
 
 @case
+def what_an_administrator_set_outlives_a_reload(bench):
+    """`capacity N` stays where the key `capacity` is as it was, though more is reserved than the key says; where the key changes it goes by it."""
+    folder, where = bench.folder(), bench.keep(Where())
+    text = "capacity = 8192\n" + key(folder.write("hosts", "127.0.7.1 n.test\n"))
+    proxy = bench.proxy(bench.origin(), text, config=folder.path("proxy.toml"))
+
+    def capacity():
+        return int(proxy.say("book").split()[7])
+    same("raised", (proxy.say("capacity 33554432"), capacity()), ("ok", 33554432))
+    folder.write("hosts", "127.0.7.2 n.test\n127.0.7.3 m.test\n")
+    same("other names", (proxy.say("reload"), capacity(), found_at(proxy, "n.test", where.port)), ("ok 2", 33554432, "127.0.7.2"))
+    users = [User(proxy.port) for _ in range(3)]
+    for user in users:
+        user.send(UPLOAD[:-9])
+    comes("the reservations", lambda: proxy.say("book").startswith("rows 3 "))
+    same("more than the key says", int(proxy.say("book").split()[5]) > 8192, True)
+    folder.write("hosts", "127.0.7.4 n.test\n")
+    same("other names", (proxy.say("reload"), capacity(), found_at(proxy, "n.test", where.port)), ("ok 1", 33554432, "127.0.7.4"))
+    same("another key", (proxy.reload(text + "deadline = 50\n"), capacity()), ("ok 1", 33554432))
+    for user in users:
+        user.send(UPLOAD[-9:])
+        same("answer", user.answer().body, body_of(100))
+        user.close()
+    same("its own key", (proxy.reload(text.replace("8192", "81920")), capacity()), ("ok 1", 81920))
+    same("lowered", (proxy.say("capacity 8192"), proxy.say("reload"), capacity()), ("ok", "ok 1", 8192))
+    same("the first key", (proxy.reload(text), capacity()), ("ok 1", 8192))
+    same("audit", proxy.stop(), IDLE)
+
+
+@case
 def a_reload_moves_the_log(bench):
-    """To another path. One that can't be opened changes nothing; that a log begins or ends needs a start."""
+    """To another path. One that can't be opened changes nothing; that a log begins or ends needs a start. Where the capacity is refused there
+    is no new file either."""
     old, new, origin = bench.keep(Log()), bench.keep(Log()), bench.origin()
     proxy = by_file(bench, origin, old.key)
     ask(proxy.port, get("/bytes/1"))
@@ -216,6 +248,14 @@ def a_reload_moves_the_log(bench):
     ask(proxy.port, get("/bytes/5"))
     same("there", new.next()[0][7], "http://o.test/bytes/5")
     same("the old one has no more", len(old.text().splitlines()), 1)
+    user = half_sent(proxy)
+    refused = proxy.reload('log = "%s"\ncapacity = 1\n' % (new.path + ".2"))
+    same("too low a capacity", refused, "refused " + proxy.say("book").split()[5])
+    same("no file", os.path.exists(new.path + ".2"), False)
+    user.send(UPLOAD[-9:])
+    same("answer", user.answer().body, body_of(100))
+    same("as before", new.next()[0][7], "http://o.test/echo")
+    user.close()
     same("audit", proxy.stop(), IDLE)
     plain = by_file(bench, origin, logged=False)
     same("a log that begins", plain.reload(new.key), "restart log")
@@ -418,6 +458,54 @@ def the_launcher_reloads(bench):
         same(key_of, (launcher.stderr.readline(), ask(port, get("/bytes/1")).status), (answer, status))
     launcher.send_signal(signal.SIGTERM)
     same("ended", (launcher.wait(PATIENCE), launcher.stdout.read()), (0, (IDLE + "\n").encode()))
+
+
+def reload_command(folder):
+    """What the systemd unit runs at a reload, with the files of this folder in place of its own."""
+    with open(os.path.join(TOP, "examples", "adaptproxy.service")) as unit:
+        line = next(line for line in unit if line.startswith("ExecReload="))
+    for old, new in (("%t/adaptproxy/", folder.path("run/")), ("/usr/local/etc/adaptproxy/proxy.toml", folder.path("proxy.toml")),
+                     ("/usr/local/bin/adaptproxy", os.path.abspath(ADAPTPROXY))):
+        same(old, old in line, True)
+        line = line.replace(old, new)
+    return shlex.split(line.split("=", 1)[1])
+
+
+@case
+def the_units_reload_leaves_a_copy_of_what_runs(bench):
+    """By the command of the systemd unit: where the answer isn't `ok`, or a copy can't be written, the copy is as it was, and no older one
+    stands in its place."""
+    folder = bench.folder()
+    os.mkdir(folder.path("run"))
+    proxy = bench.proxy(bench.origin(), config=folder.path("proxy.toml"))
+    command, texts = reload_command(folder), [proxy.configuration("deadline = %d\n" % (30 + n)) for n in range(3)]
+
+    def copies():
+        found = {}
+        for name in os.listdir(folder.path("run")):
+            with open(folder.path("run/" + name)) as text:
+                found[name] = text.read()
+        return found
+
+    def tries(what, text, status, says, stands, most=None):
+        """The file has this text, and no file that the command writes may be longer than `most`."""
+        folder.write("proxy.toml", text)
+        limit = [] if most is None else ["prlimit", "--fsize=%d" % most]
+        ended = subprocess.run(limit + command, capture_output=True, timeout=PATIENCE)
+        same(what, (ended.returncode, ended.stdout.decode(), copies()), (status, says, {"running.toml": stands}))
+    folder.write("run/running.toml", proxy.configuration())
+    tries("a sound one", texts[0], 0, "ok\n", texts[0])
+    tries("a fault", proxy.configuration("shards = 0\n"), 1, "config shards\n", texts[0])
+    tries("a key that needs a start", proxy.configuration("rows = 9\n"), 1, "restart rows\n", texts[0])
+    tries("the next", texts[1], 0, "ok\n", texts[1])
+    folder.write("run/before.toml", texts[0])
+    tries("the first copy fails", texts[2], 1, "", texts[1], most=0)
+    tries("the second copy fails", texts[2] + "# longer\n", 1, "", texts[1], most=len(texts[1]))
+    tries("the last", texts[2], 0, "ok\n", texts[2])
+    os.remove(folder.path("proxy.toml"))
+    ended = subprocess.run(command, capture_output=True, timeout=PATIENCE)
+    same("no file", (ended.returncode, ended.stdout, copies()), (1, b"", {"running.toml": texts[2]}))
+    same("audit", proxy.stop(), IDLE)
 
 
 @case
