@@ -1,5 +1,6 @@
 """A hosts file (`hosts_file`): names and addresses in the form of hosts(5), read at the start and at `reload`."""
 import os
+import statistics
 import subprocess
 import threading
 import time
@@ -97,7 +98,8 @@ def a_hosts_file_stands_beside_a_parent_and_denied_networks(bench):
 
 # Files with a fault, and its line.
 FAULTY = [("x", 1), ("127.0.0.1\n", 1), ("127.0.0.1 # a.test\n", 1), ("127.0.0.1 a.test\n127.0.0.256 b.test\n", 2),
-          ("# 1\n\n127.0.0 a.test\n", 3), ("127.0.0.1 a.test\na.test 127.0.0.1\n127.0.0.1\n", 2)]
+          ("# 1\n\n127.0.0 a.test\n", 3), ("127.0.0.1 a.test\na.test 127.0.0.1\n127.0.0.1\n", 2), ("127.0.1.1:8080 a.test\n", 1),
+          ("127.0.1.1: a.test\n", 1), ("::1 localhost\nfoo: a.test\n", 2), (":: a\n: a.test\n", 2), ("fe80::1% a\nfe80:1%eth0 a.test\n", 2)]
 
 
 def said(words, text):
@@ -158,39 +160,81 @@ def a_reload_reads_the_hosts_file_again(bench):
 
 
 MANY = 100_000
+# The seconds of a reload, what part of it a request may last for, and the seconds beyond the usual that a thread's first request after it,
+# and each other one, may take.
+WITHIN = (1, 0.25, 0.015, 0.05)
+
+
+def waits_in_turn(proxy, users, seconds):
+    """How long each request takes that is made one after another for so many seconds: by each of these users, and then by as many new ones."""
+    end, waits = time.time() + seconds, []
+    while len(waits) < 2 * len(users) or time.time() < end:
+        number, before = len(waits) % (2 * len(users)), time.time()
+        answer = users[number].ask(get("/bytes/3")) if number < len(users) else ask(proxy.port, get("/bytes/3"))
+        waits.append(time.time() - before)
+        same("answer", answer.body, b"the")
+    return waits
+
+
+class Many:
+    """A proxy of two threads whose hosts file has a hundred thousand names, all at other addresses after each reload."""
+
+    def __init__(self, bench):
+        self.folder, self.third = bench.folder(), 0
+        self.renew()
+        begun = time.time()
+        self.proxy = bench.proxy(bench.origin(), key(self.folder.path("hosts")) + "shards = 2\n")
+        self.started = time.time() - begun
+        # Users are handed to the threads in turn: one each.
+        self.users = [User(self.proxy.port), User(self.proxy.port)]
+
+    def renew(self):
+        self.third += 1
+        self.folder.write("hosts", "".join("127.%d.%d.%d host%d.school.test\n" % (self.third, n >> 8 & 255, n & 255, n) for n in range(MANY)))
+
+    def reload_beside(self):
+        """Has the names renewed while users ask: the seconds that it takes, and what part of it the longest request lasts for."""
+        self.renew()
+        answers = []
+        asker = threading.Thread(target=lambda: answers.append(self.proxy.say("reload")))
+        begun = time.time()
+        asker.start()
+        waits = waits_beside(self.proxy, self.users[0], lambda: not asker.is_alive())
+        passed = time.time() - begun
+        same("reload", answers, ["ok %d" % MANY])
+        return passed, max(waits) / passed
+
+    def reload_before(self):
+        """Has them renewed while nobody asks: how many seconds beyond the usual the first request of a thread takes after that, and the longest of
+        two seconds."""
+        usual = statistics.median(waits_in_turn(self.proxy, self.users, 0.2))
+        self.renew()
+        same("reload", self.proxy.say("reload"), "ok %d" % MANY)
+        waits = waits_in_turn(self.proxy, self.users, 2)
+        return max(waits[:2 * len(self.users)]) - usual, max(waits) - usual
 
 
 @case
 def a_hundred_thousand_names_are_read_in_a_second(bench):
-    """And no user waits for them: the longest request meanwhile lasts for a small part of that time. A machine with much else to do may
-    let one wait for its processor, so it is tried until that doesn't happen."""
-    where, folder, origin = bench.keep(Where()), bench.folder(), bench.origin()
-
-    def text(third):
-        return "".join("127.%d.%d.%d host%d.school.test\n" % (third, n >> 8 & 255, n & 255, n) for n in range(MANY))
-    begun = time.time()
-    proxy = bench.proxy(origin, key(folder.write("hosts", text(1))) + "shards = 1\n")
-    started, user, best, parts = time.time() - begun, User(proxy.port), None, []
-    for third in range(2, 12):
-        folder.write("hosts", text(third))
-        answers = []
-        asker = threading.Thread(target=lambda: answers.append(proxy.say("reload")))
-        begun = time.time()
-        asker.start()
-        waits = waits_beside(proxy, user, lambda: not asker.is_alive())
-        passed = time.time() - begun
-        same("reload", answers, ["ok %d" % MANY])
-        best = passed if best is None else min(best, passed)
-        parts.append(max(waits) / passed)
-        if best < 1 and min(parts) < 0.25:
+    """And no user waits for them: the longest request meanwhile lasts for a small part of that time. Nor does one wait for the names that stood
+    to go: after the answer no request takes 50 ms beyond the usual, and neither thread's first one 15. A machine with much else to do may let
+    one wait for its processor, so it is tried until that doesn't happen."""
+    where, many = bench.keep(Where()), Many(bench)
+    best = [9, 1, 1, 1]
+    for _ in range(10):
+        best = [min(pair) for pair in zip(best, many.reload_beside() + many.reload_before())]
+        if all(one < most for one, most in zip(best, WITHIN)):
             break
     print("      %d names: listening after %.2f s, read again in %.2f s; the longest request meanwhile: %.3f of that time" % (
-        MANY, started, best, min(parts)))
-    same("within a second", best < 1, True)
-    same("the longest request", min(parts) < 0.25, True)
+        MANY, many.started, best[0], best[1]))
+    print("      beyond the usual: a thread's first request after the answer %.1f ms, the longest in two seconds %.1f ms" % (
+        1000 * best[2], 1000 * best[3]))
+    for what, one, most in zip(("the seconds", "the longest request meanwhile", "a thread's first one after it", "the longest one after it"), best, WITHIN):
+        same(what, one < most, True)
     for n in (0, 1, 49_999, MANY - 1):
-        same("name %d" % n, found_at(proxy, "host%d.school.test" % n, where.port), "127.%d.%d.%d" % (third, n >> 8 & 255, n & 255))
-    same("none", found_at(proxy, "host%d.school.test" % MANY, where.port), None)
-    same("users", stats(proxy)["adaptproxy_users"] >= 1, True)
-    user.close()
-    same("audit", proxy.stop(), IDLE)
+        same("name %d" % n, found_at(many.proxy, "host%d.school.test" % n, where.port), "127.%d.%d.%d" % (many.third, n >> 8 & 255, n & 255))
+    same("none", found_at(many.proxy, "host%d.school.test" % MANY, where.port), None)
+    same("users", stats(many.proxy)["adaptproxy_users"] >= 2, True)
+    for user in many.users:
+        user.close()
+    same("audit", many.proxy.stop(), IDLE)

@@ -5,7 +5,7 @@ import tempfile
 import threading
 import time
 
-from serve_lab.cases import IDLE, Oversleeping, ahead, at_once, case, comes, get, needs, needs_tools, post, same
+from serve_lab.cases import IDLE, Oversleeping, ahead, at_once, case, comes, get, needs, needs_tools, post, same, settled
 from serve_lab.lines import LINE
 from serve_lab.loopback import Icap, Reader, Server, User, ask, body_of, fields_of, free_port
 from serve_lab.operators import Log, stats, told
@@ -34,7 +34,7 @@ def a_pipe_that_nobody_reads_keeps_nobody_waiting(bench):
         proxy = bench.proxy(bench.origin(), 'log = "%s"\nshards = 1\n' % path)
         count = until_lines_are_lost(proxy)
         begun = time.time()
-        same("book", proxy.say("book").split()[:2], ["rows", "0"])
+        same("book", settled(proxy).split()[:2], ["rows", "0"])
         same("reopen", proxy.say("reopen"), "ok")
         same("at once", time.time() - begun < 1, True)
         taken = bytearray()
