@@ -1,7 +1,7 @@
 //! The admin word `reload`: the configuration and its files are read again, and what can change while the proxy runs is taken over.
 
-ghost use Rattle.std.specs.Prelude.{◌≡◌, ◌==◌, if◌then◌else◌, nat_max, nat_min, None, Some};
-ghost use Rattle.span_bank.specs.declared.limits.TheConstants.{MAX_CAPACITY};
+ghost use Rattle.std.specs.Prelude.{◌≡◌, ◌↔◌, IsNone, IfSome};
+ghost use Rattle.shard_loop.specs.Sizes.{IsSizeOf};
 
 use crate::replaced::Replaced;
 use event_loop::LiveConfig;
@@ -72,7 +72,8 @@ fn other_log<F: Append>(files: &F, old: &Config, new: &Config) -> io::Result<Opt
 
 /// The size that the budget gets, where another configuration says another one: an administrator's own stays where it doesn't.
 fn new_size(old: &Config, new: &Config) -> Option<u64>
-    ensures { result ≡ (if old.now.capacity == new.now.capacity then None else Some (nat_min (nat_max new.now.capacity 1) MAX_CAPACITY)) }
+    ensures kept { IsNone result ↔ (old.now.capacity ≡ new.now.capacity) }
+    ensures size { IfSome result (IsSizeOf new.now.capacity) }
 {
     if old.capacity == new.capacity {
         return None;
