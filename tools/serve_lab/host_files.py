@@ -238,3 +238,21 @@ def a_hundred_thousand_names_are_read_in_a_second(bench):
     for user in many.users:
         user.close()
     same("audit", many.proxy.stop(), IDLE)
+
+
+@case
+def names_that_nobody_goes_by_are_freed(bench):
+    """Twenty tables of a hundred thousand names, 7 MB each: the process has a few of them at once."""
+    many = Many(bench)
+    least = many.proxy.figure("VmRSS")
+    for _ in range(20):
+        many.renew()
+        same("reload", many.proxy.say("reload"), "ok %d" % MANY)
+        waits_in_turn(many.proxy, many.users, 0)
+    time.sleep(2.5)
+    grown = (many.proxy.figure("VmRSS") - least) / 1024
+    print("      %.1f MB at first, and %.1f more after twenty tables" % (least / 1024, grown))
+    same("more", grown < 70, True)
+    for user in many.users:
+        user.close()
+    same("audit", many.proxy.stop(), IDLE)
