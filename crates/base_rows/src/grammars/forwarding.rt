@@ -1,5 +1,6 @@
 //! The heads that go on, to an origin or a parent, to a service and to the user (RFC 9110, section 7.6; RFC 9112, section 3.2).
 use crate::grammars::http_heads::put_request;
+use crate::listed::index_of;
 use http_side::{
     BodyKind, Encapsulated, Forward, HttpRequest, Message, NextServer, OriginUse, OriginWay,
     encapsulated_head, forward_head, read_request, read_response,
@@ -131,40 +132,42 @@ fn put_to_user(
     }
 }
 
-/// The head that a call asks for, of the user's request.
+/// The calls of rows, in the order of `put_head`.
+const CALLS: &[u8] =
+    b"head to origin|head to service|read head to origin|adapted head to origin|head to user";
+
+/// The head that the call of this place asks for, of the user's request.
 fn put_head(
     alloc: Global,
-    call: &[u8],
+    place: usize,
     row: &Row<'_>,
     out: &mut Vec<u8>,
     user: &HttpRequest,
 ) -> Result<(), NoMemory> {
-    if says(call, b"head to origin") {
-        put_to_origin(alloc, out, user, way_of(row))
-    } else if says(call, b"head to service") {
-        put_to_service(alloc, out, user)
-    } else if says(call, b"read head to origin") {
-        put_read_again(alloc, out, user, way_of(row))
-    } else if says(call, b"adapted head to origin") {
-        put_adapted(alloc, out, user, row)
-    } else if says(call, b"head to user") {
-        put_to_user(alloc, out, user, row)
-    } else {
-        Ok(())
+    match place {
+        0 => put_to_origin(alloc, out, user, way_of(row)),
+        1 => put_to_service(alloc, out, user),
+        2 => put_read_again(alloc, out, user, way_of(row)),
+        3 => put_adapted(alloc, out, user, row),
+        _ => put_to_user(alloc, out, user, row),
     }
 }
 
+/// Adds the answer to a row of these calls that has a user; nothing for another one.
 pub fn put_answer(
     alloc: Global,
     call: &[u8],
     row: &Row<'_>,
     out: &mut Vec<u8>,
 ) -> Result<(), NoMemory> {
+    let Some(place) = index_of(CALLS, call) else {
+        return Ok(());
+    };
     if !row.has(b"user") {
         return Ok(());
     }
     match read_request(alloc, row.get(b"user"), false) {
-        Ok(user) => put_head(alloc, call, row, out, &user.value),
+        Ok(user) => put_head(alloc, place, row, out, &user.value),
         Err(_) => put_line(out, b"the user's text is no request"),
     }
 }
