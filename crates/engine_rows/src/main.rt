@@ -12,14 +12,15 @@ mod stage;
 mod turns;
 
 use std::alloc::Global;
-use std::io;
+use std::io::Write;
 use std::sync::Wait;
 use std::thread::Threads;
 use std::time::Clock;
-use test_rows::{Driver, NoMemory, Player, Row, Scene, Values, judge_files, put_runs};
+use std::{env, fs, io};
+use test_rows::{NoMemory, Player, Report, Scene, Values, number, put_runs, read_table};
 
 /// What plays a row.
-#[derive(Drop)]
+#[derive(Clone, Copy)]
 struct RowPlayer<'r, R> {
     rt: &'r R,
     alloc: Global,
@@ -35,23 +36,67 @@ impl<'r, R: Wait + Clock> Player for RowPlayer<'r, R> {
     }
 }
 
-impl<'r, R: Threads + Wait + Clock + Sync> Driver for RowPlayer<'r, R> {
-    fn put_answer(&self, head: &Row<'_>, row: &Row<'_>, out: &mut Vec<u8>) -> Result<(), NoMemory> {
-        let scene = Scene {
-            head: *head,
-            row: *row,
-        };
-        if scene.is(b"call", b"threads") || scene.is(b"call", b"crowd") {
-            return turns::put_threads(self.rt, self.alloc, scene, out);
-        }
-        put_runs(self.alloc, self, scene, out)
+/// Adds the answer to a row.
+fn put_answer<R: Threads + Wait + Clock + Sync>(
+    rt: &R,
+    alloc: Global,
+    scene: Scene<'_>,
+    out: &mut Vec<u8>,
+) -> Result<(), NoMemory> {
+    if scene.is(b"call", b"threads") || scene.is(b"call", b"crowd") {
+        return turns::put_threads(rt, alloc, scene, out);
     }
+    put_runs(alloc, &RowPlayer { rt, alloc }, scene, out)
+}
+
+/// Judges a row.
+fn judge<R: Threads + Wait + Clock + Sync>(
+    rt: &R,
+    alloc: Global,
+    scene: Scene<'_>,
+    report: &mut Report,
+) -> Result<(), NoMemory> {
+    let mut answer = Vec::new(alloc);
+    put_answer(rt, alloc, scene, &mut answer)?;
+    report.judge(&scene.head, &scene.row, &answer)
+}
+
+/// The report on a file's rows.
+fn judged<R: Threads + Wait + Clock + Sync>(
+    rt: &R,
+    alloc: Global,
+    text: &[u8],
+) -> Result<Report, NoMemory> {
+    let table = read_table(alloc, text)?;
+    let head = table.head();
+    let mut report = Report::new(alloc);
+    for at in 1..table.len() {
+        let row = table.row(at);
+        judge(rt, alloc, Scene { head, row }, &mut report)?;
+    }
+    report.finish(&head)?;
+    Ok(report)
+}
+
+/// Makes this number of allocations and gives each back, so that any of the later ones can be the one that is refused.
+fn allocate(alloc: Global, count: u64) -> Result<(), NoMemory> {
+    for _ in 0..count {
+        b"a".to_vec(alloc)?;
+    }
+    Ok(())
 }
 
 fn main(rt: HostRuntime) -> io::Result<()> {
-    let player = RowPlayer {
-        rt: &rt,
-        alloc: rt.alloc(),
-    };
-    judge_files(&rt, &player, &mut rt.stdout())
+    let mut output = rt.stdout();
+    for path in env::args(&rt)?.skip(1) {
+        match number(path.as_bytes()) {
+            Some(count) => allocate(rt.alloc(), count)?,
+            None => {
+                let text = fs::read(&rt, path.as_str())?;
+                let report = judged(&rt, rt.alloc(), &text)?;
+                output.write_all(report.lines())?;
+            }
+        }
+    }
+    Ok(())
 }
