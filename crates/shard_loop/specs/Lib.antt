@@ -1,3 +1,2 @@
 pub mod Admission
 pub mod Left
-pub mod Sizes

@@ -1,7 +1,6 @@
 //! The admin word `reload`: the configuration and its files are read again, and what can change while the proxy runs is taken over.
 
 ghost use Rattle.std.specs.Prelude.{◌≡◌, ◌↔◌, IsNone, IfSome};
-ghost use Rattle.shard_loop.specs.Sizes.{IsSizeOf};
 
 use crate::replaced::Replaced;
 use event_loop::LiveConfig;
@@ -70,29 +69,38 @@ fn other_log<F: Append>(files: &F, old: &Config, new: &Config) -> io::Result<Opt
     }
 }
 
-/// The size that the budget gets, where another configuration says another one: an administrator's own stays where it doesn't.
-fn new_size(old: &Config, new: &Config) -> Option<u64>
+/// The capacity that another configuration says, where it is another one: an administrator's own stays where it isn't.
+fn other_capacity(old: &Config, new: &Config) -> Option<u64>
     ensures kept { IsNone result ↔ (old.now.capacity ≡ new.now.capacity) }
-    ensures size { IfSome result (IsSizeOf new.now.capacity) }
+    ensures said { IfSome result (λ capacity. capacity ≡ new.now.capacity) }
 {
     if old.capacity == new.capacity {
         return None;
     }
-    Some(new.capacity.max(1).min(MAX_CAPACITY))
+    Some(new.capacity)
 }
 
-/// Whether more bytes are reserved than this size has: how many they are then.
-fn reserved_over<S: Shares, R: Wait>(rt: &R, shared: &S, size: u64) -> Option<u64> {
+/// Whether more bytes are reserved than this capacity has: how many they are then.
+fn reserved_over<S: Shares, R: Wait>(rt: &R, shared: &S, capacity: u64) -> Option<u64> {
     let claimed = shared.bank().book(rt, None).claimed;
-    if claimed > size { Some(claimed) } else { None }
+    if claimed > capacity {
+        Some(claimed)
+    } else {
+        None
+    }
 }
 
-/// Has the budget this size, if one is given.
-fn resize<S: Shares, R: Wait>(rt: &R, shared: &S, size: Option<u64>) -> Result<(), CapacityFault> {
-    match size {
-        Some(size) => change_capacity(rt, shared.bank(), shared.log(), size),
-        None => Ok(()),
-    }
+/// Has the budget this capacity, if one is given.
+fn resize<S: Shares, R: Wait>(
+    rt: &R,
+    shared: &S,
+    capacity: Option<u64>,
+) -> Result<(), CapacityFault> {
+    let Some(capacity) = capacity else {
+        return Ok(());
+    };
+    let size = capacity.max(1).min(MAX_CAPACITY);
+    change_capacity(rt, shared.bank(), shared.log(), size)
 }
 
 /// Takes another configuration over, and says so; or why not: then nothing has changed. The old one is put to those that were replaced.
@@ -106,9 +114,9 @@ fn take_over<S: Shares, F: Append, R: Wait>(
     new: (Config, u64),
 ) -> Result<Vec<u8>, AllocError> {
     let (config, names) = new;
-    let size = new_size(shared.config(), &config);
-    if let Some(size) = size
-        && let Some(claimed) = reserved_over(rt, shared, size)
+    let capacity = other_capacity(shared.config(), &config);
+    if let Some(capacity) = capacity
+        && let Some(claimed) = reserved_over(rt, shared, capacity)
     {
         return changed_text(alloc, Err(CapacityFault::TooLow { claimed }));
     }
@@ -118,7 +126,7 @@ fn take_over<S: Shares, F: Append, R: Wait>(
     let text = taken_text(alloc, &config, names)?;
     let config = Arc::new(alloc, config)?;
     replaced.reserve()?;
-    if let Err(fault) = resize(rt, shared, size) {
+    if let Err(fault) = resize(rt, shared, capacity) {
         return changed_text(alloc, Err(fault));
     }
     if let Some(file) = log {
