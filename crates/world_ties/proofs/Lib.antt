@@ -3,3 +3,8 @@ mod Banked
 mod Stepping
 mod Moving
 mod Pooled
+mod Scripts
+mod Counted
+mod Alone
+mod Wide
+mod Amid

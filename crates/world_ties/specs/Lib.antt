@@ -1,2 +1,4 @@
 pub mod BankTie
 pub mod PoolTie
+pub mod Alone
+pub mod Amid

@@ -7,8 +7,13 @@
 //! most one of a pool, which leads from the numbers before it to those after it. What the world refuses for want of
 //! room the bank or the pool refuses, on the same condition.
 //!
+//! And a held byte's script needs no other thread. Whatever lies under a lock, a [`Hold`](adapt_hold::Hold) takes its events
+//! by its own two calls ([`sending::send_held`]), and the whole world takes them whatever other transactions do meanwhile.
+//!
 //! No program runs it. It stands apart for the proof's sake alone: a change of a law here proves no transaction anew.
 #![tactic(auto)]
 
 pub mod bank;
 pub mod pool;
+pub mod script;
+pub mod sending;
