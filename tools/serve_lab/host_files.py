@@ -252,7 +252,7 @@ def names_that_nobody_goes_by_are_freed(bench):
     time.sleep(2.5)
     grown = (many.proxy.figure("VmRSS") - least) / 1024
     print("      %.1f MB at first, and %.1f more after twenty tables" % (least / 1024, grown))
-    same("more", grown < 70, True)
+    same("more", grown < 100, True)
     for user in many.users:
         user.close()
     same("audit", many.proxy.stop(), IDLE)
