@@ -5,9 +5,11 @@ mod configurations;
 mod courses;
 mod events;
 mod histories;
+mod lives;
 mod marks;
 mod options;
 mod plans;
+mod printed;
 mod questions;
 mod random;
 mod reports;
@@ -21,7 +23,7 @@ use test_rows::{NoMemory, Row};
 /// The calls of rows, in the order of `put_answer`.
 const CALLS: &[u8] =
     b"history|plan in range|options|texts of faults|extension|plan of a message|limits in range|least claim|\
-world|read configuration|values|hosts|access|hosts file|change|write_line|metrics_text|course|random histories|page_refusal";
+world|read configuration|values|hosts|access|hosts file|change|write_line|metrics_text|course|random histories|page_refusal|write_live|write_script";
 
 /// Adds the answer to a row of these calls; nothing for another one.
 pub fn put_answer(
@@ -46,6 +48,8 @@ pub fn put_answer(
         Some(17) => courses::put_course(row, out),
         Some(18) => random::put_histories(row, out),
         Some(19) => reports::put_page(alloc, row, out),
+        Some(20) => lives::put_live(row, out),
+        Some(21) => lives::put_script(row, out),
         _ => Ok(()),
     }
 }

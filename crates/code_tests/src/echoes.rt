@@ -4,8 +4,8 @@ ghost use Rattle.std.specs.Prelude.{⊤};
 
 use crate::streams::{gets, say};
 use event_loop::{
-    AdminPorts, Admission, Admitted, Base, Driven, Ended, Entrance, Handed, Inbox, Request, Room,
-    Told, UserPermit, Work, add_loop, run_loop,
+    AdminPorts, Admission, Admitted, Base, Driven, Ended, Entrance, Handed, Inbox, Question,
+    Request, Room, Sheet, Told, UserPermit, Work, add_loop, run_loop,
 };
 use mio::net::TcpListener;
 use mio::{Registry, Token};
@@ -181,7 +181,7 @@ impl Work for Echo {
         self.all.is_empty()
     }
 
-    fn answer<R: Wait>(
+    fn answer<R: Wait + Clock>(
         &mut self,
         _rt: &R,
         request: Request,
@@ -192,6 +192,8 @@ impl Work for Echo {
             _ => b"ok\n".to_vec(self.alloc),
         }
     }
+
+    fn show<R: Clock>(&self, _rt: &R, _question: Question, _now: u64, _sheet: &mut Sheet) {}
 
     fn patience(&self) -> Option<u64> {
         None

@@ -1,5 +1,7 @@
 pub mod Marks
 pub mod Requests
+pub mod Overview
+pub mod Sheets
 pub mod Shares
 pub mod Sparing
 pub mod Deeds

@@ -4,8 +4,12 @@ use Rattle.std.specs.Char.{is_ascii_uppercase}
 use Rattle.std.specs.Str.{str_eq_ignore_ascii_case}
 use Rattle.span_bank.specs.declared.limits.TheConstants.{MAX_CAPACITY}
 use Rattle.adapt_bytes.specs.Numeral.{Writes}
+use Rattle.exchange_report.specs.declared.exchange_id.ExchangeId.{ExchangeId}
+use Rattle.exchange_report.specs.Live.{SpellsId}
+use Rattle.event_loop.specs.declared.admin_lines.Question.{Question}
+use Rattle.event_loop.specs.declared.admin_lines.Question.TheVariants.{Exchanges, Waiting, Trace}
 use Rattle.event_loop.specs.declared.admin_lines.Request.{Request}
-use Rattle.event_loop.specs.declared.admin_lines.Request.TheVariants.{Book, Capacity, Drain, Stats, Reopen, Refresh, Reload, Stop, Bad}
+use Rattle.event_loop.specs.declared.admin_lines.Request.TheVariants.{Book, Capacity, Drain, Stats, Reopen, Refresh, Reload, Stop, Show, Bad}
 use Rattle.event_loop.specs.declared.scrape.Scrape.{Scrape}
 use Rattle.event_loop.specs.declared.scrape.Scrape.TheVariants as scrapes
 
@@ -17,6 +21,22 @@ SpellsSize digits n = Writes 10 digits n × (1 ≤ n) × (n ≤ MAX_CAPACITY)
 abbrev pub AsksForSize : List ℕ → ℕ → Type 0
 AsksForSize line n = (digits : List ℕ) × (line ≡ codes "capacity " ++ digits) × SpellsSize digits n
 
+-- the line asks for the script of this exchange
+abbrev pub AsksForScript : List ℕ → ExchangeId → Type 0
+AsksForScript line id = (text : List ℕ) × (line ≡ codes "trace " ++ text) × SpellsId text id
+
+-- the line asks this about exchanges
+abbrev pub AsksAbout : List ℕ → Question → Type 0
+AsksAbout line Exchanges = line ≡ codes "exchanges"
+AsksAbout line Waiting = line ≡ codes "exchanges waiting"
+AsksAbout line (Trace id) = AsksForScript line id
+
+-- the line asks nothing about exchanges
+pub record AsksNothing (line : List ℕ) : Type 0 where
+  pub exchanges : line ≢ codes "exchanges"
+  pub waiting : line ≢ codes "exchanges waiting"
+  pub script : (id : ExchangeId) → AsksForScript line id → ⊥
+
 -- the line asks for this, or for nothing that there is
 abbrev pub Asks : List ℕ → Request → Type 0
 Asks line Book = line ≡ codes "book"
@@ -27,7 +47,8 @@ Asks line Refresh = line ≡ codes "refresh"
 Asks line Reload = line ≡ codes "reload"
 Asks line Stop = line ≡ codes "stop"
 Asks line (Capacity n) = AsksForSize line n
-Asks line Bad = (line ≢ codes "book") × (line ≢ codes "drain") × (line ≢ codes "stats") × (line ≢ codes "reopen") × (line ≢ codes "refresh") × (line ≢ codes "reload") × (line ≢ codes "stop") × ((n : ℕ) → AsksForSize line n → ⊥)
+Asks line (Show question) = AsksAbout line question
+Asks line Bad = (line ≢ codes "book") × (line ≢ codes "drain") × (line ≢ codes "stats") × (line ≢ codes "reopen") × (line ≢ codes "refresh") × (line ≢ codes "reload") × (line ≢ codes "stop") × ((n : ℕ) → AsksForSize line n → ⊥) × AsksNothing line
 
 -- a byte of a method as all registered ones are written: a capital letter or a hyphen (RFC 9110, section 9.1)
 abbrev pub is_method_byte : ℕ → Bool

@@ -1,16 +1,29 @@
 //! The lines of the admin port.
 
 ghost use Rattle.std.specs.Prelude.{◌↔◌, ℕ, IsTrue, IfSome, IfNone};
-ghost use Rattle.event_loop.specs.Requests.{Asks, BeginsWithMethod, IsHttp, SpellsSize};
+ghost use Rattle.event_loop.specs.Requests.{Asks, AsksAbout, AsksForScript, AsksNothing, BeginsWithMethod, IsHttp, SpellsSize};
+ghost use Rattle.exchange_report.specs.declared.exchange_id.ExchangeId.{ExchangeId as AnyId};
 
 use adapt_bytes::{front, read_decimal, same_ascii};
+use exchange_report::{ExchangeId, read_id};
 use span_bank::MAX_CAPACITY;
 
 /// The most bytes of a line, its LF aside.
 pub const MAX_ADMIN_LINE: usize = 256;
 
+/// What is asked about exchanges that aren't over.
+#[derive(Clone, Copy, Debug)]
+pub enum Question {
+    /// `exchanges`: which there are.
+    Exchanges,
+    /// `exchanges waiting`: in which of them nothing has moved for a second or longer.
+    Waiting,
+    /// `trace T-K-N`: the script of this one's transaction.
+    Trace(ExchangeId),
+}
+
 /// What the administrator asks for.
-#[derive(Clone, Copy, Debug, PartialEq, Eq)]
+#[derive(Clone, Copy, Debug)]
 pub enum Request {
     /// `book`: the usage totals of the buffer budget.
     Book,
@@ -29,6 +42,8 @@ pub enum Request {
     Reload,
     /// `stop`: every transaction fails, and the program ends.
     Stop,
+    /// `exchanges`, `exchanges waiting` or `trace T-K-N`: each thread is asked this about its exchanges.
+    Show(Question),
     /// Any other line.
     Bad,
 }
@@ -44,10 +59,41 @@ fn read_size(digits: &[u8]) -> Option<u64>
     }
 }
 
+/// Of which exchange a line asks for the script. `None` where it asks for something else.
+fn read_script(line: &[u8]) -> Option<ExchangeId>
+    ensures found { IfSome result (AsksForScript line.now) }
+    ensures none { IfNone result ((id : AnyId) → AsksForScript line.now id → ⊥) }
+{
+    let Some(text) = line.strip_prefix(b"trace ") else {
+        return None;
+    };
+    read_id(text)
+}
+
+/// What a line asks about exchanges that aren't over. `None` where it asks for something else.
+fn read_question(line: &[u8]) -> Option<Question>
+    ensures found { IfSome result (AsksAbout line.now) }
+    ensures none { IfNone result (AsksNothing line.now) }
+{
+    if line == b"exchanges".as_slice() {
+        return Some(Question::Exchanges);
+    }
+    if line == b"exchanges waiting".as_slice() {
+        return Some(Question::Waiting);
+    }
+    match read_script(line) {
+        Some(id) => Some(Question::Trace(id)),
+        None => None,
+    }
+}
+
 /// What a line asks for.
 pub fn read_request(line: &[u8]) -> Request
     ensures { Asks line.now result }
 {
+    if let Some(question) = read_question(line) {
+        return Request::Show(question);
+    }
     if line == b"book".as_slice() {
         return Request::Book;
     }

@@ -28,7 +28,7 @@ pub enum Speech {
 }
 
 /// What the administrator's connection said.
-#[derive(Clone, Copy, Debug, PartialEq, Eq)]
+#[derive(Clone, Copy, Debug)]
 pub enum AdminInput {
     /// A line.
     Asked(Request),

@@ -40,7 +40,7 @@ impl Seat {
         }
         match self.asker.hear() {
             Ok(heard) => {
-                if heard != AdminInput::Waiting {
+                if !matches!(heard, AdminInput::Waiting) {
                     self.heard = turn;
                 }
                 heard

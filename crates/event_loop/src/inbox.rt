@@ -1,8 +1,12 @@
-//! What other threads hand to an event loop: users' connections, that room is wanted, and the words to refresh, to drain and to stop.
+//! What other threads hand to an event loop: users' connections, that room is wanted, questions of the administrator, and the words to
+//! refresh, to drain and to stop.
 
 ghost use Rattle.std.specs.Prelude.{◌≡◌, ◌↔◌, ◌<◌, ◌+◌, ◌*◌, true};
 
+use crate::admin_lines::Question;
+use crate::question_slot::QuestionSlot;
 use crate::room::UserPermit;
+use crate::sheet::Sheet;
 use mio::net::TcpStream;
 use mio::{Registry, Waker};
 use std::alloc::{AllocError, Global};
@@ -10,6 +14,7 @@ use std::mem;
 use std::net::Ipv4Addr;
 use std::sync::atomic::{AtomicBool, Ordering};
 use std::sync::{Mutex, Wait};
+use std::time::{Clock, Duration};
 
 /// A user's connection, with the address that it comes from, its number in the order of acceptance, from 1, and its permit among the
 /// users.
@@ -41,7 +46,8 @@ impl Handed {
     }
 }
 
-/// What was handed in and not yet taken, what the loop is to do, whether it has begun, what ends its wait, and the registry of its poll.
+/// What was handed in and not yet taken, what the loop is to do, what it is asked about its exchanges, whether it has begun, what ends its
+/// wait, and the registry of its poll.
 #[derive(Drop)]
 pub struct Inbox {
     users: Mutex<Vec<Handed>>,
@@ -50,6 +56,7 @@ pub struct Inbox {
     crowded: AtomicBool,
     refreshes: AtomicBool,
     begun: AtomicBool,
+    questions: QuestionSlot,
     waker: Waker,
     registry: Registry,
 }
@@ -64,6 +71,7 @@ impl Inbox {
             crowded: AtomicBool::new(false),
             refreshes: AtomicBool::new(false),
             begun: AtomicBool::new(false),
+            questions: QuestionSlot::new(),
             waker,
             registry,
         }
@@ -133,6 +141,31 @@ impl Inbox {
     /// Whether the services are to be asked again. That is answered once.
     pub fn take_refresh(&self) -> bool {
         self.refreshes.load(Ordering::SeqCst) && self.refreshes.swap(false, Ordering::SeqCst)
+    }
+
+    /// Asks the loop about its exchanges, and wakes it: it answers on this sheet, between two turns. False where it hasn't answered an
+    /// earlier question yet.
+    pub fn ask<R: Wait>(&self, rt: &R, question: Question, sheet: Sheet) -> bool {
+        let is_asked = self.questions.ask(rt, question, sheet);
+        if is_asked {
+            self.wake();
+        }
+        is_asked
+    }
+
+    /// The loop's answer to what it was asked, for which it is waited so long at most. `None` where it didn't come.
+    pub fn answer<R: Wait + Clock>(&self, rt: &R, most: Duration) -> Option<Sheet> {
+        self.questions.answer(rt, most)
+    }
+
+    /// What the loop is asked about its exchanges, if it is asked, and the sheet for its answer.
+    pub(crate) fn take_question<R: Wait>(&self, rt: &R) -> Option<(Question, Sheet)> {
+        self.questions.take(rt)
+    }
+
+    /// Hands over the loop's answer.
+    pub(crate) fn lay_answer<R: Wait>(&self, rt: &R, sheet: Sheet) {
+        self.questions.lay(rt, sheet);
     }
 
     /// Whether the loop has begun.

@@ -5,8 +5,9 @@ ghost use Rattle.event_loop.specs.declared.inbox.Handed.{Handed as AnyHanded};
 ghost use Rattle.event_loop.specs.Deeds.{Deed, Adds, has_more};
 ghost use Rattle.event_loop.specs.Deeds.Deed.{TookIn, MadeRoom, Heard, Noted, Drove, GaveWay, Asked, Answered, EndedTurn, Drained, Halted};
 
-use crate::admin_lines::Request;
+use crate::admin_lines::{Question, Request};
 use crate::inbox::Handed;
+use crate::sheet::Sheet;
 use mio::Registry;
 use socket_wire::{Dial, Peer};
 use std::alloc::AllocError;
@@ -164,9 +165,17 @@ pub trait Work {
 
     /// The answer to a line of the admin port, or to a request for the counters. `Err` if no memory was found for it. `now` is the
     /// number of seconds since the loop's start.
-    fn answer<R: Wait>(&mut self, rt: &R, request: Request, now: u64) -> Result<Vec<u8>, AllocError>
+    fn answer<R: Wait + Clock>(
+        &mut self,
+        rt: &R,
+        request: Request,
+        now: u64,
+    ) -> Result<Vec<u8>, AllocError>
         ensures past { Adds (past self.old) (past self.new) (Answered request) }
         ensures kept { (bound self.new ≡ bound self.old) × (queues self.new ≡ queues self.old) };
+
+    /// Writes on a sheet what is asked about the exchanges of this thread. `now` is the number of seconds since the loop's start.
+    fn show<R: Clock>(&self, rt: &R, question: Question, now: u64, sheet: &mut Sheet);
 
     /// How many milliseconds may pass before the next turn, whatever the exchanges wait for; none if that doesn't matter.
     fn patience(&self) -> Option<u64>;

@@ -1,5 +1,5 @@
 -- No two values from outside are written alike.
-use Rattle.std.proofs.Common.{◌≡◌, ℕ, ◌/◌, ◌%◌, ◌<◌, ◌++◌, Bool, true, false, List, [], ◌∷◌, All, IsTrue, arith, rules, refl, sym, ap, ◌∙◌, inl, inr, length, subst}
+use Rattle.std.proofs.Common.{◌≡◌, ℕ, ◌/◌, ◌%◌, ◌<◌, ◌++◌, true, false, List, [], ◌∷◌, All, arith, rules, refl, sym, ◌∙◌, inl, inr, length, subst}
 use Rattle.std.proofs.lemmas.Bool.{cases_Bool}
 use Rattle.std.proofs.lemmas.List.Elements.{All-head, All-tail}
 use Rattle.exchange_report.specs.Words.{is_plain, hex_digit, escaped, escaped_text, word_of}
@@ -24,7 +24,7 @@ other_head : (b : ℕ) (rest : List ℕ) → is_plain b ≡ false → escaped b 
 other_head b rest e = grind (rules, e)
 
 -- the first of two lists that are one, and what comes after it
-first : {A : Type 0} (x y : A) (xs ys : List A) → x ∷ xs ≡ y ∷ ys → (x ≡ y) × (xs ≡ ys)
+pub first : {A : Type 0} (x y : A) (xs ys : List A) → x ∷ xs ≡ y ∷ ys → (x ≡ y) × (xs ≡ ys)
 first x y xs ys e = grind (rules, e)
 
 -- a byte that is written as it is is no escape
@@ -49,7 +49,7 @@ none c rest e = elim (cases_Bool (is_plain c)) as (λ _. ⊥) [
   | inr q ↦ let bad : [] ≡ 37 ∷ hex_digit (c / 16) ∷ hex_digit (c % 16) ∷ rest = e ∙ other_head c rest q in grind (rules, bad)
 ]
 
-cons : (b c : ℕ) (xs ys : List ℕ) → b ≡ c → xs ≡ ys → b ∷ xs ≡ c ∷ ys
+pub cons : (b c : ℕ) (xs ys : List ℕ) → b ≡ c → xs ≡ ys → b ∷ xs ≡ c ∷ ys
 cons b c xs ys e f = cc
 
 -- what is written of two texts is told by their first bytes, and the rest

@@ -1,3 +1,6 @@
-mod Apart
-mod OneLine
-mod OneWord
+pub mod Apart
+pub mod IdCuts
+pub mod OneLine
+pub mod OneWord
+pub mod Rooms
+pub mod ScriptLines

@@ -27,11 +27,12 @@ use Rattle.exchange_report.specs.declared.words.TheConstants.{MAX_TARGET, MAX_ME
 use Rattle.exchange_report.proofs.OneWord.{IsVisible, plain_word}
 
 -- a text that is written out ends no line: this computes
-const : (text : List ℕ) → IsTrue (list_all (λ b. not (eqb b 10)) text) → HasNoEnd text
+pub const : (text : List ℕ) → IsTrue (list_all (λ b. not (eqb b 10)) text) → HasNoEnd text
 const [] h = All-nil (λ b. b ≢ 10)
 const (b ∷ text) h = grind (rules, h, const text)
 
-joined : (x y : List ℕ) → HasNoEnd x → HasNoEnd y → HasNoEnd (x ++ y)
+-- two texts that end no line end none together
+pub joined : (x y : List ℕ) → HasNoEnd x → HasNoEnd y → HasNoEnd (x ++ y)
 joined x y = All-append (λ b. b ≢ 10) x y
 
 digits : (text : List ℕ) → AllDigits 10 text → HasNoEnd text
@@ -41,17 +42,20 @@ digits (c ∷ text) h = All-cons (λ b. b ≢ 10) c text (no_digit c h.0) (digit
     no_digit : (c : ℕ) → digit_value c < 10 → c ≢ 10
     no_digit c h e = let bad : digit_value 10 < 10 = subst (λ x. digit_value x < 10) e h in omega (arith, bad)
 
-number : (n : ℕ) → HasNoEnd (numeral 10 n)
+-- nor does a decimal
+pub number : (n : ℕ) → HasNoEnd (numeral 10 n)
 number n = digits (numeral 10 n) (Writes-numeral 10 n (omega arith) (omega arith)).digits.1
 
-three : (n : ℕ) → HasNoEnd (three_digits n)
+-- nor do three digits
+pub three : (n : ℕ) → HasNoEnd (three_digits n)
 three n = grind (arith, rules)
 
 plain : (text : List ℕ) → All IsVisible text → HasNoEnd text
 plain [] h = All-nil (λ b. b ≢ 10)
 plain (b ∷ text) h = grind (rules, h, plain text)
 
-word : (most : ℕ) (value : List ℕ) → All (λ b. b < 256) value → HasNoEnd (word_of (take most value))
+-- nor does a value from outside, as it is written
+pub word : (most : ℕ) (value : List ℕ) → All (λ b. b < 256) value → HasNoEnd (word_of (take most value))
 word most value h = plain (word_of (take most value)) (plain_word (take most value) (All-take (λ b. b < 256) most value h))
 
 address : (a : Address) → HasNoEnd (address_text a)
@@ -60,7 +64,8 @@ address a =
     joined _ (numeral 10 a.fourth) (joined _ (codes ".") (joined _ (numeral 10 a.third) (joined _ (codes ".") (joined _ (numeral 10 a.second)
     (joined (numeral 10 a.first) (codes ".") (number a.first) dot) (number a.second)) dot) (number a.third)) dot) (number a.fourth)
 
-user : (a : Option Address) → HasNoEnd (user_text a)
+-- nor does a user's address
+pub user : (a : Option Address) → HasNoEnd (user_text a)
 user (Some a) = address a
 user None = const (codes "-") refl
 

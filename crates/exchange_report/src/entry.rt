@@ -1,12 +1,14 @@
 //! The log's line of an exchange, in the native format of Squid's `access.log`, with five fields after it, and a sixth where the user got a page.
 
-ghost use Rattle.std.specs.Prelude.{◌≡◌, ◌++◌, ◌<◌, OnOk, codes, take};
+ghost use Rattle.std.specs.Prelude.{◌≡◌, ◌++◌, ◌<◌, OnOk};
 ghost use Rattle.exchange_report.specs.Words.{word_of};
 ghost use Rattle.exchange_report.specs.Entry.{address_text, moment_text, user_text, destination_text, tag_text, status_text, head_text, request_text, verdicts_text, refusal_text, end_text, line_text};
 
 use crate::verdict::{Verdict, write_verdict};
 use crate::why::Why;
-use crate::words::{MAX_FOUND, MAX_KIND, MAX_METHOD, MAX_TARGET, write_number, write_word};
+use crate::words::{
+    MAX_FOUND, MAX_KIND, MAX_METHOD, MAX_TARGET, write_field, write_number, write_word,
+};
 use adapt_bytes::three_digits;
 use std::alloc::AllocError;
 
@@ -98,7 +100,7 @@ fn write_address(out: &mut Vec<u8>, address: Address) -> Result<(), AllocError>
 }
 
 /// Adds the user's address.
-fn write_user(out: &mut Vec<u8>, user: Option<Address>) -> Result<(), AllocError>
+pub(crate) fn write_user(out: &mut Vec<u8>, user: Option<Address>) -> Result<(), AllocError>
     ensures { OnOk result (out.new.items ≡ out.old.items ++ user_text user) }
 {
     match user {
@@ -147,7 +149,7 @@ fn write_status(out: &mut Vec<u8>, status: u16) -> Result<(), AllocError>
 }
 
 /// Adds a moment in seconds, with three decimals.
-fn write_moment(out: &mut Vec<u8>, milliseconds: u64) -> Result<(), AllocError>
+pub(crate) fn write_moment(out: &mut Vec<u8>, milliseconds: u64) -> Result<(), AllocError>
     ensures { OnOk result (out.new.items ≡ out.old.items ++ moment_text milliseconds) }
 {
     write_number(out, milliseconds / 1000)?;
@@ -168,14 +170,6 @@ fn write_head(out: &mut Vec<u8>, entry: &Entry<'_>) -> Result<(), AllocError>
     write_status(out, entry.status)?;
     out.extend_from_slice(b" ")?;
     write_number(out, entry.sent)
-}
-
-/// Adds a field after a space.
-fn write_field(out: &mut Vec<u8>, most: usize, value: &[u8]) -> Result<(), AllocError>
-    ensures { OnOk result (out.new.items ≡ out.old.items ++ codes " " ++ word_of (take most value.now)) }
-{
-    out.extend_from_slice(b" ")?;
-    write_word(out, most, value)
 }
 
 /// Adds the fields of the request, and the one for a login, which is always `-`.

@@ -4,7 +4,9 @@ ghost use Rattle.std.specs.Prelude.{◌≡◌, ◌^◌, ◌<◌, ℕ, List, All,
 ghost use Rattle.exchange_report.specs.Entry.{line_text};
 ghost use Rattle.exchange_report.specs.Lines.{IsOneLine};
 ghost use Rattle.exchange_report.specs.Words.{is_visible, word_of};
+ghost use Rattle.exchange_report.specs.Live.{live_text};
 ghost use Rattle.exchange_report.specs.declared.entry.Entry.{Entry};
+ghost use Rattle.exchange_report.specs.declared.live.Live.{Live};
 
 /// A value from outside is one word of its line: it has a byte, and each of its bytes is visible and no quote. So it ends no
 /// line and begins no field, whatever it is.
@@ -25,4 +27,9 @@ pub fn a_word_says_its_value()
 pub fn a_line_ends_once()
     ensures { (entry : Entry) → All (λ b. b < 2 ^ 8) entry.method.now → All (λ b. b < 2 ^ 8) entry.target.now
         → All (λ b. b < 2 ^ 8) entry.kind.now → All (λ b. b < 2 ^ 8) entry.found.now → IsOneLine (line_text entry) }
+{}
+
+/// So it is with the line of an exchange that isn't over.
+pub fn a_live_line_ends_once()
+    ensures { (live : Live) → All (λ b. b < 2 ^ 8) live.method.now → All (λ b. b < 2 ^ 8) live.target.now → IsOneLine (live_text live) }
 {}

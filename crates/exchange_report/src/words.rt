@@ -1,6 +1,6 @@
 //! Values from outside, each written as one word.
 
-ghost use Rattle.std.specs.Prelude.{◌≡◌, ◌<◌, ◌++◌, OnOk, IsTrue, take};
+ghost use Rattle.std.specs.Prelude.{◌≡◌, ◌<◌, ◌++◌, OnOk, IsTrue, codes, take};
 ghost use Rattle.adapt_bytes.specs.Numeral.{numeral};
 ghost use Rattle.exchange_report.specs.Words.{is_plain, hex_digit, escaped, escaped_text, word_of};
 
@@ -84,6 +84,14 @@ pub(crate) fn write_word(out: &mut Vec<u8>, most: usize, value: &[u8]) -> Result
     } else {
         write_bytes(out, value)
     }
+}
+
+/// Adds a field after a space.
+pub(crate) fn write_field(out: &mut Vec<u8>, most: usize, value: &[u8]) -> Result<(), AllocError>
+    ensures { OnOk result (out.new.items ≡ out.old.items ++ codes " " ++ word_of (take most value.now)) }
+{
+    out.extend_from_slice(b" ")?;
+    write_word(out, most, value)
 }
 
 /// Adds a decimal without leading zeros.

@@ -13,19 +13,15 @@ use Rattle.trace_core.specs.Held.{held_original}
 use Rattle.trace_core.specs.Run.{shown_adapted}
 use Rattle.trace_core.specs.View.{answer_to, after_answer}
 use Rattle.trace_core.specs.declared.tape.Tape.{Tape}
+use Rattle.exchange_report.specs.Script.{range_text, event_text}
 use Rattle.need_witness.specs.Needs.{is_held}
 use Rattle.need_witness.specs.Table.{script_of}
 use Rattle.proxy_commands.specs.declared.script.Line.{Line}
 use Rattle.proxy_commands.specs.declared.script.Line.TheVariants.{Step, Need}
-use Rattle.proxy_commands.specs.Lines.{lines_of}
-use Rattle.proxy_commands.specs.Words.{event_text}
+use Rattle.proxy_commands.specs.Lines.{lines_of, said}
 use Rattle.proxy_commands.specs.Script.{SaysAll}
 
 -- Texts.
-
--- a range of offsets, the second one not in it
-abbrev pub range_text : ℕ × ℕ → List ℕ
-range_text range = numeral 10 range.0 ++ codes ".." ++ numeral 10 range.1
 
 abbrev pub adapted_text : Option (ℕ × ℕ) → List ℕ
 adapted_text None = []
@@ -101,4 +97,4 @@ output_from x (line ∷ lines) = line_output x line ++ output_from (seen_behind 
 
 -- the bytes are what is printed for the script that the text is
 abbrev pub IsOutput : List ℕ → List ℕ → Type 0
-IsOutput text output = (plan : Plan) × (lines : List Line) × SaysAll (lines_of text) plan lines × (output ≡ output_of plan lines)
+IsOutput text output = (plan : Plan) × (lines : List Line) × SaysAll (said (lines_of text)) plan lines × (output ≡ output_of plan lines)

@@ -1,5 +1,6 @@
 pub mod Lines
 pub mod Words
+pub mod Printed
 pub mod Reading
 pub mod Script
 pub mod Answers

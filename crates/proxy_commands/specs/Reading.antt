@@ -130,7 +130,8 @@ abbrev pub allow_of : List ℕ → (Bool × Bool) × List ℕ
 allow_of text =
     allow_or (behind (codes " allow retry") text) (true, true)
     (allow_or (behind (codes " allow") text) (true, false)
-    ((false, false), text))
+    (allow_or (behind (codes " retry") text) (false, true)
+    ((false, false), text)))
 
 abbrev pub with_length : Kind → Bool × Bool → Option (Option ℕ) → Option (Kind × (Bool × Bool) × Option ℕ)
 with_length kind allow None = None

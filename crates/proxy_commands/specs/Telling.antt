@@ -7,9 +7,15 @@ use Rattle.std.specs.declared.alloc.Global.{Global}
 abbrev pub line_of_words : List (String Global) → List ℕ
 line_of_words words = join_by string_bytes (codes " ") words ++ codes "\n"
 
--- the answer has come to its end: a text of counters, which begins with `#`, with `# EOF`, any other one with its line
-abbrev pub is_whole : List ℕ → Bool
-is_whole answer = if starts_with nat_eq answer (codes "#") then ends_with nat_eq answer (codes "\n# EOF\n") else ends_with nat_eq answer (codes "\n")
+-- the list of exchanges has come to its end: its last line counts them
+abbrev pub is_counted : List ℕ → Bool
+is_counted answer =
+    ends_with nat_eq answer (codes " idle\n") || (ends_with nat_eq answer (codes " left out\n") || bytes_eq answer (codes "bad\n"))
+
+-- the answer to a line has come to its end: counters and a script, which begin with `#`, with `# EOF`, any other one with its line
+abbrev pub is_whole : (line : List ℕ) → (answer : List ℕ) → Bool
+is_whole line answer = if starts_with nat_eq line (codes "exchanges") then is_counted answer
+    else if starts_with nat_eq answer (codes "#") then ends_with nat_eq answer (codes "\n# EOF\n") else ends_with nat_eq answer (codes "\n")
 
 -- the answer refuses a line, or its memory or file
 abbrev pub is_refused : List ℕ → Bool

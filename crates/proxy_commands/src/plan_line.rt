@@ -2,7 +2,7 @@
 
 ghost use Rattle.std.specs.Prelude.{◌≡◌, IfSome, IfNone};
 ghost use Rattle.trace_core.specs.declared.history.Plan.{Plan as AnyPlan};
-ghost use Rattle.proxy_commands.specs.Reading.{up_to_space, from_space, kind_of, length_of, parts_of};
+ghost use Rattle.proxy_commands.specs.Reading.{up_to_space, from_space, kind_of, length_of, allow_of, parts_of};
 ghost use Rattle.proxy_commands.specs.Script.{SaysPlan};
 
 use crate::reading::{behind, number};
@@ -47,24 +47,36 @@ fn read_length(text: &[u8]) -> Option<Option<u64>>
     Some(Some(number(digits)?))
 }
 
+/// Whether the request carries `Allow: 204`, whether it may begin anew, and what follows that.
+fn read_allow(text: &[u8]) -> ((bool, bool), &[u8])
+    ensures allow { result.0 ≡ (allow_of text.now).0 }
+    ensures rest { result.1.now ≡ (allow_of text.now).1 }
+{
+    if let Some(rest) = behind(text, b" allow retry") {
+        return ((true, true), rest);
+    }
+    if let Some(rest) = behind(text, b" allow") {
+        return ((true, false), rest);
+    }
+    match behind(text, b" retry") {
+        Some(rest) => ((false, true), rest),
+        None => ((false, false), text),
+    }
+}
+
 /// The parts of a plan's line.
 #[tactic(auto, unfolding(crate::specs::Reading::parts_of))]
 fn read_parts(line: &[u8]) -> Option<(Kind, (bool, bool), Option<u64>)>
     ensures { result ≡ parts_of line.now }
 {
     let (kind, options) = read_kind(behind(line, b"plan ")?)?;
-    if let Some(rest) = behind(options, b" allow retry") {
-        return Some((kind, (true, true), read_length(rest)?));
-    }
-    match behind(options, b" allow") {
-        Some(rest) => Some((kind, (true, false), read_length(rest)?)),
-        None => Some((kind, (false, false), read_length(options)?)),
-    }
+    let (allow, rest) = read_allow(options);
+    Some((kind, allow, read_length(rest)?))
 }
 
-/// The plan that a line says: `plan plain`, `plan whole` or `plan preview P`, then ` allow` where the
-/// request carries `Allow: 204` (RFC 3507, section 4.6), or ` allow retry` where it may begin anew too, then ` len N` where the body's length is
-/// known. `None` for a line of another form, and where P or N is above `2^62 - 1`.
+/// The plan that a line says: `plan plain`, `plan whole` or `plan preview P`, then ` allow` where the request carries `Allow: 204`
+/// (RFC 3507, section 4.6), then ` retry` where the plan lets it begin anew, then ` len N` where the body's length is known. `None` for
+/// a line of another form, and where P or N is above `2^62 - 1`.
 ///
 /// A script doesn't say the vectoring point, which changes no answer: the plan is a response's.
 pub fn read_plan(line: &[u8]) -> Option<Plan>

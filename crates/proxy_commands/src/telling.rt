@@ -1,7 +1,7 @@
 //! `adaptproxy tell`: a line for the administrator's port, and what its answer means.
 
 ghost use Rattle.std.specs.Prelude.{◌≡◌, IfOk};
-ghost use Rattle.proxy_commands.specs.Telling.{is_kept, is_refused, is_whole, line_of_words, told_status};
+ghost use Rattle.proxy_commands.specs.Telling.{is_counted, is_kept, is_refused, is_whole, line_of_words, told_status};
 
 use crate::error::Error;
 use crate::run::write_out;
@@ -24,11 +24,23 @@ pub fn line_of_words(alloc: Global, words: &[String]) -> Result<Vec<u8>, NoMemor
     Ok(line.into_bytes())
 }
 
-/// Whether an answer has come to its end. The text of the counters has many lines, of which the last is `# EOF`.
-fn is_whole(answer: &[u8]) -> bool
-    ensures { result ≡ is_whole answer.now }
+/// Whether the list of exchanges has come to its end: its last line counts them.
+fn is_counted(answer: &[u8]) -> bool
+    ensures { result ≡ is_counted answer.now }
 {
-    if answer.starts_with(b"#") {
+    answer.ends_with(b" idle\n")
+        || answer.ends_with(b" left out\n")
+        || answer == b"bad\n".as_slice()
+}
+
+/// Whether the answer to a line has come to its end. The text of the counters, and a script, have many lines, of which the last is
+/// `# EOF`.
+fn is_whole(line: &[u8], answer: &[u8]) -> bool
+    ensures { result ≡ is_whole line.now answer.now }
+{
+    if line.starts_with(b"exchanges") {
+        is_counted(answer)
+    } else if answer.starts_with(b"#") {
         answer.ends_with(b"\n# EOF\n")
     } else {
         answer.ends_with(b"\n")
@@ -67,8 +79,12 @@ fn told_status(answer: &[u8]) -> u8
     }
 }
 
-/// Reads an answer to its end, or to that of the connection.
-fn read_answer<S: Read>(alloc: Global, connection: &mut S) -> Result<Vec<u8>, ServeError> {
+/// Reads the answer to a line to its end, or to that of the connection.
+fn read_answer<S: Read>(
+    alloc: Global,
+    connection: &mut S,
+    line: &[u8],
+) -> Result<Vec<u8>, ServeError> {
     let mut answer = Vec::new(alloc);
     let mut piece = [0; PIECE];
     for _ in 0..MAX_PIECES {
@@ -81,7 +97,7 @@ fn read_answer<S: Read>(alloc: Global, connection: &mut S) -> Result<Vec<u8>, Se
         if answer.extend_from_slice(&piece[..count]).is_err() {
             return Err(ServeError::Ended(Error::NoMemory));
         }
-        if is_whole(&answer) {
+        if is_whole(line, &answer) {
             return Ok(answer);
         }
     }
@@ -101,11 +117,11 @@ pub fn ask<S: Read + Write, O: Write>(
     if connection.write_all(line).is_err() || connection.flush().is_err() {
         return Err(ServeError::NoAnswer);
     }
-    let answer = read_answer(alloc, connection)?;
+    let answer = read_answer(alloc, connection, line)?;
     if answer.is_empty() && line == b"stop\n".as_slice() {
         return Ok(0);
     }
-    if !is_whole(&answer) {
+    if !is_whole(line, &answer) {
         return Err(ServeError::NoAnswer);
     }
     match write_out(output, &answer) {

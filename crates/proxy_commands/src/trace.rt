@@ -63,7 +63,7 @@ pub fn write_answers(alloc: Global, script: &Script) -> Result<Vec<u8>, NoMemory
     Ok(out)
 }
 
-/// What `adaptproxy trace` prints for its input: one line for each line after the plan.
+/// What `adaptproxy trace` prints for its input: one line for each line after the plan that is no comment.
 ///
 /// The errors are those of [`read_script`]; `NoMemory` also if the answers find no memory.
 pub fn trace_output(alloc: Global, input: &[u8]) -> Result<Vec<u8>, Error>

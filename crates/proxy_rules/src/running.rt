@@ -8,15 +8,16 @@ ghost use Rattle.trace_core.specs.Legal.{MayFollow};
 ghost use Rattle.adapt_hold.specs.Holding.{IsTied, shows, moved};
 ghost use Rattle.adapt_turn.specs.declared.turn.Outcome.TheVariants as outcomes;
 ghost use Rattle.adapt_turn.specs.declared.turn.TurnAnswer.{TurnAnswer as AnyAnswer};
-ghost use Rattle.adapt_turn.specs.ChosenHead.{wire_of};
+ghost use Rattle.adapt_turn.specs.ChosenHead.{answers_user, response_of, wire_of};
 ghost use Rattle.adapt_turn.specs.Refusals.{user_untouched};
-ghost use Rattle.icap_client.specs.Turns.{is_reusable};
+ghost use Rattle.icap_client.specs.Turns.{is_response_of, is_reusable};
 ghost use Rattle.adapt_turn.specs.ServiceOver.{MayFree};
 ghost use Rattle.proxy_rules.specs.Running.{Runs, StandsOver, IsFaultless, RefusesFor, TakesTurns};
 ghost use Rattle.proxy_rules.specs.Since.{Snapshot, Since, freed_wire, anew_on, given_up};
 ghost use Rattle.proxy_rules.specs.Wires.{WiresTook};
 
 use crate::own_ends::{OwnEnds, OwnTx, Wires};
+use adapt_hold::Hold;
 use adapt_turn::{
     Answering, FreedConnection, Going, Outcome, Refusing, Side, Standing, TurnAnswer, Tx,
 };
@@ -131,6 +132,27 @@ impl<B: Ledgers, W: Wires> Running<B, W> {
         ensures closed { (shows self.now.tx.hold.history).closed ≡ true → result ≡ Some self.now.tx.outcome }
     {
         self.tx.outcome()
+    }
+
+    /// Its history, the body bytes that it holds, and its reservation.
+    pub fn hold(&self) -> &Hold<B>
+        ensures { result.now ≡ self.now.tx.hold }
+    {
+        self.tx.hold()
+    }
+
+    /// Whether its service answers the request itself: the adapted message goes back to the user.
+    pub fn answers_user(&self) -> bool
+        ensures { result ≡ answers_user (shows self.now.tx.hold.history) (response_of is_response_of self.now.tx.ends.service) }
+    {
+        self.tx.answers_user()
+    }
+
+    /// The moment of the last moved byte, in seconds.
+    pub fn last_moved(&self) -> u64
+        ensures { result ≡ self.now.tx.pace.last_moved }
+    {
+        self.tx.last_moved()
     }
 
     /// What its history shows.

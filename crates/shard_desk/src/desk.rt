@@ -1,6 +1,6 @@
 //! What the exchanges of one thread have in common.
 
-ghost use Rattle.std.specs.Prelude.{◌≡◌, IfOk, IsTrue};
+ghost use Rattle.std.specs.Prelude.{◌≡◌, ◌↔◌, IfOk, IfSome, IsSome, IsTrue, Some, slice_get};
 ghost use Rattle.proxy_config.specs.declared.config.Config.{Config as AnyConfig};
 ghost use Rattle.proxy_rules.specs.Plans.{AreLimits};
 ghost use Rattle.shard_report.specs.Notes.{IsOpen};
@@ -12,7 +12,7 @@ use crate::kept::Moment;
 use crate::origins::KeptOrigins;
 use crate::pausing::tell_breakers;
 use crate::pools::pools_of;
-use crate::reporter::Reporter;
+use crate::reporter::{Noted, Reporter};
 use crate::seat::Purpose;
 use crate::seating::Seating;
 use crate::seats::{SECOND, Seats};
@@ -90,7 +90,7 @@ impl<S: Shares> Desk<S> {
         let terms = terms_of(config);
         let most = most_origins(config);
         let seats = Seats::new(alloc, rows)?;
-        let reporter = Reporter::new(alloc, seats.bound(), shared.log())?;
+        let reporter = Reporter::new(alloc, seats.bound())?;
         let kept = KeptOrigins::new(alloc, most)?;
         shared.seat(seats.bound())?;
         Ok(Desk {
@@ -122,6 +122,14 @@ impl<S: Shares> Desk<S> {
         let is_open = self.reporter.is_open(key);
         self.shared.take_up(rt, key, is_open);
         self.deadline = self.shared.config().deadline;
+    }
+
+    /// What is noted of the exchange that goes on under this key. `None` where none does.
+    pub fn noted(&self, key: usize) -> Option<Noted<'_>>
+        ensures there { IsSome result ↔ IsOpen self.now.reporter.notes.notes.items key }
+        ensures note { IfSome result (λ noted. slice_get self.now.reporter.notes.notes.items key ≡ Some noted.note) }
+    {
+        self.reporter.noted(key)
     }
 
     /// What the service of a point said last, to be changed.

@@ -62,7 +62,7 @@ fn is_round(phase: Phase) -> bool
 
 /// What was noted of an exchange while it is driven.
 #[derive(Clone, Copy)]
-struct Noted {
+struct Happened {
     /// What its user's connection is in the midst of.
     stay: Option<Stay>,
     /// Whether the exchange went on: its seat was touched at this moment.
@@ -71,7 +71,7 @@ struct Noted {
     rounds: u64,
 }
 
-impl Noted {
+impl Happened {
     ghost use Rattle.shard_desk.specs.Driving.{weight};
 
     /// Whether others should get their turn before a step in this phase, which is one at a connection.
@@ -101,7 +101,7 @@ fn note_stay<S: Seating, R: Wait + Clock, G>(
     users: &mut S,
     at: &Spot<'_, R, G>,
     phase: Phase,
-    noted: &mut Noted,
+    noted: &mut Happened,
 )
     ensures { noted.new.rounds ≡ noted.old.rounds }
 {
@@ -129,7 +129,7 @@ fn take_step<E: Exchanges, R: Wait + Dial + Clock, G: Gate>(
     at: &Spot<'_, R, G>,
     exchange: &mut E::Exchange,
     phase: Phase,
-    noted: &mut Noted,
+    noted: &mut Happened,
 ) -> Step
     requires { phase ≡ E.Exchange.phase_of exchange.old }
     ensures past { Adds (E.Exchange.past exchange.old) (E.Exchange.past exchange.new) (Did phase Task.Step result) }
@@ -203,7 +203,7 @@ fn take_next<E: Exchanges, R: Wait + Dial + Clock, G: Gate>(
     at: &Spot<'_, R, G>,
     exchange: &mut E::Exchange,
     phase: Phase,
-    noted: &mut Noted,
+    noted: &mut Happened,
 ) -> Step
     requires room { is_round phase ≡ true → noted.old.rounds < ROUNDS }
     requires phase { phase ≡ E.Exchange.phase_of exchange.old }
@@ -229,7 +229,7 @@ pub(crate) fn drive_on<E: Exchanges, R: Wait + Dial + Clock, G: Gate>(
     ensures over { result ≡ Driven.Over → E.Exchange.is_over exchange.new ≡ true }
     ensures blocked { IfBlocked result (λ other. (point : AnyPoint) × GivesWay (E.Seating.seats_of (E.users_of exchanges.new)) point other) }
 {
-    let mut noted = Noted {
+    let mut noted = Happened {
         stay: None,
         went_on: false,
         rounds: 0,

@@ -9,6 +9,7 @@ ghost use Rattle.shard_desk.specs.Driving.Doing.{Did};
 use crate::seat::Purpose;
 use crate::seating::Seating;
 use crate::spot::Spot;
+use event_loop::{Question, Sheet};
 use exchange_core::Phase;
 use shard_exchange::{Exchange, Holder, Step, Task};
 use socket_wire::{Dial, UserWire};
@@ -95,6 +96,18 @@ pub trait Exchanges {
         ensures past { Adds (Self.Exchange.past exchange.old) (Self.Exchange.past exchange.new) (Did (Self.Exchange.phase_of exchange.old) task result) }
         ensures over { result ≡ Step.Over → Self.Exchange.is_over exchange.new ≡ true }
         ensures lost { task ≡ Task.Lose → Self.Exchange.is_over exchange.new ≡ true };
+
+    /// Writes on a sheet what the administrator wants to know of the exchange under this key. `now` is the number of seconds since the
+    /// loop's start.
+    fn show<R: Clock>(
+        &self,
+        rt: &R,
+        key: usize,
+        exchange: &Self::Exchange,
+        question: Question,
+        now: u64,
+        sheet: &mut Sheet,
+    );
 
     /// Whether no byte of a request was read, but some have come that no event has reported yet.
     fn is_wanted(exchange: &Self::Exchange) -> bool;

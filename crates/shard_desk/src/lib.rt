@@ -43,6 +43,7 @@ pub use kept::{Heard, Kept, Moment, Rests};
 pub use lines::{IdleLine, SinceLaid};
 pub use origins::KeptOrigin;
 pub use pools::{Loops, SharedPools, Spare, pools_of};
+pub use reporter::Noted;
 pub use seat::Purpose;
 pub use seating::Seating;
 pub use seats::{SECOND, Seats};

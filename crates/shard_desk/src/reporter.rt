@@ -1,13 +1,13 @@
 //! When something is noted of an exchange, and what becomes of it at its end.
 
-ghost use Rattle.std.specs.Prelude.{◌↔◌, IfSome, IsTrue};
+ghost use Rattle.std.specs.Prelude.{◌≡◌, ◌↔◌, IfSome, IsSome, IsTrue, Some, slice_get};
 ghost use Rattle.exchange_report.specs.Pages.{IsPageRefusal};
 ghost use Rattle.http_side.specs.Refusals.{is_own_status};
 ghost use Rattle.shard_report.specs.Notes.{IsOpen};
 
 use crate::words::{evidence_of, is_of_service};
 use adapt_turn::Outcome;
-use exchange_report::{Destination, Reason, Reply, Why};
+use exchange_report::{Destination, Entry, Reason, Reply, Why};
 use http_side::{NextServer, Values};
 use mio::net::TcpStream;
 use proxy_config::MAX_SHARDS;
@@ -24,6 +24,15 @@ use std::sync::Wait;
 use std::time::Clock;
 use trace_core::{Point, Seen};
 
+/// What is noted of an exchange that goes on.
+#[derive(Clone, Copy)]
+pub struct Noted<'a> {
+    pub note: Note,
+    /// As they came, cut where the log cuts them.
+    pub method: &'a [u8],
+    pub target: &'a [u8],
+}
+
 /// What is noted of a thread's exchanges. They are counted in its tally, and their lines added to the log.
 #[derive(Drop)]
 pub(crate) struct Reporter {
@@ -34,10 +43,27 @@ pub(crate) struct Reporter {
 
 impl Reporter {
     /// A reporter of a thread that has this many keys. `Err` where no memory was found.
-    pub fn new(alloc: Global, keys: usize, log: &Log) -> Result<Reporter, AllocError> {
+    pub fn new(alloc: Global, keys: usize) -> Result<Reporter, AllocError> {
         Ok(Reporter {
-            notes: Notes::new(alloc, keys, log.is_kept())?,
+            notes: Notes::new(alloc, keys)?,
             pages: 0,
+        })
+    }
+
+    /// What is noted of the exchange that goes on under this key, and its method and target. `None` where none does.
+    pub fn noted(&self, key: usize) -> Option<Noted<'_>>
+        ensures there { IsSome result ↔ IsOpen self.now.notes.notes.items key }
+        ensures note { IfSome result (λ noted. slice_get self.now.notes.notes.items key ≡ Some noted.note) }
+    {
+        let note = self.notes.get(key)?;
+        if !note.is_open {
+            return None;
+        }
+        let Entry { method, target, .. } = self.notes.entry(key, note, 0, 0);
+        Some(Noted {
+            note: *note,
+            method,
+            target,
         })
     }
 

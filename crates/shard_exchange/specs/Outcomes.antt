@@ -23,8 +23,8 @@ use Rattle.shard_exchange.specs.declared.answers.HeadTurn.{HeadTurn}
 use Rattle.shard_exchange.specs.declared.answers.HeadTurn.TheVariants as head_turns
 use Rattle.shard_exchange.specs.declared.answers.Marks.{Marks}
 use Rattle.shard_exchange.specs.declared.answers.Round.{Round}
-use Rattle.shard_exchange.specs.declared.answers.Said.{Said}
-use Rattle.shard_exchange.specs.declared.answers.Said.TheVariants.{Whole, Part, Nothing, Broken}
+use Rattle.adapt_sides.specs.declared.saying.Said.{Said}
+use Rattle.adapt_sides.specs.declared.saying.Said.TheVariants.{Whole, Part, Nothing, Broken}
 use Rattle.shard_exchange.specs.declared.answers.Unplanned.{Unplanned}
 use Rattle.shard_exchange.specs.declared.answers.Unplanned.TheVariants as unplanned
 use Rattle.shard_exchange.specs.declared.answers.Withdrawal.{Withdrawal}

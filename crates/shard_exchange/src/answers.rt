@@ -67,19 +67,6 @@ pub struct Marks {
     pub repeatable: bool,
 }
 
-/// How much of a text a user has taken.
-#[derive(Clone, Copy)]
-pub enum Said {
-    /// All of it.
-    Whole,
-    /// This many bytes, and not all.
-    Part(usize),
-    /// No more than before: it takes nothing now.
-    Nothing,
-    /// Its connection has failed.
-    Broken,
-}
-
 /// What came of a request whose origin's kept connection has ended before an answer was read.
 #[derive(Clone, Copy)]
 pub enum Withdrawal {

@@ -24,10 +24,10 @@ ghost use Rattle.shard_exchange.specs.declared.answers.Marks.{Marks as AnyMarks}
 ghost use Rattle.shard_exchange.specs.declared.answers.Round.{Round as AnyRound};
 ghost use Rattle.shard_exchange.specs.declared.answers.Unplanned.{Unplanned as AnyUnplanned};
 
-use crate::answers::{Lingered, Marks, Round, Said, Started, Unplanned, Withdrawal};
+use crate::answers::{Lingered, Marks, Round, Started, Unplanned, Withdrawal};
 use crate::ends::{End, EndedBy, Report};
 use crate::holder::Holder;
-use adapt_sides::ClientFault;
+use adapt_sides::{ClientFault, Said};
 use exchange_core::{Course, Dialing, Exchange};
 use exchange_report::Reason;
 use icap_head::IcapResponse;

@@ -5,7 +5,7 @@ ghost use Rattle.exchange_core.specs.Course.{is_leased};
 ghost use Rattle.exchange_core.specs.May.{is_at_gate, is_moving};
 
 use crate::holder::{Holder, InHand};
-use exchange_core::{Event, Phase, RefusalCause};
+use exchange_core::{Due, Event, Phase, RefusalCause};
 
 /// A user's connection, with what is held for it.
 ///
@@ -23,6 +23,7 @@ pub struct Exchange<H: InHand> {
 
 impl<H: InHand> Exchange<H> {
     ghost use Rattle.exchange_core.specs.Course.{start, after};
+    ghost use Rattle.exchange_core.specs.Dues.{due_of};
     ghost use Rattle.exchange_core.specs.declared.event.Event.TheVariants.{Failed};
     ghost use Rattle.exchange_core.specs.declared.event.RefusalCause.TheVariants.{Scarce};
     ghost use Rattle.exchange_core.specs.Log.{Goes};
@@ -56,6 +57,13 @@ impl<H: InHand> Exchange<H> {
         ensures { result ≡ self.now.course.phase }
     {
         self.course.course().phase
+    }
+
+    /// What is due.
+    pub fn due(&self) -> Due
+        ensures { result ≡ due_of self.now.course }
+    {
+        self.course.course().due()
     }
 
     /// What is held.

@@ -11,7 +11,8 @@ ghost use Rattle.shard_exchange.specs.declared.answers.HeadTurn.{HeadTurn as Any
 ghost use Rattle.shard_exchange.specs.declared.answers.Withdrawal.{Withdrawal as AnyWithdrawal};
 ghost use Rattle.shard_exchange.specs.declared.ends.End.{End as AnyEnd};
 
-use crate::answers::{HeadTurn, OptionsTurn, Said};
+use crate::answers::{HeadTurn, OptionsTurn};
+use adapt_sides::Said;
 use exchange_core::Exchange;
 use http_side::HttpFault;
 

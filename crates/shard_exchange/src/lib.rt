@@ -26,9 +26,7 @@ mod step;
 mod stop;
 mod tasks;
 
-pub use answers::{
-    HeadTurn, Lingered, Marks, OptionsTurn, Round, Said, Started, Unplanned, Withdrawal,
-};
+pub use answers::{HeadTurn, Lingered, Marks, OptionsTurn, Round, Started, Unplanned, Withdrawal};
 pub use effects::Effects;
 pub use ends::{End, EndedBy, Report};
 pub use exchange::Exchange;

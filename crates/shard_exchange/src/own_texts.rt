@@ -4,11 +4,12 @@ ghost use Rattle.std.specs.Prelude.{◌≡◌, ◌⊎◌, if◌then◌else◌, t
 ghost use Rattle.exchange_core.specs.declared.event.RefusalCause.TheVariants as causes;
 ghost use Rattle.exchange_report.specs.Reasons as reasons;
 
-use crate::answers::{Lingered, Said};
+use crate::answers::Lingered;
 use crate::effects::Effects;
 use crate::exchange::Exchange;
 use crate::holder::Holder;
 use crate::tasks::Step;
+use adapt_sides::Said;
 use exchange_core::Event;
 use exchange_report::Reason;
 

@@ -8,13 +8,14 @@ ghost use Rattle.exchange_core.specs.Dues.{due_of, is_over};
 ghost use Rattle.exchange_core.specs.Log.{Goes};
 ghost use Rattle.shard_exchange.specs.Ends.{moves, Frees, Halts, is_stopped};
 
-use crate::answers::{Lingered, Said};
+use crate::answers::Lingered;
 use crate::course::take_stop;
 use crate::effects::Effects;
 use crate::ends::EndedBy;
 use crate::exchange::Exchange;
 use crate::holder::Holder;
 use crate::tasks::Step;
+use adapt_sides::Said;
 use exchange_core::{Due, Event, Phase};
 use exchange_report::Reason;
 use std::sync::Wait;

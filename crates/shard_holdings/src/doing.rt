@@ -15,13 +15,12 @@ ghost use Rattle.shard_message.specs.Planning.{PlansBy};
 ghost use Rattle.shard_message.specs.Taking.{taken_if};
 
 use crate::holdings::Holdings;
-use adapt_sides::ClientFault;
+use adapt_sides::{ClientFault, Said};
 use exchange_core::{Course, Dialing, Exchange};
 use icap_head::IcapResponse;
 use service_lines::LendFault;
 use shard_exchange::{
-    Effects, End, EndedBy, Lingered, Marks, Reason, Report, Round, Said, Started, Unplanned,
-    Withdrawal,
+    Effects, End, EndedBy, Lingered, Marks, Reason, Report, Round, Started, Unplanned, Withdrawal,
 };
 use shard_message::{
     Accounted, Connection, Dialed, LastingOrigin, Moves, Moving, Outside, Reusable, Settled,

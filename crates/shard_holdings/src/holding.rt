@@ -12,11 +12,12 @@ ghost use Rattle.shard_holdings.specs.Message.{has_come};
 ghost use Rattle.shard_holdings.specs.Settled.{WithdrawsAs};
 
 use crate::holdings::Holdings;
+use adapt_sides::Said;
 use adapt_turn::FreedConnection;
 use exchange_core::Exchange;
 use http_side::HttpFault;
 use proxy_rules::interim_continue;
-use shard_exchange::{HeadTurn, Holder, InHand, OptionsTurn, Said};
+use shard_exchange::{HeadTurn, Holder, InHand, OptionsTurn};
 use shard_message::{
     Accounted, Kinds, Moving, OnItsWay, clear, fault_of, hear_on, lay_wire, say_to, turn_on,
 };

@@ -1,13 +1,13 @@
 //! What an exchange holds.
 
-ghost use Rattle.std.specs.Prelude.{◌≡◌, ◌&&◌, ◌||◌, is_some, option_map, None, Some, true, false};
+ghost use Rattle.std.specs.Prelude.{◌≡◌, ◌&&◌, ◌||◌, is_some, option_map, None, Some, IfSome, IsSomeAnd, true, false};
 ghost use Rattle.std.specs.Option.{ForSome};
 ghost use Rattle.shard_exchange.specs.Hand.{IsEmpty};
 
 use icap_client::OptionsSide;
 use proxy_rules::Incoming;
 use shard_exchange::InHand;
-use shard_message::{Connection, Kinds, Moving, Planned, Remains, Room, put_in};
+use shard_message::{Connection, Kinds, Moving, OnShow, Planned, Remains, Room, Shown, put_in};
 use span_bank::{Bank, Stake};
 use std::boxed::Box;
 use std::sync::Wait;
@@ -83,6 +83,29 @@ impl<O: Kinds> Holdings<O> {
         match &self.user {
             Some(user) => Some(user),
             None => None,
+        }
+    }
+
+    /// What is shown of the message that moves, if one does.
+    pub fn shown(&self) -> Option<Shown<'_>>
+        ensures some { IfSome result (λ shown. IsSomeAnd self.now.tx (λ tx. (shown.state.now ≡ ⟦<Moving<O> as OnShow>⟧.history tx) × (shown.claim ≡ ⟦<Moving<O> as OnShow>⟧.claimed tx)
+            × (shown.answers_user ≡ ⟦<Moving<O> as OnShow>⟧.answers tx))) }
+        ensures none { is_some result ≡ is_some self.now.tx }
+    {
+        match &self.tx {
+            Some(tx) => Some(tx.shown()),
+            None => None,
+        }
+    }
+
+    /// The bytes that are reserved for a message that doesn't move yet; 0 where none are.
+    pub fn claim(&self) -> u64
+        ensures some { IfSome self.now.room (λ room. result ≡ room.stake.claim) }
+        ensures none { self.now.room ≡ None → result ≡ 0 }
+    {
+        match &self.room {
+            Some(room) => room.stake.claim(),
+            None => 0,
         }
     }
 

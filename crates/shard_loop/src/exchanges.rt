@@ -7,6 +7,8 @@ ghost use Rattle.exchange_core.specs.declared.event.RefusalCause.TheVariants.{Sc
 ghost use Rattle.exchange_core.specs.Dues.{is_over};
 ghost use Rattle.shard_exchange.specs.Hand.{IsEmpty};
 
+use crate::showing::show;
+use event_loop::{Question, Sheet};
 use proxy_rules::Incoming;
 use shard_desk::{Desk, Exchanges, Purpose, Shares, Spot, turn_away};
 use shard_exchange::{Exchange, Holder, InHand, Step, Task};
@@ -132,6 +134,18 @@ impl<S: Shares> Exchanges for DeskExchanges<S> {
     ) -> Step {
         self.desk.take_up(at.rt, at.key);
         act_on(at.rt, at, &mut self.desk, exchange, task)
+    }
+
+    fn show<R: Clock>(
+        &self,
+        rt: &R,
+        key: usize,
+        exchange: &Exchange<Holdings<Desk<S>>>,
+        question: Question,
+        now: u64,
+        sheet: &mut Sheet,
+    ) {
+        show(rt, &self.desk, key, exchange, question, now, sheet);
     }
 
     fn is_wanted(exchange: &Exchange<Holdings<Desk<S>>>) -> bool {

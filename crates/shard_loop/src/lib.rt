@@ -7,6 +7,7 @@
 #![tactic(auto)]
 
 mod admission;
+mod asking;
 mod bases;
 mod board;
 mod crew;
@@ -16,6 +17,7 @@ mod office;
 mod reloading;
 mod replaced;
 mod running;
+mod showing;
 
 pub use board::Rules;
 pub use event_loop::{AdminPorts, listen_beside};

@@ -3,9 +3,10 @@
 
 ghost use Rattle.std.specs.Prelude.{⊤};
 
+use crate::asking::tell_exchanges;
 use crate::reloading::{Reloads, changed_text, reload_from};
 use crate::replaced::Replaced;
-use event_loop::{Admitted, Driven, Handed, LiveConfig, Request, Told, Work};
+use event_loop::{Admitted, Driven, Handed, LiveConfig, Question, Request, Sheet, Told, Work};
 use mio::Registry;
 use proxy_commands::Source;
 use shard_desk::{Shares, pools_of};
@@ -111,6 +112,18 @@ impl<'a, S: Shares, F: Append + Reloads> Office<'a, S, F> {
             inbox.refresh();
         }
         b"ok\n".to_vec(self.alloc)
+    }
+
+    /// What goes on in the threads that take users.
+    fn show_exchanges<R: Wait + Clock>(
+        &self,
+        rt: &R,
+        question: Question,
+    ) -> Result<Vec<u8>, AllocError> {
+        // The last inbox is the administrator's own.
+        let inboxes = self.shared.inboxes();
+        let users = inboxes.get(..self.tallies.len()).unwrap_or(inboxes);
+        tell_exchanges(rt, self.alloc, users, question)
     }
 
     /// Reads the configuration and its files again, and takes over what can change.
@@ -219,7 +232,7 @@ impl<'a, S: Shares + Drop, F: Append + Reloads> Work for Office<'a, S, F> {
         true
     }
 
-    fn answer<R: Wait>(
+    fn answer<R: Wait + Clock>(
         &mut self,
         rt: &R,
         request: Request,
@@ -232,9 +245,13 @@ impl<'a, S: Shares + Drop, F: Append + Reloads> Work for Office<'a, S, F> {
             Request::Reopen => self.reopen(rt),
             Request::Refresh => self.refresh(),
             Request::Reload => self.reload(rt),
+            Request::Show(question) => self.show_exchanges(rt, question),
             Request::Drain | Request::Stop | Request::Bad => b"bad\n".to_vec(self.alloc),
         }
     }
+
+    /// It has no exchange.
+    fn show<R: Clock>(&self, _rt: &R, _question: Question, _now: u64, _sheet: &mut Sheet) {}
 
     fn patience(&self) -> Option<u64> {
         if self.shared.log().is_kept() {

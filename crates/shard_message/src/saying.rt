@@ -3,35 +3,12 @@
 ghost use Rattle.std.specs.Prelude.{◌≡◌, IsTrue, is_some, option_map, true};
 ghost use Rattle.http_side.specs.Refusals.{is_own_status};
 ghost use Rattle.shard_exchange.specs.Hand.{refused_of};
-ghost use Rattle.shard_exchange.specs.Saying.{LaysPage, Says, SaysOn, past_of, refusal_by};
+ghost use Rattle.shard_exchange.specs.Saying.{LaysPage, SaysOn, past_of, refusal_by};
 
 use crate::outside::Outside;
-use adapt_bytes::behind;
+use adapt_sides::{Said, say};
 use http_side::own_refusal;
-use shard_exchange::Said;
-use wire_kit::{Put, Wire};
-
-/// Says a text over this wire, of which so many bytes went out before: one write at most, of what is left of it.
-fn say<W: Wire>(user: &mut W, text: &[u8], before: usize) -> Said
-    ensures { Says (W.past user.old) (W.past user.new) text.now before result }
-{
-    let rest = behind(text, before);
-    if rest.is_empty() {
-        return Said::Whole;
-    }
-    match user.try_write(rest) {
-        Put::Took(count) => {
-            let left = rest.len() - count;
-            if left == 0 {
-                Said::Whole
-            } else {
-                Said::Part(text.len() - left)
-            }
-        }
-        Put::Wait => Said::Nothing,
-        Put::Fault => Said::Broken,
-    }
-}
+use wire_kit::Wire;
 
 /// Says a text to a user, of which so many bytes are out: one write at most, of what is left of it; that is counted. A user whose
 /// connection has failed is gone, and no other.

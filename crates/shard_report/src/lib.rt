@@ -4,6 +4,7 @@
 //! numbers up. Nothing here knows a socket or the engine of a protocol.
 #![tactic(auto)]
 
+mod address;
 mod append;
 mod audit;
 mod capacity;
@@ -19,13 +20,14 @@ mod reasons;
 mod stats;
 mod tally;
 
+pub use address::address_of;
 pub use append::Append;
 pub use audit::{ProxyFault, StopAudit, Stopped};
 pub use capacity::change_capacity;
 pub use clock::moment;
 pub use heads::{kind_in, kind_of, request_line, status_in, what_was_found, without_query};
 pub use log::Log;
-pub use notes::{Note, Notes, address_of, elapsed_of, status_of, why_of};
+pub use notes::{Note, Notes, elapsed_of, status_of, why_of};
 pub use reasons::{Evidence, failed_word, verdict_of};
 pub use stats::{Figures, stats_text};
 pub use tally::{Bound, Class, Count, Dealing, LoopTally};

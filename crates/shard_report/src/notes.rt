@@ -1,6 +1,7 @@
 //! What is noted of an exchange while it goes on: what its line in the log says, and what is counted.
 
-ghost use Rattle.std.specs.Prelude.{◌≡◌, ◌↔◌, ◌<◌, ◌-◌, IfNone, IfSome, IsSome, IsSomeAnd, IsTrue, slice_get};
+ghost use Rattle.std.specs.Prelude.{◌≡◌, ◌↔◌, ◌<◌, ◌+◌, ◌-◌, ◌^◌, IfNone, IfSome, IsSome, IsSomeAnd, IsTrue, slice_get};
+ghost use Rattle.std.specs.Option.{option_copied};
 ghost use Rattle.http_side.specs.Refusals.{is_own_status};
 ghost use Rattle.shard_report.specs.Notes.{IsOpen, SaysPage, noted_why};
 
@@ -10,7 +11,6 @@ use exchange_report::{
     page_refusal,
 };
 use std::alloc::{AllocError, Global};
-use std::net::SocketAddrV4;
 use trace_core::Point;
 
 /// What is noted of the exchange under a key.
@@ -18,6 +18,8 @@ use trace_core::Point;
 pub struct Note {
     /// Whether a request was read, or refused, and its answer isn't over.
     pub is_open: bool,
+    /// The number of its newest exchange among those of its loop, from 1. No other exchange of the loop has it. 0 before the first one.
+    pub number: u64,
     pub user: Option<Address>,
     /// The moment at which the request's head was there, in milliseconds since 1970.
     pub begun: u64,
@@ -60,7 +62,7 @@ struct Words {
 /// The notes of a loop, one for each key.
 ///
 /// ```
-/// let mut notes = Notes::new(alloc, 2, true)?;
+/// let mut notes = Notes::new(alloc, 2)?;
 /// notes.enter(0, None);
 /// notes.begin(0, 1_000, 0, b"GET", b"http://o.test/");
 /// notes.answer(0, 200, b"text/html");
@@ -74,14 +76,16 @@ struct Words {
 #[derive(Drop)]
 pub struct Notes {
     notes: Vec<Note>,
-    /// Empty where no log is kept.
     words: Vec<Words>,
+    /// How many exchanges have begun.
+    begun: u64,
 }
 
 /// Before a user.
 fn blank() -> Note {
     Note {
         is_open: false,
+        number: 0,
         user: None,
         begun: 0,
         taken: 0,
@@ -99,17 +103,6 @@ fn blank() -> Note {
         blamed: None,
         is_head: false,
         page: None,
-    }
-}
-
-/// An address without its port.
-pub fn address_of(address: SocketAddrV4) -> Address {
-    let [first, second, third, fourth] = address.ip().octets();
-    Address {
-        first,
-        second,
-        third,
-        fourth,
     }
 }
 
@@ -162,22 +155,40 @@ impl Words {
 }
 
 impl Notes {
-    /// A note for each of these keys. Words are noted where a log is kept. `Err` where no memory was found.
-    pub fn new(alloc: Global, keys: usize, is_kept: bool) -> Result<Notes, AllocError> {
+    /// A note for each of these keys. `Err` where no memory was found.
+    pub fn new(alloc: Global, keys: usize) -> Result<Notes, AllocError> {
         let mut notes = Vec::with_capacity(alloc, keys)?;
-        let mut words = Vec::with_capacity(alloc, if is_kept { keys } else { 0 })?;
+        let mut words = Vec::with_capacity(alloc, keys)?;
         for _ in 0..keys {
             notes.push(blank())?;
-            if is_kept {
-                words.push(Words {
-                    text: Vec::new(alloc),
-                    method: 0,
-                    target: 0,
-                    found: Vec::new(alloc),
-                })?;
-            }
+            words.push(Words {
+                text: Vec::new(alloc),
+                method: 0,
+                target: 0,
+                found: Vec::new(alloc),
+            })?;
         }
-        Ok(Notes { notes, words })
+        Ok(Notes {
+            notes,
+            words,
+            begun: 0,
+        })
+    }
+
+    /// A note.
+    pub fn get(&self, key: usize) -> Option<&Note>
+        ensures { option_copied result ≡ slice_get self.now.notes.items key }
+    {
+        self.notes.get(key)
+    }
+
+    /// The number of an exchange that begins: one more than that of the newest one.
+    fn next_number(&mut self) -> u64
+        ensures number { self.old.begun + 1 < 2 ^ 64 → (result ≡ self.old.begun + 1) × (self.new.begun ≡ result) }
+        ensures kept { (self.new.notes ≡ self.old.notes) × (self.new.words ≡ self.old.words) }
+    {
+        self.begun = self.begun.saturating_add(1);
+        self.begun
     }
 
     /// A note, to be changed.
@@ -205,13 +216,15 @@ impl Notes {
         }
     }
 
-    /// An exchange begins, with this request; its words are noted where a log is kept.
+    /// An exchange begins, with this request.
     pub fn begin(&mut self, key: usize, moment: u64, taken: u64, method: &[u8], target: &[u8]) {
+        let number = self.next_number();
         if let Some(note) = self.notes.get_mut(key) {
             let user = note.user;
             let read = note.read;
             *note = blank();
             note.is_open = true;
+            note.number = number;
             note.user = user;
             note.read = read;
             note.begun = moment;
@@ -247,9 +260,11 @@ impl Notes {
 
     /// The proxy's own refusal is the answer, with the status of this reason. It has no media type.
     pub fn refuse(&mut self, key: usize, reason: Reason) {
+        if !self.is_open(key) {
+            self.begin(key, 0, 0, b"", b"");
+        }
         self.answer(key, reason.status(), b"");
         if let Some(note) = self.notes.get_mut(key) {
-            note.is_open = true;
             note.refused = true;
             note.why = Some(Why::Failed(reason));
         }
@@ -265,7 +280,7 @@ impl Notes {
         }
     }
 
-    /// A service said that it found this in a message. It is noted where a log is kept.
+    /// A service said that it found this in a message.
     pub fn find(&mut self, key: usize, found: &[u8]) {
         if let Some(words) = self.words.get_mut(key) {
             words.find(found);

@@ -22,6 +22,7 @@
 mod answer;
 mod judging;
 mod memory;
+mod part_iterator;
 mod plans;
 mod random;
 mod report;
@@ -40,6 +41,7 @@ pub use answer::{
     put_shown, put_truth,
 };
 pub use judging::{Driver, judge_files};
+pub use part_iterator::{Parts, lines_of, parts_of, words_of};
 pub use plans::{event_of, history, plan_of, point_of};
 pub use random::Random;
 pub use report::Report;

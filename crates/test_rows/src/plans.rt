@@ -1,4 +1,5 @@
 //! Plans and events in words.
+use crate::part_iterator::words_of;
 use crate::scene::Scene;
 use crate::words::{count_after, has_word, index_of};
 use trace_core::{Event, Kind, Payload, Plan, Point, State};
@@ -60,7 +61,7 @@ pub fn event_of(word: &[u8]) -> Option<Event> {
 /// The history of the row's plan and of its events before. `None` where they may not come so.
 pub fn history(scene: Scene<'_>) -> Option<State> {
     let mut state = State::begin(plan_of(scene.get(b"plan"))?);
-    for word in scene.get(b"before").split(|byte| *byte == b' ') {
+    for word in words_of(scene.get(b"before")) {
         if !word.is_empty() && state.step(event_of(word)?).is_err() {
             return None;
         }

@@ -1,5 +1,6 @@
 //! Lines of what a run reports.
 use crate::answer::{put_decimal, put_escaped};
+use crate::part_iterator::words_of;
 use crate::scene::Scene;
 use crate::values::Values;
 use std::alloc::AllocError as NoMemory;
@@ -36,7 +37,7 @@ enum Part<'a> {
 /// with.
 fn part_of<'a>(scene: Scene<'a>, bytes: &'a [u8], place: Option<usize>) -> Part<'a> {
     let names = scene.get(b"texts");
-    for name in names.split(|byte| *byte == b' ') {
+    for name in words_of(names) {
         let text = scene.get(name);
         if text == bytes {
             return Part::All(name);
@@ -49,7 +50,7 @@ fn part_of<'a>(scene: Scene<'a>, bytes: &'a [u8], place: Option<usize>) -> Part<
             };
         }
     }
-    for name in names.split(|byte| *byte == b' ') {
+    for name in words_of(names) {
         let text = scene.get(name);
         if !text.is_empty()
             && let Some(rest) = bytes.strip_prefix(text)

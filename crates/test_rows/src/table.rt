@@ -1,6 +1,7 @@
 //! A file of rows.
 ghost use Rattle.std.specs.Prelude.{◌≤◌, length};
 
+use crate::part_iterator::lines_of;
 use crate::row::{Entry, Row, part};
 use crate::text::put_text;
 use std::alloc::{AllocError as NoMemory, Global};
@@ -49,7 +50,7 @@ pub fn read_table(alloc: Global, text: &[u8]) -> Result<Table, NoMemory> {
         is_open: false,
     };
     let mut number: u64 = 0;
-    for line in text.split(|byte| *byte == b'\n') {
+    for line in lines_of(text) {
         number = number.saturating_add(1);
         table.add_line(number, line)?;
     }

@@ -1,4 +1,5 @@
 //! The letters of a row, and the values that they go through.
+use crate::part_iterator::words_of;
 use crate::row::number;
 use crate::scene::Scene;
 use crate::words::{is, parts};
@@ -66,7 +67,7 @@ fn width(word: &[u8]) -> usize {
 /// How many values the words list; one if there are no words.
 fn count(words: &[u8]) -> usize {
     let mut count: usize = 0;
-    for word in words.split(|byte| *byte == b' ') {
+    for word in words_of(words) {
         count = count.saturating_add(width(word));
     }
     count.max(1)
@@ -75,7 +76,7 @@ fn count(words: &[u8]) -> usize {
 /// The word that lists the value of this index, and the index in it.
 fn word_at(words: &[u8], index: usize) -> (&[u8], usize) {
     let mut left = index;
-    for word in words.split(|byte| *byte == b' ') {
+    for word in words_of(words) {
         if left < width(word) {
             return (word, left);
         }

@@ -1,4 +1,5 @@
 //! The answers of wires, and wires that give them.
+use crate::part_iterator::words_of;
 use crate::random::Random;
 use crate::scene::Scene;
 use crate::values::{Values, answer_of, number_by};
@@ -96,7 +97,7 @@ pub fn answers(
 ) -> Result<Vec<Answer>, NoMemory> {
     let mut list = Vec::new(alloc);
     let salt = key.len() as u64;
-    for word in scene.get(key).split(|byte| *byte == b' ') {
+    for word in words_of(scene.get(key)) {
         if !word.is_empty() {
             put_listed(&mut list, read_listed(word, values), salt)?;
         }

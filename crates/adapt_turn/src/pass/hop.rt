@@ -98,7 +98,7 @@ fn begin<B: Ledgers, E: EndTypes>(
 }
 
 /// Whether the adapted message is an answer to the user, though a request was offered.
-fn answers_user<B: Ledgers, V: Service, W>(
+pub(crate) fn answers_user<B: Ledgers, V: Service, W>(
     hold: &Hold<B>,
     service: &Option<ServiceEnd<V, W>>,
 ) -> bool

@@ -5,7 +5,7 @@ use self::words::{EVENTS, WORDS, read_event};
 use crate::decisions::questions::asked;
 use crate::listed::put_standing;
 use exchange_core::{Course, Event, Exchange};
-use test_rows::{NoMemory, Row, put_line, put_shown, says};
+use test_rows::{NoMemory, Row, lines_of, parts_of, put_line, put_shown, says};
 
 /// The marks of a course, in the order of `put_marks`.
 const MARKS: &[u8] =
@@ -36,7 +36,7 @@ fn put_marks(out: &mut Vec<u8>, course: &Course) -> Result<(), NoMemory> {
 /// Adds the words of all events that may come next.
 fn put_next(out: &mut Vec<u8>, exchange: &Exchange) -> Result<(), NoMemory> {
     let mut before: &[u8] = b" ";
-    for (event, word) in EVENTS.iter().zip(WORDS.split(|byte| *byte == b'|')) {
+    for (event, word) in EVENTS.iter().zip(parts_of(WORDS, b'|')) {
         if exchange.may(*event) {
             out.extend_from_slice(before)?;
             out.extend_from_slice(word)?;
@@ -89,7 +89,7 @@ fn put_answered(
 /// Adds what is due after each event of a row.
 pub fn put_course(row: &Row<'_>, out: &mut Vec<u8>) -> Result<(), NoMemory> {
     let mut exchange = Exchange::begin();
-    for line in row.get(b"want").split(|byte| *byte == b'\n') {
+    for line in lines_of(row.get(b"want")) {
         let question = asked(line);
         if !question.is_empty() {
             put_answered(out, &mut exchange, question)?;

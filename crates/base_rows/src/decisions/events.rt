@@ -2,7 +2,7 @@
 use crate::decisions::questions::cut;
 use crate::listed::index_of;
 use need_witness::{Script, Tape};
-use test_rows::{NoMemory, number, put_decimal, says};
+use test_rows::{NoMemory, number, parts_of, put_decimal, says, words_of};
 use trace_core::{Answer, Cause, Event, Kind, Payload, Plan, Point, State};
 
 fn cause(number: u64) -> Option<Cause> {
@@ -105,7 +105,7 @@ pub fn read_part(part: &[u8]) -> Option<Event> {
 /// A script of events with a comma between each two.
 pub fn read_script(text: &[u8]) -> Script {
     let mut script = Script::new();
-    for part in text.split(|byte| *byte == b',') {
+    for part in parts_of(text, b',') {
         if let Some(event) = read_part(part) {
             if !script.is_full() {
                 script.push(event);
@@ -190,7 +190,7 @@ pub fn read_plan(text: &[u8]) -> Option<Plan> {
         point: Point::Respmod,
         awaited: Awaited::Nothing,
     };
-    for word in text.split(|byte| *byte == b' ') {
+    for word in words_of(text) {
         words.add(word);
     }
     Plan::new(words.kind, words.allow, words.retry, words.len, words.point)

@@ -2,10 +2,11 @@
 use crate::decisions::claims::put_claim;
 use crate::decisions::events::{answered, read_event, read_part, read_plan};
 use crate::decisions::marks::put_mark;
+use crate::decisions::printed::is_printed_so;
 use crate::decisions::questions::{Subject, asked, put_lines};
 use crate::decisions::scripts::put_script;
 use std::alloc::Global;
-use test_rows::{NoMemory, Row, put_decimal, put_line};
+use test_rows::{NoMemory, Row, lines_of, parts_of, put_decimal, put_line};
 use trace_core::{Answer, Event, Plan, State, StepFault, run};
 
 fn put_range(out: &mut Vec<u8>, word: &[u8], range: (u64, u64)) -> Result<(), NoMemory> {
@@ -56,7 +57,7 @@ impl<'a> Subject for Told<'a> {
 /// The events among the wanted lines.
 fn events_of(alloc: Global, lines: &[u8]) -> Result<Vec<Event>, NoMemory> {
     let mut events = Vec::new(alloc);
-    for line in lines.split(|byte| *byte == b'\n') {
+    for line in lines_of(lines) {
         if let Some(event) = read_event(asked(line)) {
             events.push(event)?;
         }
@@ -83,8 +84,8 @@ fn is_run_so(alloc: Global, plan: Plan, lines: &[u8]) -> Result<bool, NoMemory> 
 }
 
 /// Takes events with a comma between each two, if each is one that may come next.
-fn are_taken(state: &mut State, events: &[u8]) -> bool {
-    for part in events.split(|byte| *byte == b',') {
+pub fn are_taken(state: &mut State, events: &[u8]) -> bool {
+    for part in parts_of(events, b',') {
         if let Some(event) = read_part(part) {
             if state.step(event).is_err() {
                 return false;
@@ -109,6 +110,9 @@ pub fn put_history(alloc: Global, row: &Row<'_>, out: &mut Vec<u8>) -> Result<()
         row: *row,
     };
     put_lines(&mut told, lines, out)?;
+    if !is_printed_so(alloc, &state)? {
+        return put_line(out, b"another answer as it is printed");
+    }
     if row.has(b"after") || is_run_so(alloc, plan, lines)? {
         Ok(())
     } else {

@@ -5,13 +5,13 @@ use icap_head::{Fields, IcapResponse};
 use options_book::laws::{has_a_reading, reads_one_way};
 use options_book::{OptFault, Record, Treat, extension, read_record};
 use std::alloc::Global;
-use test_rows::{NoMemory, Row, number, put_count, put_fault, put_line, put_truth};
+use test_rows::{NoMemory, Row, lines_of, number, put_count, put_fault, put_line, put_truth};
 use trace_core::Point;
 
 /// The fields of these lines.
 fn fields_of(alloc: Global, lines: &[u8]) -> Result<Fields, NoMemory> {
     let mut fields = Fields::new(alloc);
-    for line in lines.split(|byte| *byte == b'\n') {
+    for line in lines_of(lines) {
         if !line.is_empty() {
             let (name, value) = cut(line, b": ");
             fields.push(name, value)?;

@@ -1,5 +1,5 @@
 //! Lines of a row's `want`, each a question or an event with what is said of it.
-use test_rows::NoMemory;
+use test_rows::{NoMemory, lines_of};
 
 /// What stands before this mark, or all if there is no mark, and what stands after it.
 pub fn cut<'a>(text: &'a [u8], mark: &[u8]) -> (&'a [u8], &'a [u8]) {
@@ -28,7 +28,7 @@ pub fn put_lines<S: Subject>(
     lines: &[u8],
     out: &mut Vec<u8>,
 ) -> Result<(), NoMemory> {
-    for line in lines.split(|byte| *byte == b'\n') {
+    for line in lines_of(lines) {
         if !line.is_empty() {
             let question = asked(line);
             out.extend_from_slice(question)?;

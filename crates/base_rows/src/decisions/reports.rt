@@ -6,7 +6,7 @@ use exchange_report::{
     page_refusal, write_line,
 };
 use std::alloc::Global;
-use test_rows::{NoMemory, Row, number};
+use test_rows::{NoMemory, Row, number, words_of};
 
 /// The reasons, in the order of the table that says what each is.
 const WHYS: [Why; 22] = [
@@ -35,7 +35,7 @@ const WHYS: [Why; 22] = [
 ];
 
 /// The address of four numbers, as `192 0 2 1`.
-fn address(text: &[u8]) -> Option<Address> {
+pub fn address(text: &[u8]) -> Option<Address> {
     let (first, rest) = cut(text, b" ");
     let (second, rest) = cut(rest, b" ");
     let (third, fourth) = cut(rest, b" ");
@@ -62,7 +62,7 @@ fn set_word(verdict: &mut Verdict, word: &[u8]) {
 /// The verdict of words, as `retried continued unchanged`.
 fn verdict(text: &[u8]) -> Verdict {
     let mut verdict = Verdict::none();
-    for word in text.split(|byte| *byte == b' ') {
+    for word in words_of(text) {
         set_word(&mut verdict, word);
     }
     verdict

@@ -3,7 +3,7 @@ use crate::decisions::events::{read_event, read_plan};
 use crate::decisions::questions::{Subject, asked, cut, put_lines};
 use crate::listed::index_of;
 use std::alloc::Global;
-use test_rows::{NoMemory, Row, number, put_count, put_fault, put_line, says};
+use test_rows::{NoMemory, Row, lines_of, number, put_count, put_fault, put_line, says, words_of};
 use world_core::{World, WorldEvent, WorldFault};
 
 /// A number, and what follows the space after it.
@@ -69,7 +69,7 @@ impl Subject for World {
 
 fn maxima_of(alloc: Global, words: &[u8]) -> Result<Vec<u64>, NoMemory> {
     let mut maxima = Vec::new(alloc);
-    for word in words.split(|byte| *byte == b' ') {
+    for word in words_of(words) {
         if let Some(maximum) = number(word) {
             maxima.push(maximum)?;
         }
@@ -79,7 +79,7 @@ fn maxima_of(alloc: Global, words: &[u8]) -> Result<Vec<u64>, NoMemory> {
 
 fn events_of(alloc: Global, lines: &[u8]) -> Result<Vec<WorldEvent>, NoMemory> {
     let mut events = Vec::new(alloc);
-    for line in lines.split(|byte| *byte == b'\n') {
+    for line in lines_of(lines) {
         if let Some(event) = read_world_event(asked(line)) {
             events.push(event)?;
         }

@@ -1,7 +1,9 @@
 //! Readers of bodies that are fed piece by piece.
 use http_side::{BodyReader, Framing};
 use icap_chunks::{ChunkFault, ChunkReader, Fed};
-use test_rows::{NoMemory, Row, number, put_decimal, put_fault, put_line, put_number, says};
+use test_rows::{
+    NoMemory, Row, number, put_decimal, put_fault, put_line, put_number, says, words_of,
+};
 
 /// A reader of chunks, or of a body with any framing.
 #[derive(Drop)]
@@ -103,7 +105,7 @@ fn put_pieces(
     sizes: &[u8],
 ) -> Result<(), NoMemory> {
     let mut at: usize = 0;
-    for word in sizes.split(|byte| *byte == b' ') {
+    for word in words_of(sizes) {
         let size = match number(word) {
             Some(size) => size as usize,
             None => usize::MAX,

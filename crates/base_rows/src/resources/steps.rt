@@ -1,6 +1,6 @@
 //! Steps of a row, and what lends something to its rows and threads.
 use crate::resources::words::asked;
-use test_rows::NoMemory;
+use test_rows::{NoMemory, lines_of};
 
 /// What a row plays its steps on.
 pub trait Stage {
@@ -10,7 +10,7 @@ pub trait Stage {
 
 /// Adds each step of the wanted lines with what it answers.
 pub fn put_steps<S: Stage>(stage: &mut S, lines: &[u8], out: &mut Vec<u8>) -> Result<(), NoMemory> {
-    for line in lines.split(|byte| *byte == b'\n') {
+    for line in lines_of(lines) {
         let step = asked(line);
         if step.len() < line.len() {
             out.extend_from_slice(step)?;

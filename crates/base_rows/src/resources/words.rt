@@ -5,7 +5,7 @@ use service_pool::{AuditFault, Numbers, Over};
 use span_bank::{Audit, Book, CapacityFault, OpenFault};
 use std::alloc::Global;
 use std::fmt::Display;
-use test_rows::{NoMemory, Row, number, put_decimal, put_line, put_number};
+use test_rows::{NoMemory, Row, number, put_decimal, put_line, put_number, words_of};
 
 /// The number after a word, as in `put 11`.
 pub fn number_after(text: &[u8], word: &[u8]) -> Option<u64> {
@@ -32,7 +32,7 @@ pub fn parts(text: &[u8]) -> Option<(&[u8], &[u8])> {
 /// The place of a word among these.
 pub fn index_of(words: &[u8], word: &[u8]) -> Option<usize> {
     let mut place: usize = 0;
-    for other in words.split(|byte| *byte == b' ') {
+    for other in words_of(words) {
         if other == word {
             return Some(place);
         }

@@ -2,7 +2,7 @@
 use proxy_commands::{config_path, read_task, words_after};
 use std::alloc::Global;
 use std::fmt::Debug;
-use test_rows::{NoMemory, Row, put_line, put_shown, says};
+use test_rows::{NoMemory, Row, put_line, put_shown, says, words_of};
 
 /// The row's arguments, between which one space stands; none where the row has no such key.
 pub fn arguments_of(alloc: Global, row: &Row<'_>) -> Result<Vec<String>, NoMemory> {
@@ -10,7 +10,7 @@ pub fn arguments_of(alloc: Global, row: &Row<'_>) -> Result<Vec<String>, NoMemor
     if !row.has(b"arguments") {
         return Ok(args);
     }
-    for word in row.get(b"arguments").split(|byte| *byte == b' ') {
+    for word in words_of(row.get(b"arguments")) {
         let text = std::str::from_utf8(word).unwrap_or("");
         args.push(String::from_str(alloc, text)?)?;
     }

@@ -10,7 +10,7 @@ use shard_report::StopAudit;
 use std::alloc::Global;
 use std::io::{self, Read, Write};
 use std::rt::Files;
-use test_rows::{NoMemory, Row, put_decimal, put_line, put_number, says};
+use test_rows::{NoMemory, Row, put_decimal, put_line, put_number, says, words_of};
 
 /// Adds what the program says of an error, and its status.
 fn put_refusal(alloc: Global, error: &ServeError, out: &mut Vec<u8>) -> Result<(), NoMemory> {
@@ -59,7 +59,7 @@ fn put_checked<R: Files>(
 
 /// Adds where names are, and which pages there are.
 fn put_files(config: &Config, row: &Row<'_>, out: &mut Vec<u8>) -> Result<(), NoMemory> {
-    for name in row.get(b"names").split(|byte| *byte == b' ') {
+    for name in words_of(row.get(b"names")) {
         if let Some(address) = config.hosts.resolve(name, None) {
             out.extend_from_slice(name)?;
             put_number(out, b" is at", u64::from(address.ip().to_bits()))?;

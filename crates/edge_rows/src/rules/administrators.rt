@@ -1,7 +1,8 @@
-//! What an administrator's lines ask, and how a connection carries them; and requests for the counters over HTTP.
-use event_loop::{AdminInput, Asker, Speech, read_request};
+//! What an administrator's lines ask, and how a connection carries them; requests for the counters over HTTP; and what is shown of the
+//! exchanges of all threads.
+use event_loop::{AdminInput, Asker, Sheet, Speech, read_request, shown};
 use std::alloc::Global;
-use test_rows::{NoMemory, Scene, Values, put_flag, put_shown, wire};
+use test_rows::{NoMemory, Scene, Values, is, number, parts, put_flag, put_shown, wire, words_of};
 use wire_kit::{Answer, MemoryWire};
 
 /// No letter stands for a number here.
@@ -73,6 +74,44 @@ fn put_scrape(alloc: Global, scene: Scene<'_>, out: &mut Vec<u8>) -> Result<(), 
     }
 }
 
+/// Writes on a sheet what a word says: a line, as `3=a`, that a user is `idle`, or that a line is too `long`.
+fn write_word(sheet: &mut Sheet, word: &[u8]) -> Result<(), NoMemory> {
+    if is(word, b"idle") {
+        sheet.count_idle();
+    } else if is(word, b"long") {
+        let _ = sheet.begin_line(usize::MAX);
+    } else if let Some((still, line)) = parts(word, b'=') {
+        if let Some(text) = sheet.begin_line(line.len().saturating_add(1)) {
+            text.extend_from_slice(line)?;
+            text.extend_from_slice(b"\n")?;
+            sheet.end_line(number(still).unwrap_or(0));
+        }
+    }
+    Ok(())
+}
+
+/// Adds a thread, or has the last one write a word.
+fn add_word(alloc: Global, sheets: &mut Vec<Option<Sheet>>, word: &[u8]) -> Result<(), NoMemory> {
+    if is(word, b"thread") {
+        sheets.push(Some(Sheet::new(alloc)?))?;
+    } else if is(word, b"silent") {
+        sheets.push(None)?;
+    } else if let Some(Some(sheet)) = sheets.last_mut() {
+        write_word(sheet, word)?;
+    }
+    Ok(())
+}
+
+/// Adds what the administrator gets to see of the row's threads.
+fn put_overview(alloc: Global, scene: Scene<'_>, out: &mut Vec<u8>) -> Result<(), NoMemory> {
+    let mut sheets = Vec::new(alloc);
+    for word in words_of(scene.get(b"threads")) {
+        add_word(alloc, &mut sheets, word)?;
+    }
+    let text = shown(alloc, sheets.as_slice(), scene.is(b"order", b"waiting"))?;
+    out.extend_from_slice(text.as_slice())
+}
+
 /// Adds the answer to a row of these calls; nothing for another one.
 pub fn put_answer(alloc: Global, scene: Scene<'_>, out: &mut Vec<u8>) -> Result<(), NoMemory> {
     if scene.is(b"call", b"line") {
@@ -81,6 +120,8 @@ pub fn put_answer(alloc: Global, scene: Scene<'_>, out: &mut Vec<u8>) -> Result<
         put_connection(alloc, scene, out)
     } else if scene.is(b"call", b"scrape") {
         put_scrape(alloc, scene, out)
+    } else if scene.is(b"call", b"overview") {
+        put_overview(alloc, scene, out)
     } else {
         Ok(())
     }

@@ -4,7 +4,7 @@ ghost use Rattle.std.specs.Prelude.{◌≡◌, ◌≤◌, length};
 
 use crate::stage::shared::{Peer, Stage};
 use crate::stage::words::first_word;
-use test_rows::{Scene, Values, has_word, is, number_by};
+use test_rows::{Scene, Values, has_word, is, number_by, words_of};
 use wire_kit::{Got, Put, Wire};
 
 /// What the other end does.
@@ -92,7 +92,7 @@ fn read_act<'a>(scene: Scene<'a>, values: Values, word: &'a [u8]) -> Act<'a> {
 
 /// Whether some of these words have bytes taken again.
 fn takes_again(script: &[u8]) -> bool {
-    for word in script.split(|byte| *byte == b' ') {
+    for word in words_of(script) {
         if word.starts_with(b"takes") && !is(word, b"takes=0") {
             return true;
         }

@@ -3,7 +3,7 @@
 use crate::stage::shared::{Stage, Taken};
 use crate::stage::words::name_of;
 use exchange_core::Phase;
-use test_rows::{NoMemory, Scene, has_word, put_decimal, put_escaped, put_line};
+use test_rows::{NoMemory, Scene, has_word, put_decimal, put_escaped, put_line, words_of};
 
 /// How bytes begin, in the names of the row's texts.
 #[derive(Clone, Copy)]
@@ -20,7 +20,7 @@ enum Front<'a> {
 fn front_of<'a>(scene: Scene<'a>, bytes: &'a [u8]) -> Front<'a> {
     let mut front = Front::Unknown;
     let mut longest: usize = 0;
-    for name in scene.get(b"texts").split(|byte| *byte == b' ') {
+    for name in words_of(scene.get(b"texts")) {
         let text = scene.get(name);
         if text.len() > longest
             && let Some(rest) = bytes.strip_prefix(text)

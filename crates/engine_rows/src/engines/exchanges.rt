@@ -11,7 +11,7 @@ use span_tape::SpanTape;
 use std::alloc::Global;
 use test_rows::{
     NoMemory, Scene, Values, count_after, history, index_of, put_flag, put_line, put_number,
-    put_text, wire,
+    put_text, wire, words_of,
 };
 use trace_core::{Event, Plan, State};
 use wire_kit::{MemoryWire, Wire};
@@ -154,7 +154,7 @@ impl<'a, S: PlayedService> Exchange<'a, S> {
         kept: &mut Kept,
         out: &mut Vec<u8>,
     ) -> Result<(), NoMemory> {
-        for word in scene.get(b"steps").split(|byte| *byte == b' ') {
+        for word in words_of(scene.get(b"steps")) {
             self.play_step(scene, kept, word);
             if scene.has(b"counts") && word == b"write".as_slice() {
                 put_number(out, b"taken", self.service.taken().len() as u64)?;

@@ -5,7 +5,9 @@ use icap_head::is_still_front;
 use icap_server::{ServeFault, ServerFault, ServerSide, serve};
 use std::alloc::Global;
 use std::io::{self, ErrorKind, Read, Write};
-use test_rows::{NoMemory, Random, Scene, Values, put_flag, put_line, put_shown, put_text};
+use test_rows::{
+    NoMemory, Random, Scene, Values, lines_of, put_flag, put_line, put_shown, put_text,
+};
 use wire_kit::Answer;
 
 /// How a text is cut into pieces.
@@ -111,7 +113,7 @@ fn is_so_in_three(
 
 /// Adds the first lines of the ICAP answers in a text.
 fn put_first_lines(out: &mut Vec<u8>, text: &[u8]) -> Result<(), NoMemory> {
-    for line in text.split(|byte| *byte == b'\n') {
+    for line in lines_of(text) {
         if line.starts_with(b"ICAP/1.0 ") {
             put_line(out, line)?;
         }

@@ -3,7 +3,7 @@
 use std::alloc::Global;
 use std::time::Clock;
 use test_rows::{
-    NoMemory, Scene, Values, answers, put_flag, put_number, put_shown, put_text, wire,
+    NoMemory, Scene, Values, answers, put_flag, put_number, put_shown, put_text, wire, words_of,
 };
 use wire_kit::{Answers, Gate, HoldGate, MemoryWire, OpenGate, SharedWire, Wire};
 
@@ -46,7 +46,7 @@ pub fn put_wire(
 /// Adds what the calls answer, and what they left in the buffer.
 fn put_calls(wire: &mut MemoryWire, scene: Scene<'_>, out: &mut Vec<u8>) -> Result<(), NoMemory> {
     let mut buf = [0; 4];
-    for call in scene.get(b"calls").split(|byte| *byte == b' ') {
+    for call in words_of(scene.get(b"calls")) {
         put_call(wire, call, &mut buf, out)?;
     }
     put_shown(out, b"buffer", &buf)
@@ -61,7 +61,7 @@ fn put_both(
     out: &mut Vec<u8>,
 ) -> Result<(), NoMemory> {
     let mut buf = [0; 4];
-    for call in scene.get(b"calls").split(|byte| *byte == b' ') {
+    for call in words_of(scene.get(b"calls")) {
         if call == b"read".as_slice() {
             put_call(source, call, &mut buf, out)?;
         } else {
@@ -90,7 +90,7 @@ pub fn put_shared(
 /// Adds whether transactions may pass a gate: each step is a transaction's number, or `answered` once the second was answered.
 pub fn put_gate<R: Clock>(rt: &R, scene: Scene<'_>, out: &mut Vec<u8>) -> Result<(), NoMemory> {
     let gate = HoldGate::new();
-    for step in scene.get(b"steps").split(|byte| *byte == b' ') {
+    for step in words_of(scene.get(b"steps")) {
         match test_rows::number(step) {
             Some(number) => put_flag(out, step, gate.may_pass(rt, number))?,
             None if step == b"answered".as_slice() => gate.answered(),

@@ -5,7 +5,7 @@ use crate::turns::case::Case;
 use adapt_turn::{Side, TurnAnswer};
 use std::alloc::Global;
 use test_rows::{
-    NoMemory, Scene, Values, index_of, number_by, parts, put_line, put_number, put_shown,
+    NoMemory, Scene, Values, index_of, number_by, parts, put_line, put_number, put_shown, words_of,
 };
 
 /// Turns of each side.
@@ -22,7 +22,7 @@ struct Counted {
 /// The sides that a key lists: `source`, `service` and `hop`.
 fn order_of(alloc: Global, words: &[u8]) -> Result<Vec<Side>, NoMemory> {
     let mut order = Vec::new(alloc);
-    for word in words.split(|byte| *byte == b' ') {
+    for word in words_of(words) {
         if let Some(place) = index_of(b"source service hop", word)
             && let Some(side) = ROUND.get(place)
         {
@@ -35,7 +35,7 @@ fn order_of(alloc: Global, words: &[u8]) -> Result<Vec<Side>, NoMemory> {
 /// The turns that the key `first` lists, each of a side at a moment: `source@101`.
 pub fn first_turns(alloc: Global, scene: Scene<'_>) -> Result<Vec<(Side, u64)>, NoMemory> {
     let mut turns = Vec::new(alloc);
-    for word in scene.get(b"first").split(|byte| *byte == b' ') {
+    for word in words_of(scene.get(b"first")) {
         if let Some((name, moment)) = parts(word, b'@')
             && let Some(place) = index_of(b"source service hop", name)
             && let Some(side) = ROUND.get(place)
@@ -185,7 +185,7 @@ fn put_all_steps<G: Game>(
     case: &Case<'_>,
     out: &mut Vec<u8>,
 ) -> Result<(), NoMemory> {
-    for word in case.get(b"steps").split(|byte| *byte == b' ') {
+    for word in words_of(case.get(b"steps")) {
         put_step(game, orders, &case.values, word, out)?;
     }
     Ok(())

@@ -3,13 +3,13 @@
 use crate::stage::{Told, WireRecord};
 use crate::turns::case::Case;
 use adapt_turn::Outcome;
-use test_rows::{NoMemory, put_decimal, put_number, put_shown};
+use test_rows::{NoMemory, put_decimal, put_number, put_shown, words_of};
 use trace_core::Cause;
 use wire_kit::Calls;
 
 /// Whether these bytes are a prefix of a text that the row names, of at least a byte.
 fn is_prefix(case: &Case<'_>, bytes: &[u8]) -> bool {
-    for name in case.get(b"texts").split(|byte| *byte == b' ') {
+    for name in words_of(case.get(b"texts")) {
         if !bytes.is_empty() && case.get(name).starts_with(bytes) {
             return true;
         }

@@ -10,6 +10,7 @@ use crate::inbox::{Inbox, drain_all, stop_all};
 use crate::looping::EventLoop;
 use crate::work::Work;
 use std::sync::Wait;
+use std::time::Clock;
 
 /// What each connection asks for next, where it asks for something. `stop` and `drain` are done here, before any other is answered.
 fn hear_each(askers: &mut Askers, inboxes: &[Inbox]) -> [Option<Request>; MAX_ASKERS] {
@@ -28,7 +29,13 @@ fn hear_each(askers: &mut Askers, inboxes: &[Inbox]) -> [Option<Request>; MAX_AS
 }
 
 /// Hears the connections of one port, where one may have said more, and answers them.
-fn serve<K: Work, R: Wait>(rt: &R, work: &mut K, askers: &mut Askers, inboxes: &[Inbox], now: u64)
+fn serve<K: Work, R: Wait + Clock>(
+    rt: &R,
+    work: &mut K,
+    askers: &mut Askers,
+    inboxes: &[Inbox],
+    now: u64,
+)
     ensures { Answers K.Work work.old work.new }
 {
     if askers.catch_up() {
@@ -38,7 +45,7 @@ fn serve<K: Work, R: Wait>(rt: &R, work: &mut K, askers: &mut Askers, inboxes: &
 }
 
 /// Answers what each connection asks for. One for whose answer no memory is found is closed.
-fn answer_each<K: Work, R: Wait>(
+fn answer_each<K: Work, R: Wait + Clock>(
     rt: &R,
     work: &mut K,
     askers: &mut Askers,
@@ -61,7 +68,7 @@ fn answer_each<K: Work, R: Wait>(
 
 impl<K: Work> EventLoop<K> {
     /// Hears one line of each connection of the administrator that may have said more, and one request of those that read the counters.
-    pub(super) fn hear<R: Wait>(&mut self, rt: &R, inboxes: &[Inbox])
+    pub(super) fn hear<R: Wait + Clock>(&mut self, rt: &R, inboxes: &[Inbox])
         ensures { Did K.Work self.old self.new (λ deeds. ⊤) }
     {
         let now = self.now();

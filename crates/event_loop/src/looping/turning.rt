@@ -39,6 +39,7 @@ impl<K: Work> EventLoop<K> {
         self.wake_up(rt, woken)?;
         self.ask_ports(rt, alloc, number, inboxes);
         self.take_handed(rt, alloc, woken, number, inboxes)?;
+        self.answer_question(rt, number, inboxes);
         Ok(())
     }
 
@@ -80,6 +81,18 @@ impl<K: Work> EventLoop<K> {
             self.take_in(rt, number, inboxes, inboxes[number].take_all(rt, alloc))?;
         }
         Ok(())
+    }
+
+    /// Answers what the administrator wants to know of its exchanges, if it was asked. No lock is held while its work writes.
+    fn answer_question<R: Wait + Clock>(&self, rt: &R, number: usize, inboxes: &[Inbox])
+        requires { number < length inboxes.now }
+    {
+        let inbox = &inboxes[number];
+        if let Some((question, sheet)) = inbox.take_question(rt) {
+            let mut sheet = sheet;
+            self.work.show(rt, question, self.now(), &mut sheet);
+            inbox.lay_answer(rt, sheet);
+        }
     }
 
     /// Has its work make room for another user. False where there is none to be made.

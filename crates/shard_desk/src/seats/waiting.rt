@@ -1,6 +1,6 @@
 //! When a user's connections moved last, since when a message waits, and which wait is over.
 
-ghost use Rattle.std.specs.Prelude.{◌≡◌};
+ghost use Rattle.std.specs.Prelude.{◌≡◌, IfSome};
 
 use crate::seat::Seat;
 use crate::seats::Seats;
@@ -47,6 +47,16 @@ impl Seats {
     {
         if let Some(seat) = self.all.get_mut(key) {
             seat.moved = now;
+        }
+    }
+
+    /// When a byte moved last, or the exchange went on, in seconds. 0 where there is no seat.
+    pub fn moved(&self, key: usize) -> u64
+        ensures { IfSome (get self.now.all key) (λ seat. result ≡ seat.moved) }
+    {
+        match self.all.get(key) {
+            Some(seat) => seat.moved,
+            None => 0,
         }
     }
 

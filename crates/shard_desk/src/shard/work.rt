@@ -8,7 +8,7 @@ use crate::seating::Seating;
 use crate::seats::SECOND;
 use crate::shard::{Serving, Shard, turn_away};
 use crate::spot::Spot;
-use event_loop::{Admitted, Driven, Handed, Request, Told, Work};
+use event_loop::{Admitted, Driven, Handed, Question, Request, Sheet, Told, Work};
 use mio::Registry;
 use socket_wire::{Dial, Peer, Stream};
 use std::alloc::AllocError;
@@ -159,13 +159,22 @@ impl<'a, E: Exchanges + Drop, G: Gate> Work for Shard<'a, E, G> {
     }
 
     /// None comes here: the administrator has a loop of its own.
-    fn answer<R: Wait>(
+    fn answer<R: Wait + Clock>(
         &mut self,
         _rt: &R,
         _request: Request,
         _now: u64,
     ) -> Result<Vec<u8>, AllocError> {
         b"bad\n".to_vec(self.alloc)
+    }
+
+    /// What it drives, each exchange under its key.
+    fn show<R: Clock>(&self, rt: &R, question: Question, now: u64, sheet: &mut Sheet) {
+        for key in 0..self.slots.count() {
+            if let Some(exchange) = self.slots.get(key) {
+                self.exchanges.show(rt, key, exchange, question, now, sheet);
+            }
+        }
     }
 
     fn patience(&self) -> Option<u64> {

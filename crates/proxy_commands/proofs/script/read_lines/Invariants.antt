@@ -1,13 +1,13 @@
 use Rattle.std.proofs.Common.{List, ◌++◌, length}
 use Rattle.proxy_commands.specs.declared.script.Line.{Line as AnyLine}
-use Rattle.proxy_commands.specs.Lines.{lines_of}
+use Rattle.proxy_commands.specs.Lines.{lines_of, said}
 use Rattle.proxy_commands.specs.Script.{SaysLines}
 use Rattle.proxy_commands.proofs.script.read_lines.Given as goal
 
 abbrev pub invariant-loop-rest : goal.invariant-loop-rest
 invariant-loop-rest l = record {
-  left : (lines : List AnyLine) × SaysLines (lines_of l.rest) lines;
-  read : (more : List AnyLine) → SaysLines (lines_of l.rest) more → SaysLines (lines_of l.text) (l.lines.items ++ more);
+  left : (lines : List AnyLine) × SaysLines (said (lines_of l.rest)) lines;
+  read : (more : List AnyLine) → SaysLines (said (lines_of l.rest)) more → SaysLines (said (lines_of l.text)) (l.lines.items ++ more);
 }
 
 abbrev pub decreases-loop-rest : goal.decreases-loop-rest

@@ -6,7 +6,7 @@ use Rattle.exchange_core.specs.May.{is_refusing, is_gone}
 use Rattle.exchange_core.specs.declared.course.Course.{Course}
 use Rattle.exchange_core.specs.declared.due.Due.TheVariants.{Refuse}
 use Rattle.exchange_core.specs.declared.event.Event.TheVariants.{Late}
-use Rattle.shard_exchange.specs.declared.answers.Said.TheVariants.{Nothing}
+use Rattle.adapt_sides.specs.declared.saying.Said.TheVariants.{Nothing}
 use Rattle.shard_exchange.proofs.exchange.Exchange.write_refusal.Goals as goal
 
 -- a refusal is due in the midst of one alone

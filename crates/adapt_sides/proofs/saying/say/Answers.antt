@@ -3,7 +3,7 @@ use Rattle.std.proofs.lemmas.List.{length-drop}
 use Rattle.wire_kit.specs.declared.wire.Put.{Put}
 use Rattle.wire_kit.specs.declared.wire.Put.TheVariants as put
 use Rattle.wire_kit.specs.Past.{Past, FitsPut, after_write, Offers}
-use Rattle.shard_message.proofs.saying.say.Goals as goal
+use Rattle.adapt_sides.proofs.saying.say.Goals as goal
 
 -- what is left of a text was offered
 offers_rest : (old new : Past → Type 0) (rest left : List ℕ) (answer : Put) → rest ≡ left

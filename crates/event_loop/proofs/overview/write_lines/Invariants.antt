@@ -1,0 +1,6 @@
+use Rattle.std.proofs.Common.{◌≡◌, ◌++◌, drop, map}
+use Rattle.event_loop.specs.Overview.{seen, joined}
+use Rattle.event_loop.proofs.overview.write_lines.Given as goal
+
+abbrev pub invariant-loop-line : goal.invariant-loop-line
+invariant-loop-line l = l.out.items ++ joined (map seen (drop l.line-index l.lines)) ≡ l.initial.out.items ++ joined (map seen l.lines)

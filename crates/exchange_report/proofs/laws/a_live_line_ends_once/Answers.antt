@@ -1,0 +1,5 @@
+use Rattle.exchange_report.proofs.ScriptLines.{live_once}
+use Rattle.exchange_report.proofs.laws.a_live_line_ends_once.Goals as goal
+
+pub returns : goal.returns
+returns c = live_once
