@@ -3,6 +3,7 @@
 mod banks;
 mod memory;
 mod play;
+mod schedules;
 mod services;
 mod words;
 

@@ -3,7 +3,10 @@ ghost use Rattle.std.specs.Prelude.{◌≡◌};
 
 use crate::exchanges::memory::{Memory, RowOutside};
 use crate::exchanges::play::{Played, play_row};
-use crate::stage::{Ended, Peer, Stage, StageWire, TalkWire, put_ended};
+use crate::exchanges::schedules::{Came, play_both};
+use crate::stage::{
+    Ended, Peer, PolledWire, Stage, StageWire, TalkWire, put_ended, put_happenings,
+};
 use proxy_config::{Config, ConfigFault, read_config};
 use proxy_rules::Incoming;
 use shard_holdings::{Held, Holdings};
@@ -13,7 +16,7 @@ use std::boxed::Box;
 use std::marker::Brand;
 use std::sync::Wait;
 use std::sync::ledger::Ledger;
-use test_rows::{NoMemory, Scene, Values, put_line};
+use test_rows::{NoMemory, Scene, Values, number, parts, put_line, put_number};
 
 /// What is left of an exchange, which is over, or was stopped. Its reservation is closed.
 fn left_of<O: RowOutside, R: Wait>(
@@ -81,7 +84,7 @@ fn put_scene<B: Ledgers, R: Wait>(
     values: Values,
     out: &mut Vec<u8>,
 ) -> Result<(), NoMemory> {
-    let stage = Stage::new(alloc, scene);
+    let stage = Stage::new(alloc, scene, 0)?;
     let memory: Memory<'_, TalkWire<'_>, B> = Memory::new(
         alloc, &stage, scene, values, config, bank,
     );
@@ -94,6 +97,101 @@ fn put_scene<B: Ledgers, R: Wait>(
     }
 }
 
+/// Plays the schedule of a seed, of two exchanges or of one.
+fn came_of<O: RowOutside, R: Wait>(
+    rt: &R,
+    bank: &Bank<O::Ledgers>,
+    stage: &Stage,
+    scene: Scene<'_>,
+    values: Values,
+    users: (O::User, O::User),
+    messages: (Box<Incoming>, Box<Incoming>),
+    outsides: (O, O),
+) -> Came {
+    let one = Holdings::new(users.0, Some(messages.0));
+    let two = Holdings::new(users.1, Some(messages.1));
+    let (came, first, second) = play_both(rt, stage, scene, values, one, two, outsides);
+    left_of(rt, bank, first);
+    left_of(rt, bank, second);
+    came
+}
+
+/// Plays the schedule of a seed over two users' connections.
+fn play_pair<'a, W: StageWire<'a>, B: Ledgers, R: Wait>(
+    rt: &R,
+    alloc: Global,
+    bank: &Bank<B>,
+    stage: &'a Stage,
+    scene: Scene<'a>,
+    values: Values,
+    one: Memory<'a, W, B>,
+    two: Memory<'a, W, B>,
+) -> Result<Came, NoMemory> {
+    let first = Box::new(alloc, Incoming::request(alloc))?;
+    let second = Box::new(alloc, Incoming::request(alloc))?;
+    let user = W::open(stage, scene, values, Peer::User, b"user");
+    stage.turn_to(1, false);
+    let other = W::open(stage, scene, values, Peer::User, b"user 2");
+    Ok(came_of(
+        rt,
+        bank,
+        stage,
+        scene,
+        values,
+        (user, other),
+        (first, second),
+        (one, two),
+    ))
+}
+
+/// Plays the schedule of a seed, and adds what happened where the row asks for that.
+fn play_seed<B: Ledgers, R: Wait>(
+    rt: &R,
+    alloc: Global,
+    bank: &Bank<B>,
+    config: &Config,
+    scene: Scene<'_>,
+    values: Values,
+    seed: u64,
+    out: &mut Vec<u8>,
+) -> Result<Came, NoMemory> {
+    let stage = Stage::new(alloc, scene, seed)?;
+    let one: Memory<'_, PolledWire<'_>, B> = Memory::new(
+        alloc, &stage, scene, values, config, bank,
+    );
+    let two: Memory<'_, PolledWire<'_>, B> = Memory::new(
+        alloc, &stage, scene, values, config, bank,
+    );
+    let came = play_pair(rt, alloc, bank, &stage, scene, values, one, two)?;
+    put_happenings(out, &stage)?;
+    Ok(came)
+}
+
+/// Adds what the schedules of the row's seeds came to: the first that isn't as it should be, with its seed, or else that none is.
+fn put_seeds<B: Ledgers, R: Wait>(
+    rt: &R,
+    alloc: Global,
+    bank: &Bank<B>,
+    config: &Config,
+    scene: Scene<'_>,
+    values: Values,
+    out: &mut Vec<u8>,
+) -> Result<(), NoMemory> {
+    let (first, last) = parts(scene.get(b"seeds"), b'-').unwrap_or((b"", b""));
+    let first = number(first).unwrap_or(0);
+    let last = number(last).unwrap_or(0);
+    for seed in first..last {
+        match play_seed(rt, alloc, bank, config, scene, values, seed, out)? {
+            Came::Lost => return put_number(out, b"lost with seed", seed),
+            Came::On => return put_number(out, b"goes on and on with seed", seed),
+            Came::Rests => return put_number(out, b"rests with seed", seed),
+            Came::Over => {}
+        }
+    }
+    put_number(out, b"seeds", last.saturating_sub(first))?;
+    put_line(out, b"lost 0")
+}
+
 /// Adds what the row's exchange reports on this budget, of which another may hold the only slot.
 fn put_beside<B: Ledgers, R: Wait>(
     rt: &R,
@@ -104,6 +202,9 @@ fn put_beside<B: Ledgers, R: Wait>(
     values: Values,
     out: &mut Vec<u8>,
 ) -> Result<(), NoMemory> {
+    if scene.has(b"seeds") {
+        return put_seeds(rt, alloc, bank, config, scene, values, out);
+    }
     if scene.is(b"slot", b"taken")
         && let Ok(other) = bank.open(rt, 1)
     {

@@ -6,8 +6,8 @@ ghost use Rattle.shard_exchange.specs.Reasons.{lies_elsewhere};
 mod outside;
 
 use crate::exchanges::services::book_of;
-use crate::exchanges::words::{ORIGINS, SERVICES, either, key_of};
-use crate::stage::{Peer, Stage, StageWire, first_word};
+use crate::exchanges::words::either;
+use crate::stage::{ORIGINS, Peer, SERVICES, Stage, StageWire, first_word, key_of};
 use exchange_report::Why;
 use proxy_config::Config;
 use service_lines::{LendFault, PointBook};
@@ -16,7 +16,7 @@ use shard_message::{Kinds, Outside};
 use span_bank::{Bank, Ledgers};
 use std::alloc::Global;
 use std::net::SocketAddrV4;
-use test_rows::{Scene, Values};
+use test_rows::{Scene, Values, is};
 use trace_core::Point;
 use wire_kit::Wire;
 
@@ -179,13 +179,19 @@ impl<'a, W: StageWire<'a>, B: Ledgers> Memory<'a, W, B> {
     fn lease(&mut self, point: Point) -> Result<(W, Lease), LendFault>
         ensures { IfOk result (λ lent. lent.1.point ≡ point) }
     {
-        match self.next_lend() {
+        let word = self.next_lend();
+        match word {
             b"busy" => return Err(LendFault::Busy),
             b"unreached" => return Err(LendFault::Unreached),
             b"memory" => return Err(LendFault::NoMemory),
             b"paused" => return Err(LendFault::Paused),
-            b"idle" => return Ok((self.open_service(), lease_of(point, true))),
             _ => {}
+        }
+        if !self.stage.take_right() {
+            return Err(LendFault::Busy);
+        }
+        if is(word, b"idle") {
+            return Ok((self.open_service(), lease_of(point, true)));
         }
         Ok(match self.take_idle(point) {
             Some(wire) => (wire, lease_of(point, true)),

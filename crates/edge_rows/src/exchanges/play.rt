@@ -20,7 +20,7 @@ const STEPS: usize = 20_000;
 const WAITS: usize = 4;
 
 /// An exchange with its surroundings. What these are made of isn't seen by what plays a row.
-trait Live {
+pub trait Live {
     /// What the user's connection is in the midst of.
     fn phase(&self) -> Phase;
 
@@ -32,7 +32,8 @@ trait Live {
 }
 
 /// An exchange, and its surroundings.
-struct LiveExchange<H: Holder> {
+#[must_use]
+pub struct LiveExchange<H: Holder> {
     exchange: Exchange<H>,
     memory: H::Outside,
 }
@@ -62,6 +63,27 @@ pub struct Played<H: Holder> {
     pub memory: H::Outside,
 }
 
+impl<H: Holder> LiveExchange<H> {
+    /// An exchange at whose beginning this is held.
+    pub fn begin(holdings: H, memory: H::Outside) -> LiveExchange<H>
+        requires { IsFresh (H.hand holdings) }
+    {
+        let exchange = Exchange::begin(holdings);
+        LiveExchange { exchange, memory }
+    }
+
+    /// What is left of it.
+    pub fn into_played(self, ends: bool) -> Played<H> {
+        let LiveExchange { exchange, memory } = self;
+        Played {
+            ends,
+            phase: exchange.phase(),
+            holdings: exchange.into_holdings(),
+            memory,
+        }
+    }
+}
+
 /// Plays a row to its end, at whose beginning this is held.
 fn play_held<H: Effects<Moment>, R: Wait>(
     rt: &R,
@@ -73,16 +95,10 @@ fn play_held<H: Effects<Moment>, R: Wait>(
 ) -> Played<H>
     requires { IsFresh (H.hand holdings) }
 {
-    let exchange = Exchange::begin(holdings);
-    let mut play = Play::new(stage, scene, values, LiveExchange { exchange, memory });
+    let live = LiveExchange::begin(holdings, memory);
+    let mut play = Play::new(stage, scene, values, live);
     let ends = play.play(rt);
-    let LiveExchange { exchange, memory } = play.into_live();
-    Played {
-        ends,
-        phase: exchange.phase(),
-        holdings: exchange.into_holdings(),
-        memory,
-    }
+    play.into_live().into_played(ends)
 }
 
 /// Plays a row to its end, whose user has sent nothing yet.
@@ -113,7 +129,7 @@ struct Play<'a, X: Live> {
 }
 
 /// Nothing is late.
-const IN_TIME: Moment = Moment {
+pub const IN_TIME: Moment = Moment {
     late: false,
     rested: false,
     waited: false,

@@ -1,6 +1,7 @@
 //! What a row's connections share: the bytes that each took, what happened in which order, how often all have waited, and whether the
 //! user is owed an answer.
 
+use crate::stage::poll::Poll;
 use adapt_bytes::behind;
 use std::alloc::Global;
 use std::cell::{Cell, RefCell};
@@ -52,7 +53,9 @@ pub(crate) struct Taken {
 /// What a row's connections share.
 #[derive(Drop)]
 pub struct Stage {
-    alloc: Global,
+    pub(crate) alloc: Global,
+    /// The connections of a schedule, and who waits for one of a service.
+    pub(crate) poll: RefCell<Poll>,
     /// What each connection took, in the order in which they were opened.
     pub(crate) taken: RefCell<Vec<Taken>>,
     /// A line for each thing that happened, where the row asks for them, and for each phase that the exchange came to, where it
@@ -75,10 +78,11 @@ pub struct Stage {
 }
 
 impl Stage {
-    /// Before anything happened in a row, which tells what its key `tell` says.
-    pub fn new(alloc: Global, scene: Scene<'_>) -> Stage {
-        Stage {
+    /// Before anything happened in a row, which tells what its key `tell` says, with the chances of a seed.
+    pub fn new(alloc: Global, scene: Scene<'_>, seed: u64) -> Result<Stage, NoMemory> {
+        Ok(Stage {
             alloc,
+            poll: RefCell::new(Poll::new(alloc, scene, seed)?),
             taken: RefCell::new(Vec::new(alloc)),
             happenings: RefCell::new(Vec::new(alloc)),
             tells_happenings: has_word(scene.get(b"tell"), b"happenings"),
@@ -89,7 +93,7 @@ impl Stage {
             is_user_lost: Cell::new(false),
             is_over: Cell::new(false),
             is_short: Cell::new(false),
-        }
+        })
     }
 
     /// How often all have waited.

@@ -9,7 +9,7 @@ use wire_kit::{Got, Put, Wire};
 
 /// What the other end does.
 #[derive(Clone, Copy)]
-enum Act<'a> {
+pub(crate) enum Act<'a> {
     /// It gives these bytes.
     Gives(&'a [u8]),
     /// It waits until it has taken so many bytes since the last time.
@@ -74,7 +74,7 @@ fn named_text<'a>(scene: Scene<'a>, values: Values, word: &'a [u8]) -> &'a [u8] 
 
 /// What an act's word says: `<NAME` that a text is heard, `takes=NUMBER`, `takes`, `pause`, `ends`, `fails` and `stays`, and else the
 /// name of a text that is given.
-fn read_act<'a>(scene: Scene<'a>, values: Values, word: &'a [u8]) -> Act<'a> {
+pub(crate) fn read_act<'a>(scene: Scene<'a>, values: Values, word: &'a [u8]) -> Act<'a> {
     match word {
         b"" => Act::Rests,
         b"pause" => Act::Pauses,

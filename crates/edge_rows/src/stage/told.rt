@@ -90,7 +90,7 @@ fn put_all_taken(out: &mut Vec<u8>, scene: Scene<'_>, stage: &Stage) -> Result<(
 }
 
 /// Adds what happened.
-fn put_happenings(out: &mut Vec<u8>, stage: &Stage) -> Result<(), NoMemory> {
+pub fn put_happenings(out: &mut Vec<u8>, stage: &Stage) -> Result<(), NoMemory> {
     match stage.happenings.try_borrow() {
         Ok(happenings) => out.extend_from_slice(&happenings),
         Err(_) => put_line(out, b"what happened is in use"),

@@ -1,7 +1,32 @@
-//! The first word of a text, and the words of phases.
+//! The first word of a text, the words of phases, and the keys of what peers do.
 
+use crate::stage::shared::Peer;
 use exchange_core::Phase;
 use trace_core::Point;
+
+/// The keys of what services do, by the number of their connection.
+pub const SERVICES: [&[u8]; 4] = [b"service", b"service 2", b"service 3", b"service 4"];
+
+/// The keys of what origins do.
+pub const ORIGINS: [&[u8]; 4] = [b"origin", b"origin 2", b"origin 3", b"origin 4"];
+
+/// The key of this number, from 1 on.
+pub fn key_of(keys: &[&'static [u8]; 4], number: u64) -> &'static [u8] {
+    match usize::try_from(number.saturating_sub(1)) {
+        Ok(at) if at < 4 => keys[at],
+        _ => b"none",
+    }
+}
+
+/// The key of what a peer of an exchange does in a schedule: the second exchange has a user of its own.
+pub(crate) fn script_key(peer: Peer, exchange: usize) -> &'static [u8] {
+    match peer {
+        Peer::User if exchange == 0 => b"user",
+        Peer::User => b"user 2",
+        Peer::Origin(number) => key_of(&ORIGINS, number),
+        Peer::Service(number) => key_of(&SERVICES, number),
+    }
+}
 
 /// The first word of a text, and what comes after it.
 pub fn first_word(text: &[u8]) -> (&[u8], &[u8]) {

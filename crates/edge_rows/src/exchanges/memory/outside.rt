@@ -115,7 +115,7 @@ impl<'a, W: StageWire<'a>, B: Ledgers> Services<Moment> for Memory<'a, W, B> {
     }
 
     fn join_queue(&mut self, _at: &Moment, _point: Point) -> bool {
-        let joins = !self.scene.is(b"queue", b"full");
+        let joins = !self.scene.is(b"queue", b"full") && self.stage.join_queue();
         self.stage
             .note(either(joins, b"joins the queue", b"finds the queue full"));
         joins
@@ -123,6 +123,7 @@ impl<'a, W: StageWire<'a>, B: Ledgers> Services<Moment> for Memory<'a, W, B> {
 
     fn leave_queue(&mut self, _at: &Moment, _point: Point) {
         self.stage.note(b"leaves the queue");
+        self.stage.leave_queue();
     }
 
     fn reopen(&mut self, _at: &Moment, lease: &mut Lease) -> Result<W, LendFault> {
@@ -151,6 +152,7 @@ impl<'a, W: StageWire<'a>, B: Ledgers> Services<Moment> for Memory<'a, W, B> {
             Point::Reqmod => self.request_idle.push(connection),
             Point::Respmod => self.response_idle.push(connection),
         };
+        self.stage.put_right();
     }
 
     fn give_up(&mut self, _at: &Moment, lease: Lease) {
@@ -159,6 +161,7 @@ impl<'a, W: StageWire<'a>, B: Ledgers> Services<Moment> for Memory<'a, W, B> {
             reused: _,
         } = lease;
         self.stage.note(b"gives up the lease");
+        self.stage.put_right();
     }
 }
 
