@@ -449,7 +449,9 @@ def the_launcher_reloads(bench):
     text = 'listen = "127.0.0.1:%d"\nadmin = "127.0.0.1:%d"\n%%s\n[hosts]\n"o.test" = "127.0.0.1:%d"\n' % (port, free_port(), origin.port)
     path = folder.write("proxy.toml", text % "")
     launcher = subprocess.Popen(["sh", os.path.join(TOP, "packaging", "run"), path], stdout=subprocess.PIPE, stderr=subprocess.PIPE,
-                                stdin=subprocess.DEVNULL, env={**os.environ, "ADAPTPROXY": ADAPTPROXY})
+                                stdin=subprocess.DEVNULL, env={**os.environ, "ADAPTPROXY": ADAPTPROXY},
+                                # A shell heeds no signal that was ignored when it began, as SIGHUP is after `nohup`.
+                                preexec_fn=lambda: signal.signal(signal.SIGHUP, signal.SIG_DFL))
     same("listens", launcher.stdout.readline(), b"listening\n")
     for key_of, answer, status in (("deadline = 5", b"ok\n", 200), ("shards = 0", b"config shards\n", 200),
                                    ('denied = ["127.0.0.0/8"]', b"ok\n", 502), ("rows = 9", b"restart rows\n", 502), ("", b"ok\n", 200)):
