@@ -30,6 +30,14 @@ def is_on_page(one, text):
         same("its numbers, " + one.target, set(numbers), {tuple(str(number) for number in one[5:12])})
 
 
+def let_go(origin, users):
+    """Has the origin end its answers; the users read them to their end, and leave."""
+    origin.release.set()
+    for user in users:
+        user.reader.to_end()
+        user.close()
+
+
 @case
 def each_word_that_is_waited_for_is_on_its_pages(bench):
     with open(os.path.join(TOP, "crates", "exchange_report", "src", "awaited.rt"), encoding="utf-8") as file:
@@ -147,10 +155,7 @@ def lines_without_room_are_counted(bench):
     same("all", (len(found.all) + found.left_out, found.idle), (100, 0))
     same("as many as fit", (len(found.all) >= 50, found.left_out >= 20), (True, True))
     same("each once", len({one.id for one in found.all}), len(found.all))
-    origin.release.set()
-    for user in users:
-        user.reader.to_end()
-        user.close()
+    let_go(origin, users)
     same("book", settled(proxy)[:24], "rows 0 held 0 claimed 0 ")
     same("audit", proxy.stop(), IDLE)
 
@@ -190,10 +195,7 @@ def seventy_administrators_ask_at_once(bench):
     same("answers", len(answers), 70)
     same("all of them", {count for all_of, count, _ in answers if all_of}, {20})
     same("no silent thread", [silent for *_, silent in answers if silent], [])
-    origin.release.set()
-    for user in users:
-        user.reader.to_end()
-        user.close()
+    let_go(origin, users)
     same("audit", proxy.stop(), IDLE)
 
 
@@ -281,10 +283,7 @@ def a_thread_that_stands_still_is_named(bench):
     same("in time", (1.5 < late < 3.5, again < 0.5), (True, True))
     comes("it answers again", lambda: sorted(one.id for one in told(proxy).all) == sorted(one.id for one in found))
     same("nobody is silent", told(proxy).silent, [])
-    origin.release.set()
-    for user in users:
-        user.reader.to_end()
-        user.close()
+    let_go(origin, users)
     same("audit", proxy.stop(), IDLE)
 
 
