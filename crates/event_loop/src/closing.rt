@@ -1,5 +1,8 @@
 //! Closing a connection whose user may still be sending.
 
+ghost use Rattle.std.specs.Prelude.{◌≡◌, ◌<◌};
+ghost use Rattle.wire_kit.specs.Past.{Past};
+
 use wire_kit::{Got, Wire};
 
 /// Whether a connection may be closed now.
@@ -18,7 +21,10 @@ const READS: u32 = 16;
 
 /// Reads and drops what the user still sends, so that closing the connection doesn't take an answer away from it that is
 /// still on its way: a close with unread bytes resets the connection (RFC 9112, section 9.6).
-pub fn close_turn<W: Wire>(wire: &mut W, scratch: &mut [u8]) -> Closing {
+pub fn close_turn<W: Wire>(wire: &mut W, scratch: &mut [u8]) -> Closing
+    // A user that may still send had nothing now.
+    ensures waits { result ≡ Closing.Waiting → (p : Past) → W.past wire.old p → (q : Past) × W.past wire.new q × (p.read_waits < q.read_waits) }
+{
     if scratch.is_empty() {
         return Closing::Over;
     }

@@ -1,6 +1,6 @@
 //! A message whose head is read before its transaction: a user's request, or an origin's response to one.
 
-ghost use Rattle.std.specs.Prelude.{◌≡◌, ◌↔◌, ◌++◌, List, ℕ, [], true, false, None, Some, IfSome, IsSome, option_copied};
+ghost use Rattle.std.specs.Prelude.{◌≡◌, ◌↔◌, ◌++◌, List, ℕ, [], true, false, None, Some, Ok, IfSome, IsSome, option_copied};
 ghost use Rattle.trace_core.specs.History.{seen};
 ghost use Rattle.http_relay.specs.Source.{Agrees};
 ghost use Rattle.http_relay.specs.Reading.{ComesAgain, HeadTurn, request_of, response_of};
@@ -153,6 +153,7 @@ impl Incoming {
     /// Reads the message's head: Taken once it was read. One read of the wire at most, and one interim response. A fault stays.
     pub fn head_turn<W: Wire>(&mut self, wire: &mut W) -> Result<HeadProgress, RelayFault>
         ensures turn { self.old.side.fault ≡ None → self.old.side.head ≡ SourceHead.Unread → HeadTurn self.old.side self.new.side (W.past wire.old) (W.past wire.new) result }
+        ensures more { result ≡ Ok HeadProgress.More → (self.old.side.fault ≡ None) × (self.old.side.head ≡ SourceHead.Unread) }
         ensures came { (first : W) (ahead since beside : List ℕ) → Came W.Wire first ahead since beside self.old.side wire.old
             → (more : List ℕ) × Came W.Wire first ahead (since ++ more) beside self.new.side wire.new }
         ensures user { self.new.user ≡ self.old.user }

@@ -82,6 +82,7 @@ impl<B: Ledgers, W: Wires> Running<B, W> {
         ensures lasts { ⟦<Tx<B, OwnEnds<W>> as Lasting<W>>⟧.lasts (λ s. s) self.old.tx self.new.tx }
         ensures answers { ⟦<Tx<B, OwnEnds<W>> as Answering>⟧.answers self.old.tx side self.new.tx result }
         ensures keeps { ⟦<Tx<B, OwnEnds<W>> as Answering>⟧.keeps self.old.tx side self.new.tx }
+        ensures breaks { result ≡ TurnAnswer.Broken → self.new.tx.pace.broken ≡ true }
         ensures fails { (shows self.old.tx.hold.history).closed ≡ false → (cause : AnyCause) → self.new.tx.outcome ≡ outcomes.Fail cause
             → ⟦<Tx<B, OwnEnds<W>> as Answering>⟧.fails self.old.tx side now self.new.tx cause }
         ensures deadline { (shows self.old.tx.hold.history).closed ≡ false → self.old.tx.pace.last_moved + self.old.tx.pace.deadline ≤ now → self.new.tx.outcome ≡ outcomes.Fail Deadline }

@@ -86,6 +86,9 @@ pub trait Effects<P>: Holder {
     // it is there, beside its lease
     ghost has_line: { Self → Bool };
 
+    // the user had nothing now of what is dropped: what is held before that was read and after it
+    ghost sends_nothing: { Self → Self → Type 0 };
+
     // refusals of this status have this page
     ghost has_page: { Self.Outside → P → (status : ℕ) → List ℕ → Type 0 };
 
@@ -278,6 +281,7 @@ pub trait Effects<P>: Holder {
     /// Drops what the user still sends. At this course all is said to it.
     fn linger(&mut self, at: &P, out: &mut Self::Outside, course: &Exchange) -> Lingered
         requires silent { is_silent course.now.phase ≡ true }
+        ensures nothing { result ≡ Lingered.Waiting → sends_nothing self.old self.new }
         ensures kept { Keeps (Self.hand self.old) (Self.hand self.new) };
 
     /// The head of a request was read. Its user was told nothing yet.

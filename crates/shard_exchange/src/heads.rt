@@ -1,8 +1,9 @@
 //! Heads of messages: the user's requests, and the origins' responses.
 
-ghost use Rattle.std.specs.Prelude.{◌≡◌, if◌then◌else◌, Option as AnyOption};
+ghost use Rattle.std.specs.Prelude.{◌≡◌, if◌then◌else◌, Some, Option as AnyOption};
 ghost use Rattle.http_side.specs.declared.fault.HttpFault.{HttpFault as AnyHttpFault};
 ghost use Rattle.shard_exchange.specs.Reasons as reasons;
+ghost use Rattle.shard_exchange.specs.declared.answers.HeadTurn.TheVariants as head_turns;
 
 use crate::answers::{HeadTurn, Withdrawal};
 use crate::course::begin_head;
@@ -33,6 +34,7 @@ impl<H: Holder> Exchange<H> {
         ensures read { IsRequested H.reads H.has_begun (H.is_late out.old at.now) self.old.holdings self.old.course self.new.course }
         ensures goes { Goes self.old.course self.new.course }
         ensures heeds { Heeds (H.is_late out.new at.now) self.new.course result }
+        ensures rests { result ≡ Step.Waits → H.reads self.old.holdings self.new.holdings (Some head_turns.Nothing) }
     {
         let turn = self.holdings.read_request();
         self.take_request_turn(at, out, turn)
@@ -46,6 +48,7 @@ impl<H: Holder> Exchange<H> {
         ensures leads { RequestLeads (H.has_begun self.old.holdings) (H.is_late out.old at.now) self.old.course self.new.course turn }
         ensures goes { Goes self.old.course self.new.course }
         ensures heeds { Heeds (H.is_late out.new at.now) self.new.course result }
+        ensures rests { result ≡ Step.Waits → (turn ≡ Some head_turns.Nothing) × (self.new.holdings ≡ self.old.holdings) }
     {
         match turn {
             Some(HeadTurn::Whole) => self.has_request(at, out),
@@ -110,6 +113,7 @@ impl<H: Holder> Exchange<H> {
         ensures leads { SilenceLeads (H.has_begun self.old.holdings) (H.is_late out.old at.now) self.old.course self.new.course }
         ensures goes { Goes self.old.course self.new.course }
         ensures heeds { Heeds (H.is_late out.new at.now) self.new.course result }
+        ensures held { self.new.holdings ≡ self.old.holdings }
     {
         let is_silent = !self.holdings.has_begun();
         if is_silent && self.course.course().draining && H::has_rested(at, out) {
@@ -128,6 +132,7 @@ impl<H: Holder> Exchange<H> {
         ensures read { IsRead H.hears H.repeats H.withdraws (H.is_late out.old at.now) self.old.holdings self.old.course self.new.course }
         ensures goes { Goes self.old.course self.new.course }
         ensures heeds { Heeds (H.is_late out.new at.now) self.new.course result }
+        ensures rests { result ≡ Step.Waits → H.hears self.old.holdings self.new.holdings (Some head_turns.Nothing) }
     {
         let turn = self.holdings.read_response();
         self.take_turn(at, out, turn)
@@ -141,6 +146,7 @@ impl<H: Holder> Exchange<H> {
         ensures leads { TurnLeads (H.repeats self.old.holdings) (H.withdraws self.old.holdings) (H.is_late out.old at.now) self.old.course self.new.course turn }
         ensures goes { Goes self.old.course self.new.course }
         ensures heeds { Heeds (H.is_late out.new at.now) self.new.course result }
+        ensures rests { result ≡ Step.Waits → (turn ≡ Some head_turns.Nothing) × (self.new.holdings ≡ self.old.holdings) }
     {
         match turn {
             Some(HeadTurn::Whole) => self.has_response(at, out),
@@ -190,6 +196,7 @@ impl<H: Holder> Exchange<H> {
         ensures course { self.new.course ≡ (if H.is_late out.old at.now then after (heard_of self.old.course) (Failed Deadline) else heard_of self.old.course) }
         ensures goes { Goes self.old.course self.new.course }
         ensures heeds { Heeds (H.is_late out.new at.now) self.new.course result }
+        ensures no_wait { result ≡ Step.Waits → ⊥ }
     {
         self.note_heard();
         if H::is_late(at, out) {

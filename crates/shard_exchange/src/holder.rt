@@ -1,6 +1,6 @@
 //! What an exchange holds beside its course.
 
-ghost use Rattle.std.specs.Prelude.{◌≡◌, Bool, Option, true, false, IfSome};
+ghost use Rattle.std.specs.Prelude.{◌≡◌, Bool, Option, Some, true, false, IfSome};
 ghost use Rattle.exchange_core.specs.Dues.{due_of, is_for_telling};
 ghost use Rattle.exchange_core.specs.May.{is_gone};
 ghost use Rattle.icap_head.specs.Heads.{Response as AnyResponse};
@@ -59,6 +59,9 @@ pub trait Holder: InHand {
     // so does one at the head of the origin's response
     ghost hears: { Self → Self → Option AnyHeadTurn → Type 0 };
 
+    // a turn at asking a service for its options found nothing to read or to write now: what is held before it and after it
+    ghost hears_nothing: { Self → Self → Type 0 };
+
     // by whether a byte of an answer went to its user: that one's connection is cut, so that the user sees that the answer isn't whole
     ghost cut_is: { Self → (answered cut : Bool) → Type 0 };
 
@@ -91,7 +94,8 @@ pub trait Holder: InHand {
 
     /// A turn at asking the service for its options. `None` where nobody asks, or there is no connection for it.
     fn hear(&mut self) -> Option<OptionsTurn>
-        ensures { Keeps (Self.hand self.old) (Self.hand self.new) };
+        ensures nothing { result ≡ Some OptionsTurn.Nothing → hears_nothing self.old self.new }
+        ensures kept { Keeps (Self.hand self.old) (Self.hand self.new) };
 
     /// Tells the user to send its body, as far as it takes the text, from where the last call ended. At this course that is due.
     fn tell(&mut self, course: &Exchange) -> Said

@@ -105,6 +105,7 @@ impl<H: Holder> Exchange<H> {
             self.old.course self.new.course }
         ensures goes { Goes self.old.course self.new.course }
         ensures heeds { Heeds (H.is_late out.new at.now) self.new.course result }
+        ensures rests { result ≡ Step.Waits → (later : H.Outside) × H.fails later at.now LendFault.Busy }
     {
         let point = self.phase().point();
         match self.holdings.lend_in_turn(at, out, point) {

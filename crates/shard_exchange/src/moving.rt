@@ -1,6 +1,6 @@
 //! Messages that move: their transactions start, turn and end.
 
-ghost use Rattle.std.specs.Prelude.{◌≡◌, ◌⊎◌, ◌&&◌, ◌||◌, if◌then◌else◌, true, false, Option as AnyOption, Bool as AnyBool};
+ghost use Rattle.std.specs.Prelude.{◌≡◌, ◌⊎◌, ◌&&◌, ◌||◌, if◌then◌else◌, None, true, false, Option as AnyOption, Bool as AnyBool};
 
 use crate::answers::{Round, Started};
 use crate::course::tell;
@@ -75,6 +75,8 @@ impl<H: Holder> Exchange<H> {
             self.old.holdings self.old.course self.new.course }
         ensures goes { Goes self.old.course self.new.course }
         ensures heeds { Heeds (H.is_late out.new at.now) self.new.course result }
+        ensures rests { result ≡ Step.Waits → (turned : H) × (later : H.Outside) × H.rounds self.old.holdings turned out.old later at.now Round.Waiting
+            × H.frees turned self.new.holdings None }
     {
         match self.round(rt, at, out) {
             Round::Over => self.settle(rt, at, out, EndedBy::Itself),
@@ -134,6 +136,7 @@ impl<H: Holder> Exchange<H> {
         ensures served { IsServedBy (H.reusable self.old.holdings) self.old.course.connection self.new.course.connection }
         ensures kept { (self.new.course.phase ≡ self.old.course.phase) × (self.new.course.begun ≡ self.old.course.begun) }
         ensures none { result ≡ false → self.new.course ≡ self.old.course }
+        ensures still { result ≡ false → H.frees self.old.holdings self.new.holdings None }
     {
         let Some(usable) = self.holdings.free_service() else {
             return false;
@@ -154,6 +157,7 @@ impl<H: Holder> Exchange<H> {
         ensures freed { (usable : AnyOption AnyBool) × H.frees self.old.holdings self.new.holdings usable }
         ensures served { IsServedBy (H.reusable self.old.holdings) self.old.course.connection self.new.course.connection }
         ensures none { result ≡ false → self.new.course ≡ self.old.course }
+        ensures still { result ≡ false → H.frees self.old.holdings self.new.holdings None }
     {
         let begins = self.note_answer();
         let frees = self.note_service();

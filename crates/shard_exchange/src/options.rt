@@ -51,6 +51,7 @@ impl<H: Holder> Exchange<H> {
         ensures anew { IsAskedAnew (H.asks self.new.holdings out.new) (λ held. Renews H.leases held self.new.holdings) self.old.course self.new.course }
         ensures goes { Goes self.old.course self.new.course }
         ensures heeds { Heeds (H.is_late out.new at.now) self.new.course result }
+        ensures rests { result ≡ Step.Waits → H.hears_nothing self.old.holdings self.new.holdings }
     {
         match self.holdings.hear() {
             Some(OptionsTurn::More) => Step::On,

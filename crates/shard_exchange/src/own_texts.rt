@@ -21,7 +21,7 @@ impl<H: Holder> Exchange<H> {
     ghost use Rattle.exchange_core.specs.May.{is_gone};
     ghost use Rattle.exchange_core.specs.declared.due.Due.TheVariants as dues;
     ghost use Rattle.shard_exchange.specs.Hand.{Keeps};
-    ghost use Rattle.shard_exchange.specs.Saying.{LaysPage};
+    ghost use Rattle.shard_exchange.specs.Saying.{LaysPage, SaysOn, interim_text, refusal_by};
     ghost use Rattle.shard_exchange.specs.Ends.{IsOwed};
     ghost use Rattle.shard_exchange.specs.Outcomes.{SaysInterim, SaysRefusal};
     ghost use Rattle.shard_exchange.specs.Steps.{Heeds, is_moved};
@@ -113,6 +113,8 @@ impl<H: Holder> Exchange<H> {
         ensures says { SaysRefusal (H.user_past self.old.holdings) (H.user_past self.new.holdings) (H.hand self.old.holdings) (H.hand self.new.holdings) status self.new.course.phase }
         ensures goes { Goes self.old.course self.new.course }
         ensures heeds { Heeds (H.is_late out.new at.now) self.new.course result }
+        ensures rests { result ≡ Step.Waits → SaysOn (H.user_past self.old.holdings) (H.user_past self.new.holdings)
+            (refusal_by status (H.hand self.new.holdings).refused.page) (H.hand self.old.holdings).refused.out (H.hand self.new.holdings).refused.out Said.Nothing }
     {
         match self.holdings.refuse(at, out, &self.course, status) {
             Said::Whole => {
@@ -133,6 +135,7 @@ impl<H: Holder> Exchange<H> {
         ensures said { H.finished self.old.holdings ≡ false → H.finished self.new.holdings ≡ true }
         ensures goes { Goes self.old.course self.new.course }
         ensures heeds { Heeds (H.is_late out.new at.now) self.new.course result }
+        ensures rests { result ≡ Step.Waits → H.sends_nothing self.old.holdings self.new.holdings }
     {
         if self.holdings.is_finished() {
             return self.drop_rest(at, out);
@@ -148,6 +151,7 @@ impl<H: Holder> Exchange<H> {
         requires due { due_of self.old.course ≡ dues.Linger }
         ensures goes { Goes self.old.course self.new.course }
         ensures heeds { Heeds (H.is_late out.new at.now) self.new.course result }
+        ensures rests { result ≡ Step.Waits → H.sends_nothing self.old.holdings self.new.holdings }
     {
         let lingered = self.holdings.linger(at, out, &self.course);
         if lingered == Lingered::Over {
@@ -216,6 +220,8 @@ impl<H: Holder> Exchange<H> {
             (if H.is_late out.old at.now then after self.old.course (Failed causes.Deadline) else self.old.course) self.old.course self.new.course }
         ensures goes { Goes self.old.course self.new.course }
         ensures heeds { Heeds (H.is_late out.new at.now) self.new.course result }
+        ensures rests { result ≡ Step.Waits → SaysOn (H.user_past self.old.holdings) (H.user_past self.new.holdings) interim_text
+            (H.hand self.old.holdings).told (H.hand self.new.holdings).told Said.Nothing }
     {
         match self.holdings.tell(&self.course) {
             Said::Whole => self.has_told(),

@@ -1,6 +1,12 @@
 //! The steps of an exchange: what is due is done.
 
-ghost use Rattle.std.specs.Prelude.{◌≡◌, ◌↔◌, true, false};
+ghost use Rattle.std.specs.Prelude.{◌≡◌, ◌↔◌, ◌⊎◌, Some, None, true, false};
+ghost use Rattle.adapt_sides.specs.declared.saying.Said.TheVariants.{Nothing};
+ghost use Rattle.service_lines.specs.declared.connector.LendFault.TheVariants.{Busy};
+ghost use Rattle.shard_exchange.specs.declared.answers.HeadTurn.TheVariants as head_turns;
+ghost use Rattle.shard_exchange.specs.declared.answers.Round.TheVariants.{Waiting};
+ghost use Rattle.shard_exchange.specs.Resting.{RestsOn};
+ghost use Rattle.shard_exchange.specs.Saying.{SaysOn, interim_text, refusal_by};
 ghost use Rattle.shard_exchange.specs.Ends.{is_closing, moves, Halts};
 
 use crate::effects::Effects;
@@ -28,6 +34,19 @@ impl<H: Holder> Exchange<H> {
         ensures done { task ≡ Task.Step → IsDone self.old.course self.new.course }
         ensures late { task ≡ Task.Step → result ≡ Step.Waits → H.is_late out.new at.now ≡ false }
         ensures waits { task ≡ Task.Step → result ≡ Step.Waits → is_wait (due_of self.new.course) ≡ true }
+        // Who waits has tried what is due, and that came to nothing now; at its leave, to read what its user still sends.
+        ensures rests { result ≡ Step.Waits → RestsOn (record {
+          request = H.reads self.old.holdings self.new.holdings (Some head_turns.Nothing);
+          response = H.hears self.old.holdings self.new.holdings (Some head_turns.Nothing);
+          options = H.hears_nothing self.old.holdings self.new.holdings;
+          queue = (later : H.Outside) × H.fails later at.now Busy;
+          interim = SaysOn (H.user_past self.old.holdings) (H.user_past self.new.holdings) interim_text (H.hand self.old.holdings).told (H.hand self.new.holdings).told Nothing;
+          refusal = λ status. SaysOn (H.user_past self.old.holdings) (H.user_past self.new.holdings) (refusal_by status (H.hand self.new.holdings).refused.page)
+              (H.hand self.old.holdings).refused.out (H.hand self.new.holdings).refused.out Nothing;
+          turns = (turned : H) × (later : H.Outside) × H.rounds self.old.holdings turned out.old later at.now Waiting × H.frees turned self.new.holdings None;
+          rest = H.sends_nothing self.old.holdings self.new.holdings;
+        }) (due_of self.old.course)
+            ⊎ ((task ≡ Task.TakeLeave) × (held : H) × H.sends_nothing held self.new.holdings) }
         ensures over { result ≡ Step.Over → is_over self.new.course ≡ true }
         ensures lost { task ≡ Task.Lose → is_over self.new.course ≡ true }
         ensures does { task ≡ Task.Step → Does (IsRequested H.reads H.has_begun (H.is_late out.old at.now) self.old.holdings self.old.course self.new.course)
@@ -75,6 +94,17 @@ impl<H: Holder> Exchange<H> {
         ensures goes { GoesOn self.old.course self.new.course }
         ensures late { result ≡ Step.Waits → H.is_late out.new at.now ≡ false }
         ensures waits { result ≡ Step.Waits → is_wait (due_of self.new.course) ≡ true }
+        ensures rests { result ≡ Step.Waits → RestsOn (record {
+          request = H.reads self.old.holdings self.new.holdings (Some head_turns.Nothing);
+          response = H.hears self.old.holdings self.new.holdings (Some head_turns.Nothing);
+          options = H.hears_nothing self.old.holdings self.new.holdings;
+          queue = (later : H.Outside) × H.fails later at.now Busy;
+          interim = SaysOn (H.user_past self.old.holdings) (H.user_past self.new.holdings) interim_text (H.hand self.old.holdings).told (H.hand self.new.holdings).told Nothing;
+          refusal = λ status. SaysOn (H.user_past self.old.holdings) (H.user_past self.new.holdings) (refusal_by status (H.hand self.new.holdings).refused.page)
+              (H.hand self.old.holdings).refused.out (H.hand self.new.holdings).refused.out Nothing;
+          turns = (turned : H) × (later : H.Outside) × H.rounds self.old.holdings turned out.old later at.now Waiting × H.frees turned self.new.holdings None;
+          rest = H.sends_nothing self.old.holdings self.new.holdings;
+        }) (due_of self.old.course) }
         ensures over { result ≡ Step.Over ↔ is_over self.new.course ≡ true }
         ensures does { Does (IsRequested H.reads H.has_begun (H.is_late out.old at.now) self.old.holdings self.old.course self.new.course)
             (IsPlanned (H.plans self.old.holdings self.new.holdings out.old at.now) self.old.course self.new.course)
@@ -112,6 +142,17 @@ impl<H: Holder> Exchange<H> {
         H: Effects<P>,
         ensures goes { GoesOn self.old.course self.new.course }
         ensures heeds { Heeds (H.is_late out.new at.now) self.new.course result }
+        ensures rests { result ≡ Step.Waits → RestsOn (record {
+          request = H.reads self.old.holdings self.new.holdings (Some head_turns.Nothing);
+          response = H.hears self.old.holdings self.new.holdings (Some head_turns.Nothing);
+          options = H.hears_nothing self.old.holdings self.new.holdings;
+          queue = (later : H.Outside) × H.fails later at.now Busy;
+          interim = SaysOn (H.user_past self.old.holdings) (H.user_past self.new.holdings) interim_text (H.hand self.old.holdings).told (H.hand self.new.holdings).told Nothing;
+          refusal = λ status. SaysOn (H.user_past self.old.holdings) (H.user_past self.new.holdings) (refusal_by status (H.hand self.new.holdings).refused.page)
+              (H.hand self.old.holdings).refused.out (H.hand self.new.holdings).refused.out Nothing;
+          turns = (turned : H) × (later : H.Outside) × H.rounds self.old.holdings turned out.old later at.now Waiting × H.frees turned self.new.holdings None;
+          rest = H.sends_nothing self.old.holdings self.new.holdings;
+        }) (due_of self.old.course) }
         ensures does { Does (IsRequested H.reads H.has_begun (H.is_late out.old at.now) self.old.holdings self.old.course self.new.course)
             (IsPlanned (H.plans self.old.holdings self.new.holdings out.old at.now) self.old.course self.new.course)
             (IsLent (H.leases self.new.holdings) (λ out. H.fails out at.now) (λ out. H.joins out at.now) self.old.course self.new.course)

@@ -1,12 +1,13 @@
 //! The end of the proxy: exchanges stop, and their users get their refusals.
 
-ghost use Rattle.std.specs.Prelude.{◌≡◌, ◌&&◌, ◌||◌, Some, None, true, false};
+ghost use Rattle.std.specs.Prelude.{◌≡◌, ◌⊎◌, ◌&&◌, ◌||◌, ℕ, Some, None, true, false};
 ghost use Rattle.exchange_core.specs.declared.event.Event.TheVariants.{Stop};
 ghost use Rattle.exchange_core.specs.declared.due.Due.TheVariants as dues;
 ghost use Rattle.exchange_core.specs.May.{may_come, is_gone, is_head, is_idle, is_refusing};
 ghost use Rattle.exchange_core.specs.Dues.{due_of, is_over};
 ghost use Rattle.exchange_core.specs.Log.{Goes};
 ghost use Rattle.shard_exchange.specs.Ends.{moves, Frees, Halts, is_stopped};
+ghost use Rattle.shard_exchange.specs.Saying.{SaysOn, refusal_by};
 
 use crate::answers::Lingered;
 use crate::course::take_stop;
@@ -133,6 +134,7 @@ impl<H: Holder> Exchange<H> {
         ensures alone { moves self.old.course ≡ true → H.answered self.old.holdings ≡ true → is_refusing self.new.course.phase ≡ false }
         ensures gone { is_gone self.new.course.phase ≡ true → is_over self.new.course ≡ true }
         ensures over { result ≡ Step.Over → is_over self.new.course ≡ true }
+        ensures no_wait { result ≡ Step.Waits → ⊥ }
     {
         self.stop(rt, at, out);
         self.free_gone(rt, at, out);
@@ -157,6 +159,8 @@ impl<H: Holder> Exchange<H> {
         ensures goes { Goes self.old.course self.new.course }
         ensures over { result ≡ Said.Whole → is_over self.new.course ≡ true }
         ensures broken { result ≡ Said.Broken → is_over self.new.course ≡ true }
+        ensures nothing { result ≡ Said.Nothing → SaysOn (H.user_past self.old.holdings) (H.user_past self.new.holdings)
+            (refusal_by status (H.hand self.new.holdings).refused.page) (H.hand self.old.holdings).refused.out (H.hand self.new.holdings).refused.out Said.Nothing }
     {
         let said = self.holdings.refuse(at, out, &self.course, status);
         if matches!(said, Said::Whole | Said::Broken) {
@@ -175,6 +179,9 @@ impl<H: Holder> Exchange<H> {
         ensures goes { Goes self.old.course self.new.course }
         ensures on { result ≡ Some Step.Over → ⊥ }
         ensures gone { result ≡ None → is_gone self.new.course.phase ≡ true }
+        ensures rests { result ≡ Some Step.Waits → (status : ℕ) × (due_of self.old.course ≡ dues.TryRefusal status)
+            × SaysOn (H.user_past self.old.holdings) (H.user_past self.new.holdings)
+            (refusal_by status (H.hand self.new.holdings).refused.page) (H.hand self.old.holdings).refused.out (H.hand self.new.holdings).refused.out Said.Nothing }
     {
         // For the proof alone: this course is one that can be reached.
         let _ = self.course.course();
@@ -195,6 +202,7 @@ impl<H: Holder> Exchange<H> {
         requires gone { is_gone self.old.course.phase ≡ true }
         ensures goes { Goes self.old.course self.new.course }
         ensures over { result ≡ Step.Over → is_over self.new.course ≡ true }
+        ensures rests { result ≡ Step.Waits → (held : H) × H.sends_nothing held self.new.holdings }
     {
         if !self.holdings.is_finished() {
             self.holdings.close(at, &self.course);
@@ -216,6 +224,10 @@ impl<H: Holder> Exchange<H> {
         requires stopped { is_stopped self.old.course ≡ true }
         ensures goes { Goes self.old.course self.new.course }
         ensures over { result ≡ Step.Over → is_over self.new.course ≡ true }
+        ensures rests { result ≡ Step.Waits → ((status : ℕ) × (due_of self.old.course ≡ dues.TryRefusal status)
+            × SaysOn (H.user_past self.old.holdings) (H.user_past self.new.holdings)
+            (refusal_by status (H.hand self.new.holdings).refused.page) (H.hand self.old.holdings).refused.out (H.hand self.new.holdings).refused.out Said.Nothing)
+            ⊎ ((held : H) × H.sends_nothing held self.new.holdings) }
     {
         match self.take_refusal(rt, at, out) {
             Some(step) => step,

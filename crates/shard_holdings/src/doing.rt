@@ -12,7 +12,9 @@ ghost use Rattle.shard_holdings.specs.Settled.{LaysOrNot};
 ghost use Rattle.shard_holdings.specs.Started.{Starts};
 ghost use Rattle.shard_message.specs.Learning.{IsAsking, IsLearned};
 ghost use Rattle.shard_message.specs.Planning.{PlansBy};
+ghost use Rattle.shard_exchange.specs.Saying.{past_of};
 ghost use Rattle.shard_message.specs.Taking.{taken_if};
+ghost use Rattle.shard_message.specs.Waits.{GivesNone};
 
 use crate::holdings::Holdings;
 use adapt_sides::{ClientFault, Said};
@@ -92,6 +94,8 @@ impl<P, O: Outside<P>> Effects<P> for Holdings<O> {
     ghost puts = { λ held old new at. IfSome held.connection (λ leased. IfSome leased.wire (λ wire. O.puts old new at wire leased.lease)) };
 
     ghost has_line = { λ held. is_some (line_in (λ leased. leased.wire) held.connection) };
+
+    ghost sends_nothing = { λ old new. GivesNone (past_of O.User.past old.user) (past_of O.User.past new.user) };
 
     ghost has_page = { λ out at status page. O.has_page out at status page };
 

@@ -1,12 +1,16 @@
 //! What is done over what is held alone.
 
-ghost use Rattle.std.specs.Prelude.{◌≡◌, ◌++◌, ℕ, List, is_some, option_map, true, false, None, Some, IfSome, ⊤};
+ghost use Rattle.std.specs.Prelude.{◌≡◌, ◌++◌, ℕ, List, is_some, option_map, true, false, None, Some, IfSome, IsSomeAnd, ⊤};
 ghost use Rattle.proxy_rules.specs.Arrivals.{Came};
 ghost use Rattle.shard_message.specs.Ended.{HasGiven, HasGivenSince, IsBarred};
 ghost use Rattle.shard_message.specs.Outset.{BeginsClean, Outset};
 ghost use Rattle.shard_exchange.specs.Hand.{hand_of, refused_of};
 ghost use Rattle.shard_exchange.specs.Saying.{past_of};
+ghost use Rattle.icap_client.specs.declared.options.OptionsStage.TheVariants.{Over};
+ghost use Rattle.shard_exchange.specs.declared.answers.HeadTurn.TheVariants.{Nothing};
+ghost use Rattle.shard_message.specs.Lines.{line_in};
 ghost use Rattle.shard_message.specs.Usable.{usable_by};
+ghost use Rattle.shard_message.specs.Waits.{GivesNone, MovesNone};
 ghost use Rattle.shard_holdings.specs.Freed.{IsFreed};
 ghost use Rattle.shard_holdings.specs.Message.{has_come};
 ghost use Rattle.shard_holdings.specs.Settled.{WithdrawsAs};
@@ -67,11 +71,16 @@ impl<O: Kinds> Holder for Holdings<O> {
 
     ghost withdraws = { λ held came. WithdrawsAs (is_some held.message) (IfSome held.origin (λ origin. HasGivenSince O.Origin.past origin held.before.0)) came };
 
-    ghost reads = { λ old new turn. (new.origin ≡ old.origin) × (new.connection ≡ old.connection) × (new.before ≡ old.before) × IfSome old.message (λ m. IfSome old.user (λ w.
+    ghost reads = { λ old new turn. (new.origin ≡ old.origin) × (new.connection ≡ old.connection) × (new.before ≡ old.before)
+        × (turn ≡ Some Nothing → GivesNone (past_of O.User.past old.user) (past_of O.User.past new.user)) × IfSome old.message (λ m. IfSome old.user (λ w.
         (first : O.User) (ahead since beside : List ℕ) → Came O.User.Wire first ahead since beside m.value.side w
         → IfSome new.message (λ n. IfSome new.user (λ v. (more : List ℕ) × Came O.User.Wire first ahead (since ++ more) beside n.value.side v)))) };
 
-    ghost hears = { λ old new turn. (new.user ≡ old.user) × (new.connection ≡ old.connection) × (new.before ≡ old.before) × IfSome old.message (λ m. IfSome old.origin (λ w.
+    ghost hears_nothing = { λ old new. MovesNone (IsSomeAnd old.asking (λ side. side.value.stage ≡ Over))
+        (past_of O.Service.past (line_in (λ leased. leased.wire) old.connection)) (past_of O.Service.past (line_in (λ leased. leased.wire) new.connection)) };
+
+    ghost hears = { λ old new turn. (new.user ≡ old.user) × (new.connection ≡ old.connection) × (new.before ≡ old.before)
+        × (turn ≡ Some Nothing → GivesNone (past_of O.Origin.past old.origin) (past_of O.Origin.past new.origin)) × IfSome old.message (λ m. IfSome old.origin (λ w.
         (first : O.Origin) (ahead since beside : List ℕ) → Came O.Origin.Wire first ahead since beside m.value.side w
         → IfSome new.message (λ n. IfSome new.origin (λ v. (more : List ℕ) × Came O.Origin.Wire first ahead (since ++ more) beside n.value.side v)))) };
 

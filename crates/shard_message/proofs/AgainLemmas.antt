@@ -1,7 +1,7 @@
 -- A head that is read once more over a connection that gives nothing.
 use Rattle.std.proofs.Common.{◌≡◌, ℕ, List, [], ◌++◌, Option, Some, None, IfSome, refl, sym, ap, subst, ◌∙◌}
 use Rattle.std.proofs.lemmas.List.{append-nil}
-use Rattle.wire_kit.specs.Past.{Past, IsLater}
+use Rattle.wire_kit.specs.Past.{Past}
 use Rattle.http_relay.specs.declared.side.SourceSide.{SourceSide}
 use Rattle.http_relay.specs.Reading.{ComesAgain}
 use Rattle.proxy_rules.specs.Arrivals.{Arrival, HasCome}

@@ -1,5 +1,5 @@
 -- Where an answer begins.
-use Rattle.std.proofs.Common.{ℕ, List, [], Bool, true, false, Option, Some, None}
+use Rattle.std.proofs.Common.{ℕ, List, [], true, false, Option, Some, None}
 use Rattle.std.specs.Prelude.{Box}
 use Rattle.std.specs.declared.alloc.Global.{Global}
 use Rattle.wire_kit.specs.declared.wire.Wire.{Ghosts as Wire}

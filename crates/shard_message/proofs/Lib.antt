@@ -3,3 +3,4 @@ pub mod CleanLemmas
 pub mod NextLemmas
 pub mod OutsetLemmas
 pub mod RoundLemmas
+pub mod WaitLemmas

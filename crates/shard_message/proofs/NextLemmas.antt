@@ -1,9 +1,9 @@
 -- The message that comes next, and the end that is told.
-use Rattle.std.proofs.Common.{◌≡◌, ◌↔◌, Bool, true, false, Option, Some, None, is_some, refl, sym, ap, subst, ◌∙◌}
-use Rattle.std.specs.Prelude.{Box, ⊤}
+use Rattle.std.proofs.Common.{◌≡◌, ◌↔◌, Bool, true, false, Option, Some, None, is_some, refl, sym, subst, ◌∙◌}
+use Rattle.std.specs.Prelude.{Box}
 use Rattle.std.specs.declared.alloc.Global.{Global}
 use Rattle.trace_core.specs.declared.history.Cause.{Cause}
-use Rattle.trace_core.specs.declared.history.Cause.TheVariants.{Stopping, NextHop}
+use Rattle.trace_core.specs.declared.history.Cause.TheVariants.{Stopping}
 use Rattle.trace_core.specs.declared.history.Point.{Point}
 use Rattle.adapt_turn.specs.declared.turn.Outcome.{Outcome}
 use Rattle.adapt_turn.specs.declared.turn.Outcome.TheVariants.{Done, Fail}

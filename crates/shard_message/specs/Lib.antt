@@ -9,3 +9,4 @@ pub mod Lines
 pub mod Outset
 pub mod Rounds
 pub mod Told
+pub mod Waits

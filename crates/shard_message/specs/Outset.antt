@@ -1,5 +1,5 @@
 -- How a message set out, and what becomes of that.
-use Rattle.std.specs.Prelude.{◌≡◌, ⊤, ℕ, Bool, true, List, [], Option, None, Some, Box, IfSome}
+use Rattle.std.specs.Prelude.{◌≡◌, ⊤, ℕ, true, List, [], Option, None, Some, Box, IfSome}
 use Rattle.std.specs.declared.alloc.Global.{Global}
 use Rattle.trace_core.specs.declared.history.Point.{Point}
 use Rattle.trace_core.specs.declared.history.Point.TheVariants.{Reqmod, Respmod}

@@ -1,8 +1,10 @@
 -- Rounds of turns.
-use Rattle.std.specs.Prelude.{◌≡◌, ℕ, ◌≤◌, ◌⊎◌, ⊤, Bool, true, false, List, [], ◌∷◌, Option, Some, IfSome}
+use Rattle.std.specs.Prelude.{◌≡◌, ◌≤◌, ◌⊎◌, ⊤, Bool, true, false, List, [], ◌∷◌, Option, Some, IfSome}
 use Rattle.trace_core.specs.declared.history.Cause.TheVariants.{Memory}
 use Rattle.trace_core.specs.declared.history.Cause.TheVariants as causes
 use Rattle.trace_core.specs.declared.history.Event.TheVariants.{Retry}
+use Rattle.trace_core.specs.Legal.{MayFollow}
+use Rattle.plan_rules.specs.declared.pace.Pace.{Pace}
 use Rattle.adapt_hold.specs.Holding.{Holding, moved}
 use Rattle.adapt_turn.specs.declared.ends.ServiceEnd.{ServiceEnd}
 use Rattle.adapt_turn.specs.declared.turn.Outcome.{Outcome}
@@ -50,12 +52,16 @@ IsRound {T} turn over (side ∷ later) old new round =
     (((ends_round turned ≡ true) × (new ≡ mid) × (round ≡ turned)) ⊎ ((ends_round turned ≡ false) × ((rest : Round) × IsRound turn over later mid new rest × Adds turned rest round)))
 
 -- Where the service's connection broke: the request begins anew, over a connection that was opened for that, and not over the broken
--- one; or it fails for want of one. Where nothing is to be begun anew, nothing changes.
-abbrev pub IsRenewed : {V W : Type 0} → (opened : W → Type 0) → (old new : Holding) → Option (ServiceEnd V W) → Outcome → (same : Type 0) → Round → Type 0
-IsRenewed {V} {W} opened old new service outcome same rounds.Broken = (new ≡ moved old Retry []) × ((wire : W) × opened wire × IfSome service (λ line. line.wire ≡ Some wire))
-IsRenewed opened old new service outcome same rounds.Over = (outcome ≡ Fail Memory) ⊎ (outcome ≡ Fail causes.Service)
-IsRenewed opened old new service outcome same rounds.Waiting = same
-IsRenewed opened old new service outcome same (rounds.Moved framing) = ⊥
+-- one; or it fails for want of one.
+abbrev pub IsRenewed : {V W : Type 0} → (opened : W → Type 0) → (old new : Holding) → Option (ServiceEnd V W) → Outcome → Round → Type 0
+IsRenewed {V} {W} opened old new service outcome rounds.Broken = (new ≡ moved old Retry []) × ((wire : W) × opened wire × IfSome service (λ line. line.wire ≡ Some wire))
+IsRenewed opened old new service outcome rounds.Over = (outcome ≡ Fail Memory) ⊎ (outcome ≡ Fail causes.Service)
+IsRenewed opened old new service outcome rounds.Waiting = ⊥
+IsRenewed opened old new service outcome (rounds.Moved framing) = ⊥
+
+-- the connection to the service is known to be broken, and the request may begin anew
+abbrev pub MayRenew : Pace → Holding → Type 0
+MayRenew pace hold = (pace.broken ≡ true) × MayFollow hold.history.plan hold.history.events Retry
 
 abbrev pub is_broken : Round → Bool
 is_broken rounds.Broken = true

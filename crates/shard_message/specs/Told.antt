@@ -1,5 +1,5 @@
 -- What a transaction of the proxy's own sides says to the exchange that it belongs to.
-use Rattle.std.specs.Prelude.{◌≡◌, ℕ, Bool, true, false, not, ◌==◌, List, [], Option, None, Some}
+use Rattle.std.specs.Prelude.{◌≡◌, ℕ, Bool, false, not, ◌==◌, List, [], Option, None, Some}
 use Rattle.trace_core.specs.declared.history.Point.{Point}
 use Rattle.adapt_bytes.specs.Fields.{FieldList}
 use Rattle.adapt_turn.specs.declared.ends.ServiceEnd.{ServiceEnd}

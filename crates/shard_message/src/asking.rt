@@ -1,8 +1,12 @@
 //! A leased connection on which a service is asked for its options.
 
-ghost use Rattle.std.specs.Prelude.{◌≡◌, is_some, IfOk, IfErr, IfSome, IsSomeAnd, false, true};
+ghost use Rattle.std.specs.Prelude.{◌≡◌, is_some, Some, IfOk, IfErr, IfSome, IsSomeAnd, false, true};
 ghost use Rattle.shard_exchange.specs.Reasons.{lies_elsewhere};
+ghost use Rattle.icap_client.specs.declared.options.OptionsStage.TheVariants.{Over};
+ghost use Rattle.shard_exchange.specs.Saying.{past_of};
 ghost use Rattle.shard_message.specs.Learning.{IsAsking};
+ghost use Rattle.shard_message.specs.Lines.{line_in};
+ghost use Rattle.shard_message.specs.Waits.{MovesNone};
 
 use crate::connection::{Connection, lay_wire};
 use crate::options::{begin_asking, hear_turn};
@@ -18,7 +22,9 @@ pub fn hear_on<O: Kinds>(
     asking: &mut Option<Box<OptionsSide>>,
     connection: &mut Option<Connection<O>>,
 ) -> Option<OptionsTurn>
-    ensures { is_some connection.new ≡ is_some connection.old }
+    ensures there { is_some connection.new ≡ is_some connection.old }
+    ensures waits { result ≡ Some OptionsTurn.Nothing → MovesNone (IsSomeAnd asking.old (λ side. side.value.stage ≡ Over))
+        (past_of O.Service.past (line_in (λ leased. leased.wire) connection.old)) (past_of O.Service.past (line_in (λ leased. leased.wire) connection.new)) }
 {
     match (asking, connection) {
         (Some(side), Some(connection)) => match &mut connection.wire {

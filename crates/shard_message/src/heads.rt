@@ -1,7 +1,9 @@
 //! Heads of messages: the user's requests, and the origins' responses.
 
-ghost use Rattle.std.specs.Prelude.{◌≡◌, ◌++◌, ℕ, List, IfSome, is_some};
+ghost use Rattle.std.specs.Prelude.{◌≡◌, ◌++◌, ℕ, List, Some, IfSome, is_some};
 ghost use Rattle.proxy_rules.specs.Arrivals.{Came};
+ghost use Rattle.shard_exchange.specs.Saying.{past_of};
+ghost use Rattle.shard_message.specs.Waits.{GivesNone};
 
 use http_relay::HeadProgress;
 use http_side::HttpFault;
@@ -12,7 +14,9 @@ use wire_kit::Wire;
 
 /// What a turn means that read bytes of a head which isn't whole. After an interim response they count as one: an origin that never
 /// answers could send such heads in pieces for ever.
-fn part_of(message: &Incoming) -> HeadTurn {
+fn part_of(message: &Incoming) -> HeadTurn
+    ensures { result ≡ HeadTurn.Nothing → ⊥ }
+{
     if message.has_interims() {
         HeadTurn::Interim
     } else {
@@ -22,8 +26,9 @@ fn part_of(message: &Incoming) -> HeadTurn {
 
 /// A turn at a message's head over this wire.
 fn head_turn<W: Wire>(message: &mut Incoming, wire: &mut W) -> HeadTurn
-    ensures { (first : W) (ahead since beside : List ℕ) → Came W.Wire first ahead since beside message.old.side wire.old
+    ensures came { (first : W) (ahead since beside : List ℕ) → Came W.Wire first ahead since beside message.old.side wire.old
         → (more : List ℕ) × Came W.Wire first ahead (since ++ more) beside message.new.side wire.new }
+    ensures waits { result ≡ HeadTurn.Nothing → GivesNone (W.past wire.old) (W.past wire.new) }
 {
     let (before, _) = wire.counts();
     match message.head_turn(wire) {
@@ -45,6 +50,7 @@ pub fn turn_on<W: Wire>(
     // What the message has is what came over the connection since its first read.
     ensures came { IfSome message.old (λ m. IfSome wire.old (λ w. (first : W) (ahead since beside : List ℕ) → Came W.Wire first ahead since beside m.value.side w
         → IfSome message.new (λ n. IfSome wire.new (λ v. (more : List ℕ) × Came W.Wire first ahead (since ++ more) beside n.value.side v)))) }
+    ensures waits { result ≡ Some HeadTurn.Nothing → GivesNone (past_of W.past wire.old) (past_of W.past wire.new) }
 {
     match (message, wire) {
         (Some(message), Some(wire)) => Some(head_turn(message, wire)),

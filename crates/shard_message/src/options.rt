@@ -1,12 +1,15 @@
 //! Asking a service for its options.
 
-ghost use Rattle.std.specs.Prelude.{◌≡◌, IfOk, IfErr, IsSomeAnd, string_bytes, true};
+ghost use Rattle.std.specs.Prelude.{◌≡◌, IfOk, IfErr, IsSomeAnd, length, string_bytes, true, false};
+ghost use Rattle.wire_kit.specs.Past.{Past};
 ghost use Rattle.std.specs.Net.Socket.{v4_port};
 ghost use Rattle.icap_client.specs.Asking.{options_request};
 ghost use Rattle.icap_head.specs.Heads.{response_parts};
 ghost use Rattle.shard_exchange.specs.Reasons.{lies_elsewhere};
 ghost use Rattle.shard_message.specs.Learning.{IsAsking, IsLearned};
 ghost use Rattle.shard_message.specs.Usable.{usable_by};
+ghost use Rattle.icap_client.specs.declared.options.OptionsStage.TheVariants.{Over};
+ghost use Rattle.shard_message.specs.Waits.{MovesNone};
 
 use crate::outside::Outside;
 use crate::planning::service_of;
@@ -65,12 +68,21 @@ pub fn begin_asking<P, O: Outside<P>>(
     }
 }
 
+/// Whether a byte went over the wire since it had given and taken so many.
+fn has_moved<W: Wire>(wire: &W, before: (u64, u64)) -> bool
+    ensures still { result ≡ false → (p : Past) → W.past wire.now p → (length p.read ≡ before.0) × (length p.taken ≡ before.1) }
+{
+    wire.counts() != before
+}
+
 /// A turn at asking over this wire.
-pub fn hear_turn<W: Wire>(side: &mut OptionsSide, wire: &mut W) -> OptionsTurn {
+pub fn hear_turn<W: Wire>(side: &mut OptionsSide, wire: &mut W) -> OptionsTurn
+    ensures waits { result ≡ OptionsTurn.Nothing → MovesNone (side.old.stage ≡ Over) (W.past wire.old) (W.past wire.new) }
+{
     let before = wire.counts();
     match side.turn(wire) {
         Ok(Some(answer)) => OptionsTurn::Answer(answer),
-        Ok(None) if wire.counts() != before => OptionsTurn::More,
+        Ok(None) if has_moved(wire, before) => OptionsTurn::More,
         Ok(None) => OptionsTurn::Nothing,
         Err(fault) => OptionsTurn::Fault(fault),
     }

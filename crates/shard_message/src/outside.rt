@@ -14,6 +14,7 @@ ghost use Rattle.std.specs.declared.net.ipv4_addr.Ipv4Addr.{Ipv4Addr as AnyIp};
 ghost use Rattle.std.specs.declared.net.socket_addr.SocketAddrV4.{SocketAddrV4 as AnyAddress};
 ghost use Rattle.trace_core.specs.declared.history.Point.{Point as AnyPoint};
 ghost use Rattle.shard_message.specs.Taking.{taken_of};
+ghost use Rattle.shard_message.specs.Waits.{GivesNone};
 
 use crate::lasting::LastingOrigin;
 use crate::reusable::Reusable;
@@ -256,7 +257,8 @@ pub trait UserEnd: Kinds {
     fn cut(user: &Self::User);
 
     /// Reads and drops what the user still sends.
-    fn linger(&mut self, user: &mut Self::User) -> Lingered;
+    fn linger(&mut self, user: &mut Self::User) -> Lingered
+        ensures waits { result ≡ Lingered.Waiting → GivesNone (Self.User.past user.old) (Self.User.past user.new) };
 }
 
 /// What is noted of an exchange.

@@ -5,7 +5,7 @@ ghost use Rattle.adapt_turn.specs.declared.turn.Side.{Side as AnySide};
 ghost use Rattle.adapt_turn.specs.declared.turn.TurnAnswer.{TurnAnswer as AnyAnswer};
 ghost use Rattle.shard_exchange.specs.declared.answers.Round.{Round as AnyRound};
 ghost use Rattle.shard_message.specs.Outset.{IsLineAfter};
-ghost use Rattle.shard_message.specs.Rounds.{Adds, ComesTo, IsRenewed, IsRound, IsTurned, ends_round, in_turn};
+ghost use Rattle.shard_message.specs.Rounds.{Adds, ComesTo, IsRenewed, IsRound, IsTurned, MayRenew, ends_round, in_turn};
 
 use crate::connection::Connection;
 use crate::outside::Outside;
@@ -52,7 +52,7 @@ impl<B: Ledgers, W: Wires> Rounding<W> for Running<B, W> {
     ghost use Rattle.proxy_rules.specs.Since.{Snapshot};
 
     ghost rounds = { λ opened now old new round. ComesTo (IsRound (⟦<Running<B, W> as Turning>⟧.turned now) ⟦<Running<B, W> as Turning>⟧.is_over in_turn old)
-        (λ mid. IsRenewed opened mid.tx.hold new.tx.hold new.tx.ends.service new.tx.outcome (new ≡ mid)) new round };
+        (λ mid. IsRenewed opened mid.tx.hold new.tx.hold new.tx.ends.service new.tx.outcome) new round };
 
     ghost carries = { λ opened old new round. (s : Snapshot W.SourceWire W.ServiceWire W.NextWire) → ⟦<Tx<B, OwnEnds<W>> as Accounting<W>>⟧.since s old.tx
         → (line : Option W.ServiceWire) × (given : Option W.ServiceWire) × IsLineAfter opened round s.line s.given line given × ⟦<Tx<B, OwnEnds<W>> as Accounting<W>>⟧.since (record s { line = line; given = given }) new.tx };
@@ -77,6 +77,7 @@ fn turn_side<B: Ledgers, W: Wires, R: Wait>(
     now: u64,
 ) -> Round
     ensures turned { (answer : AnyAnswer) × ⟦<Running<B, W> as Turning>⟧.turned now tx.old side answer tx.new × IsTurned (⟦<Running<B, W> as Turning>⟧.is_over tx.new) answer result }
+    ensures broken { result ≡ Round.Broken → MayRenew tx.new.tx.pace tx.new.tx.hold }
     ensures lasts { ⟦<Tx<B, OwnEnds<W>> as Lasting<W>>⟧.lasts (λ s. s) tx.old.tx tx.new.tx }
 {
     let before = body_bytes(&tx.seen());
@@ -100,7 +101,8 @@ fn turn_side<B: Ledgers, W: Wires, R: Wait>(
 /// What a turn and those after it come to.
 fn joined(turned: Round, rest: Round) -> Round
     requires { ends_round turned ≡ false }
-    ensures { Adds turned rest result }
+    ensures adds { Adds turned rest result }
+    ensures broken { result ≡ Round.Broken → rest ≡ Round.Broken }
 {
     match (turned, rest) {
         (Round::Moved { framing }, Round::Moved { framing: more }) => Round::Moved {
@@ -127,6 +129,7 @@ fn turn_each<B: Ledgers, W: Wires, R: Wait>(
     now: u64,
 ) -> Round
     ensures turns { IsRound (⟦<Running<B, W> as Turning>⟧.turned now) ⟦<Running<B, W> as Turning>⟧.is_over sides.now tx.old tx.new result }
+    ensures broken { result ≡ Round.Broken → MayRenew tx.new.tx.pace tx.new.tx.hold }
     ensures lasts { ⟦<Tx<B, OwnEnds<W>> as Lasting<W>>⟧.lasts (λ s. s) tx.old.tx tx.new.tx }
 {
     match sides {
@@ -162,7 +165,7 @@ fn fresh<P, O: Outside<P>>(
     }
 }
 
-/// Has a request whose service's connection broke begin anew on a fresh one, if it may. Else it fails. The broken one is closed first:
+/// Has a request whose service's connection broke begin anew on a fresh one, where one may be had. Else it fails. The broken one is closed first:
 /// its descriptor is the one that the fresh one finds.
 fn renew<P, O: Outside<P>, W: Wires<ServiceWire = O::Service>, R: Wait>(
     rt: &R,
@@ -172,14 +175,12 @@ fn renew<P, O: Outside<P>, W: Wires<ServiceWire = O::Service>, R: Wait>(
     connection: &mut Option<Connection<O>>,
     may: bool,
 ) -> Round
+    requires broken { MayRenew tx.old.tx.pace tx.old.tx.hold }
     ensures leased { is_some connection.new ≡ is_some connection.old }
     ensures renewed { result ≡ Round.Broken → may ≡ true }
-    ensures anew { IsRenewed (O.is_opened out.new at.now) tx.old.tx.hold tx.new.tx.hold tx.new.tx.ends.service tx.new.tx.outcome (tx.new ≡ tx.old) result }
+    ensures anew { IsRenewed (O.is_opened out.new at.now) tx.old.tx.hold tx.new.tx.hold tx.new.tx.ends.service tx.new.tx.outcome result }
     ensures carries { ⟦<Running<O::Ledgers, W> as Rounding<W>>⟧.carries (O.is_opened out.new at.now) tx.old tx.new result }
 {
-    if !tx.is_broken() {
-        return Round::Waiting;
-    }
     drop(tx.take_broken());
     match fresh(at, out, connection, may) {
         Ok(wire) => {

@@ -1,5 +1,9 @@
 //! What an exchange has its surroundings do by its course: for a user that is refused or closes, and for a message that waits.
 
+ghost use Rattle.std.specs.Prelude.{◌≡◌};
+ghost use Rattle.shard_exchange.specs.Saying.{past_of};
+ghost use Rattle.shard_message.specs.Waits.{GivesNone};
+
 use crate::outside::Outside;
 use exchange_core::{Exchange, Phase};
 use proxy_rules::Incoming;
@@ -35,7 +39,9 @@ pub fn finish_user<P, O: Outside<P>>(user: &Option<O::User>) {
 }
 
 /// Drops what a user still sends.
-pub fn linger_on<P, O: Outside<P>>(user: &mut Option<O::User>, out: &mut O) -> Lingered {
+pub fn linger_on<P, O: Outside<P>>(user: &mut Option<O::User>, out: &mut O) -> Lingered
+    ensures waits { result ≡ Lingered.Waiting → GivesNone (past_of O.User.past user.old) (past_of O.User.past user.new) }
+{
     match user {
         Some(user) => out.linger(user),
         None => Lingered::Over,

@@ -3,6 +3,7 @@
 ghost use Rattle.std.specs.Prelude.{◌≡◌, IfOk, IfErr, true, ⊤};
 ghost use Rattle.exchange_core.specs.declared.dialing.Dialing.TheVariants.{KeptFirst};
 ghost use Rattle.shard_exchange.specs.Reasons.{lies_elsewhere};
+ghost use Rattle.shard_message.specs.Waits.{GivesNone};
 
 use crate::exchanges::memory::{Lease, Memory, Moment};
 use crate::exchanges::services::NOW;
@@ -222,16 +223,23 @@ impl<'a, W: StageWire<'a>, B: Ledgers> UserEnd for Memory<'a, W, B> {
     }
 
     fn linger(&mut self, user: &mut W) -> Lingered {
-        let mut scratch = [0; 64];
-        for _ in 0..4 {
-            match user.try_read(&mut scratch) {
-                Got::Bytes(_) => {}
-                Got::Wait => return Lingered::Waiting,
-                Got::Ended | Got::Fault => return Lingered::Over,
-            }
-        }
-        Lingered::CutShort
+        drop_sent(user)
     }
+}
+
+/// Reads and drops what a user still sends, in four reads of 64 bytes at most.
+fn drop_sent<W: Wire>(user: &mut W) -> Lingered
+    ensures { result ≡ Lingered.Waiting → GivesNone (W.past user.old) (W.past user.new) }
+{
+    let mut scratch = [0; 64];
+    for _ in 0..4 {
+        match user.try_read(&mut scratch) {
+            Got::Bytes(_) => {}
+            Got::Wait => return Lingered::Waiting,
+            Got::Ended | Got::Fault => return Lingered::Over,
+        }
+    }
+    Lingered::CutShort
 }
 
 /// The key of a row that says the page of a status.

@@ -2,7 +2,7 @@
 use Rattle.std.proofs.Common.{◌≡◌, true, false, rules, refl, sym, ◌∙◌, inr}
 use Rattle.http_side.specs.declared.forward.Forward.{Forward}
 use Rattle.http_side.specs.declared.forward.Message.TheVariants.{Request}
-use Rattle.proxy_rules.specs.Onward.{IsRequest, suits}
+use Rattle.proxy_rules.specs.Onward.{IsRequest}
 use Rattle.proxy_rules.proofs.OnwardLemmas.{goes_on}
 use Rattle.proxy_rules.proofs.onward.request_onward.Goals as goal
 

@@ -9,7 +9,7 @@ returns-clause-came g c =
       | in-Some-Some w ↦
           rw (w.in-Some-Some.is-0, w.in-Some-Some.is-1, w.message-is, w.wire-is)
           (λ first ahead since beside came.
-          w.head_turn.ensures first ahead since beside (rw w.deref_mut.ensures.value came))
+          w.head_turn.ensures.came first ahead since beside (rw w.deref_mut.ensures.value came))
       | in_default w ↦ rw (w.in_default.is-0, w.in_default.is-1) tt
       | in_default-2 w ↦ rw w.in_default.is-0 tt
     ]
