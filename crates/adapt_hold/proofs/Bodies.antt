@@ -119,37 +119,37 @@ pub record Fits (h : Holding) (event : Event) (bytes : List ℕ) : Type 0 where
   pub roomy : IsRoomy (moved h event bytes)
 
 pub fits : (h : Holding) (event : Event) (bytes : List ℕ) → IsTied h → IsRoomy h → MayFollow h.history.plan h.history.events event
-    → IsWithinRoom (shows h.history) h.claim h.limits.window event → Fits h event bytes
+    → IsWithinRoom (shows h.history) h.claim h.limits.window h.limits.turn event → Fits h event bytes
 fits h event bytes t r m w =
     let x : Seen = shows h.history in
     let held : held_places x ≤ h.claim = let q = held_before h t in let v = t.within in omega arith in
     let paced : Paces x h.claim h.limits.window = record { held = held; roomy = r } in
-    let next = paces-step x event h.claim h.limits.window (ends h t).sound m.0 m.1 w paced in
+    let next = paces-step x event h.claim h.limits.window h.limits.turn (ends h t).sound m.0 m.1 w paced in
     record { held = next.held; roomy = roomy_then h event bytes t m next.roomy }
 
-pub none_needs_room : (x : Seen) (claim window : ℕ) (event : Event) → BringsNone event → IsWithinRoom x claim window event
-none_needs_room x claim window (In n) b = elim b [ ]
-none_needs_room x claim window (Ad n) b = elim b [ ]
-none_needs_room x claim window End b = tt
-none_needs_room x claim window (Svc n) b = tt
-none_needs_room x claim window Stop b = tt
-none_needs_room x claim window Heard b = tt
-none_needs_room x claim window Continue b = tt
-none_needs_room x claim window NoMod b = tt
-none_needs_room x claim window (Mod payload) b = tt
-none_needs_room x claim window AdEnd b = tt
-none_needs_room x claim window (Usr n) b = tt
-none_needs_room x claim window Done b = tt
-none_needs_room x claim window (Fail cause) b = tt
-none_needs_room x claim window Retry b = tt
+pub none_needs_room : (x : Seen) (claim window turn : ℕ) (event : Event) → BringsNone event → IsWithinRoom x claim window turn event
+none_needs_room x claim window turn (In n) b = elim b [ ]
+none_needs_room x claim window turn (Ad n) b = elim b [ ]
+none_needs_room x claim window turn End b = tt
+none_needs_room x claim window turn (Svc n) b = tt
+none_needs_room x claim window turn Stop b = tt
+none_needs_room x claim window turn Heard b = tt
+none_needs_room x claim window turn Continue b = tt
+none_needs_room x claim window turn NoMod b = tt
+none_needs_room x claim window turn (Mod payload) b = tt
+none_needs_room x claim window turn AdEnd b = tt
+none_needs_room x claim window turn (Usr n) b = tt
+none_needs_room x claim window turn Done b = tt
+none_needs_room x claim window turn (Fail cause) b = tt
+none_needs_room x claim window turn Retry b = tt
 
-pub room_in : (h : Holding) (n : ℕ) (bytes : List ℕ) → IsTied h → IsRoomy h → MayFollow h.history.plan h.history.events (In n) → n ≤ original_room (shows h.history) h.claim h.limits.window
+pub room_in : (h : Holding) (n : ℕ) (bytes : List ℕ) → IsTied h → IsRoomy h → MayFollow h.history.plan h.history.events (In n) → n ≤ original_room (shows h.history) h.claim h.limits.window h.limits.turn
     → (held_places (shows_then h.history (In n)) ≤ h.claim) × IsRoomy (moved h (In n) bytes)
 room_in h n bytes t r m w = let f = fits h (In n) bytes t r m w in (f.held, f.roomy)
 
-pub room_ad : (h : Holding) (n : ℕ) (bytes : List ℕ) → IsTied h → IsRoomy h → MayFollow h.history.plan h.history.events (Ad n) → n ≤ adapted_room (shows h.history) h.limits.window
+pub room_ad : (h : Holding) (n : ℕ) (bytes : List ℕ) → IsTied h → IsRoomy h → MayFollow h.history.plan h.history.events (Ad n) → n ≤ adapted_room (shows h.history) h.limits.window h.limits.turn
     → (held_places (shows_then h.history (Ad n)) ≤ h.claim) × IsRoomy (moved h (Ad n) bytes)
 room_ad h n bytes t r m w = let f = fits h (Ad n) bytes t r m w in (f.held, f.roomy)
 
 pub room_others : (h : Holding) (event : Event) → IsTied h → IsRoomy h → MayFollow h.history.plan h.history.events event → BringsNone event → IsRoomy (moved h event [])
-room_others h event t r m b = (fits h event [] t r m (none_needs_room (shows h.history) h.claim h.limits.window event b)).roomy
+room_others h event t r m b = (fits h event [] t r m (none_needs_room (shows h.history) h.claim h.limits.window h.limits.turn event b)).roomy

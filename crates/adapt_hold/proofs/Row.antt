@@ -10,6 +10,7 @@ use Rattle.trace_core.specs.View.{after}
 use Rattle.trace_core.specs.Faults.{first_fault}
 use Rattle.trace_core.proofs.Answered.{refused}
 use Rattle.plan_rules.specs.Room.{claim_then, IsWithinRoom}
+use Rattle.plan_rules.specs.declared.limits.Limits.{Limits}
 use Rattle.trace_core.specs.Turns.{after_all, MayAllFollow}
 use Rattle.trace_core.specs.Held.{held_places}
 use Rattle.trace_core.specs.declared.history.StepFault.{StepFault}
@@ -40,7 +41,7 @@ others_stay h event bytes t r m b z =
 
 -- one event within its room keeps a holding tied and roomy
 pub stays : (h : Holding) (event : Event) (bytes : List ℕ) → IsTied h → IsRoomy h → MayFollow h.history.plan h.history.events event
-    → length bytes ≡ brought event → IsWithinRoom (shows h.history) h.claim h.limits.window event → Stays h event bytes
+    → length bytes ≡ brought event → IsWithinRoom (shows h.history) h.claim h.limits.window h.limits.turn event → Stays h event bytes
 stays h (In n) bytes t r m b w =
     let k : length bytes ≡ n = omega (arith, b) in
     let s = brings h (In n) bytes m k in
@@ -91,7 +92,7 @@ take_length : (n m : ℕ) (bs : List ℕ) → n + m ≤ length bs → Cut n m bs
 take_length n m bs e = record { own = length-take-le n bs (omega (arith, e)); others = let d = length-drop n bs in omega (arith, d, e) }
 
 pub ran : (h : Holding) (events : List Event) (bytes : List ℕ) → IsTied h → IsRoomy h → MayAllFollow (shows h.history) events
-    → brought_all events ≤ length bytes → HasRoomFor (shows h.history) h.claim h.limits.window events → Ran h events bytes
+    → brought_all events ≤ length bytes → HasRoomFor (shows h.history) h.claim h.limits.window h.limits.turn events → Ran h events bytes
 ran h [] bytes t r m b w = record {
   tied = t;
   roomy = r;
@@ -111,7 +112,7 @@ ran h (event ∷ events) bytes t r m b w =
     let rest = ran stepped events others s.tied s.roomy
     (subst (λ (x : Seen). MayAllFollow x events) (sym same) m.2)
     lengths.others
-    (subst (λ (x : Seen). HasRoomFor x stepped.claim stepped.limits.window events) (sym same) w.1) in
+    (subst (λ (x : Seen). HasRoomFor x stepped.claim stepped.limits.window stepped.limits.turn events) (sym same) w.1) in
     record {
       tied = rest.tied;
       roomy = rest.roomy;
@@ -144,7 +145,7 @@ brings_length (Usr n) bytes b = elim b [ ]
 brings_length Done bytes b = elim b [ ]
 brings_length (Fail cause) bytes b = elim b [ ]
 
-pub fits_in : (h : Holding) (event : Event) (bytes : List ℕ) → IsTied h → IsRoomy h → Brings event bytes → IsWithinRoom (shows h.history) h.claim h.limits.window event
+pub fits_in : (h : Holding) (event : Event) (bytes : List ℕ) → IsTied h → IsRoomy h → Brings event bytes → IsWithinRoom (shows h.history) h.claim h.limits.window h.limits.turn event
     → MayFollow h.history.plan h.history.events event → held_places (shows_then h.history event) ≤ h.claim
 fits_in h (In n) bytes t r b w m = (room_in h n bytes t r m w).0
 fits_in h (Ad n) bytes t r b w m = (room_ad h n bytes t r m w).0
@@ -161,7 +162,7 @@ fits_in h (Usr n) bytes t r b w m = elim b [ ]
 fits_in h Done bytes t r b w m = elim b [ ]
 fits_in h (Fail cause) bytes t r b w m = elim b [ ]
 
-pub brought_roomy : (h k : Holding) (event : Event) (bytes : List ℕ) → IsTied h → IsRoomy h → Brings event bytes → IsWithinRoom (shows h.history) h.claim h.limits.window event
+pub brought_roomy : (h k : Holding) (event : Event) (bytes : List ℕ) → IsTied h → IsRoomy h → Brings event bytes → IsWithinRoom (shows h.history) h.claim h.limits.window h.limits.turn event
     → MayFollow h.history.plan h.history.events event → k ≡ moved h event bytes → IsRoomy k
 brought_roomy h k event bytes t r b w m e = subst (λ (x : Holding). IsRoomy x) (sym e) (stays h event bytes t r m (brings_length event bytes b) w).roomy
 
@@ -181,13 +182,13 @@ run_rest h k event events bytes own others t m o d e r =
     let same : shows k.history ≡ after (shows h.history) event =
     ap (λ (x : Holding). shows x.history) e ∙ then_shows h event (history_then h.history event) t (m.may.0, m.may.1) refl in
     let claim : k.claim ≡ claim_then (after (shows h.history) event) event h.claim h.limits.window = ap (λ (x : Holding). x.claim) e in
-    let window : k.limits.window ≡ h.limits.window = ap (λ (x : Holding). x.limits.window) e in
+    let limits : k.limits ≡ h.limits = ap (λ (x : Holding). x.limits) e in
     record {
       may = subst (λ (x : Seen). MayAllFollow x events) (sym same) m.may.2;
       carried = subst (λ (bs : List ℕ). brought_all events ≤ length bs) (sym d) lengths.others;
-      room = subst (λ (x : Seen). HasRoomFor x k.claim k.limits.window events) (sym same)
-          (subst (λ (c : ℕ). HasRoomFor (after (shows h.history) event) c k.limits.window events) (sym claim)
-          (subst (λ (c : ℕ). HasRoomFor (after (shows h.history) event) (claim_then (after (shows h.history) event) event h.claim h.limits.window) c events) (sym window) m.room.1));
+      room = subst (λ (x : Seen). HasRoomFor x k.claim k.limits.window k.limits.turn events) (sym same)
+          (subst (λ (c : ℕ). HasRoomFor (after (shows h.history) event) c k.limits.window k.limits.turn events) (sym claim)
+          (subst (λ (l : Limits). HasRoomFor (after (shows h.history) event) (claim_then (after (shows h.history) event) event h.claim h.limits.window) l.window l.turn events) (sym limits) m.room.1));
       roomy = r;
     }
 

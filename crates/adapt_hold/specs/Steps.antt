@@ -17,10 +17,10 @@ brought_all [] = 0
 brought_all (event ∷ events) = brought event + brought_all events
 
 -- each brings no more than its room
-abbrev pub HasRoomFor : Seen → ℕ → ℕ → List Event → Type 0
-HasRoomFor x claim window [] = ⊤
-HasRoomFor x claim window (event ∷ events) =
-    IsWithinRoom x claim window event × HasRoomFor (after x event) (claim_then (after x event) event claim window) window events
+abbrev pub HasRoomFor : Seen → ℕ → ℕ → ℕ → List Event → Type 0
+HasRoomFor x claim window turn [] = ⊤
+HasRoomFor x claim window turn (event ∷ events) =
+    IsWithinRoom x claim window turn event × HasRoomFor (after x event) (claim_then (after x event) event claim window) window turn events
 
 -- a holding after several events; the bytes are those of all of them, one after the other
 abbrev pub moved_all : Holding → List Event → List ℕ → Holding
@@ -35,5 +35,5 @@ history_all history (event ∷ events) = history_all (history_then history event
 pub record MayRun (h : Holding) (events : List Event) (bytes : List ℕ) : Type 0 where
   pub may : MayAllFollow (shows h.history) events
   pub carried : brought_all events ≤ length bytes
-  pub room : HasRoomFor (shows h.history) h.claim h.limits.window events
+  pub room : HasRoomFor (shows h.history) h.claim h.limits.window h.limits.turn events
   pub roomy : IsRoomy h

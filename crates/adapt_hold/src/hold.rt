@@ -146,7 +146,7 @@ impl<B: Ledgers> Hold<B> {
     /// How many original bytes may still come: within the claim, beside a window for the adapted body where one may come. Bytes that
     /// are dropped need no room.
     pub fn original_room(&self) -> u64
-        ensures room { result ≡ original_room (shows self.now.history) self.now.claim self.now.limits.window }
+        ensures room { result ≡ original_room (shows self.now.history) self.now.claim self.now.limits.window self.now.limits.turn }
         ensures tied { IsTied self.now }
     {
         original_room(&self.state, self.store.claim(), &self.limits)
@@ -154,7 +154,7 @@ impl<B: Ledgers> Hold<B> {
 
     /// How many adapted bytes may still come.
     pub fn adapted_room(&self) -> u64
-        ensures room { result ≡ adapted_room (shows self.now.history) self.now.limits.window }
+        ensures room { result ≡ adapted_room (shows self.now.history) self.now.limits.window self.now.limits.turn }
         ensures tied { IsTied self.now }
     {
         adapted_room(&self.state, &self.limits)

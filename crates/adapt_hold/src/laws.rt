@@ -49,9 +49,9 @@ pub fn what_may_be_sent_is_on_its_tape()
 pub fn room_stays()
     ensures begins { (h : Holding) → IsTied h → h.held ≡ 0 → h.limits.window ≤ h.claim → IsRoomy h }
     ensures original { (h : Holding) (n : ℕ) (bytes : List ℕ) → IsTied h → IsRoomy h → MayFollow h.history.plan h.history.events (In n)
-        → n ≤ original_room (shows h.history) h.claim h.limits.window → (held_places (shows_then h.history (In n)) ≤ h.claim) × IsRoomy (moved h (In n) bytes) }
+        → n ≤ original_room (shows h.history) h.claim h.limits.window h.limits.turn → (held_places (shows_then h.history (In n)) ≤ h.claim) × IsRoomy (moved h (In n) bytes) }
     ensures adapted { (h : Holding) (n : ℕ) (bytes : List ℕ) → IsTied h → IsRoomy h → MayFollow h.history.plan h.history.events (Ad n)
-        → n ≤ adapted_room (shows h.history) h.limits.window → (held_places (shows_then h.history (Ad n)) ≤ h.claim) × IsRoomy (moved h (Ad n) bytes) }
+        → n ≤ adapted_room (shows h.history) h.limits.window h.limits.turn → (held_places (shows_then h.history (Ad n)) ≤ h.claim) × IsRoomy (moved h (Ad n) bytes) }
     ensures others { (h : Holding) (event : Event) → IsTied h → IsRoomy h → MayFollow h.history.plan h.history.events event
         → BringsNone event → IsRoomy (moved h event []) }
 {}

@@ -51,7 +51,7 @@ pub fn fail<B: Ledgers>(rt: &impl Wait, bank: &Bank<B>, hold: &mut Hold<B>, caus
 fn bring<B: Ledgers>(rt: &impl Wait, bank: &Bank<B>, hold: &mut Hold<B>, event: Event, bytes: &[u8])
     requires brings { Brings event bytes.now }
     requires may { MayFollow hold.old.history.plan hold.old.history.events event }
-    requires room { IsWithinRoom (shows hold.old.history) hold.old.claim hold.old.limits.window event }
+    requires room { IsWithinRoom (shows hold.old.history) hold.old.claim hold.old.limits.window hold.old.limits.turn event }
     requires roomy { IsRoomy hold.old }
     ensures stepped { hold.new ≡ moved hold.old event bytes.now }
     ensures roomy { IsRoomy hold.new }
@@ -73,7 +73,7 @@ pub fn step_one<B: Ledgers>(
 )
     requires carried { length bytes.now ≡ brought event }
     requires may { MayFollow hold.old.history.plan hold.old.history.events event }
-    requires room { IsWithinRoom (shows hold.old.history) hold.old.claim hold.old.limits.window event }
+    requires room { IsWithinRoom (shows hold.old.history) hold.old.claim hold.old.limits.window hold.old.limits.turn event }
     requires roomy { IsRoomy hold.old }
     ensures stepped { hold.new ≡ moved hold.old event bytes.now }
     ensures roomy { IsRoomy hold.new }

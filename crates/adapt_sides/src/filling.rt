@@ -1,16 +1,19 @@
 //! One read of a wire, after the bytes that are kept.
 
-ghost use Rattle.std.specs.Prelude.{◌+◌, ◌<◌, ◌≤◌, length};
+ghost use Rattle.std.specs.Prelude.{◌≡◌, ◌+◌, ◌<◌, ◌≤◌, length, max, min};
 ghost use Rattle.adapt_bytes.specs.declared.limits.TheConstants.{MAX_HEAD};
-ghost use Rattle.adapt_sides.specs.declared.filling.TheConstants.{MAX_READ};
+ghost use Rattle.adapt_sides.specs.declared.filling.TheConstants.{MAX_FILL, MAX_READ};
 ghost use Rattle.adapt_sides.specs.Filling.{IsFilled};
 
 use crate::raw::RawBytes;
 use adapt_bytes::MAX_HEAD;
 use wire_kit::{Got, Wire};
 
-/// The most bytes of one read.
+/// The most bytes of one read of a head. A body is read by as many, or by more where a turn has more room.
 pub const MAX_READ: usize = 4096;
+
+/// The most bytes of one read.
+pub const MAX_FILL: usize = 65_536;
 
 /// What a read gave.
 #[derive(Clone, Copy)]
@@ -27,21 +30,51 @@ pub enum Filled {
     NoMemory,
 }
 
-/// Reads once, and appends to the raw bytes, which are never more than a head may have.
-pub fn fill<W: Wire>(raw: &mut RawBytes, wire: &mut W) -> Filled
-    requires { length raw.old.items < MAX_HEAD }
+/// The most bytes of one read of a body, in a turn with this much room.
+pub fn body_read(room: usize) -> usize
+    ensures { result ≡ max MAX_READ room }
+{
+    room.max(MAX_READ)
+}
+
+/// Reads once, at most `most` bytes, and appends to the raw bytes. These are never more than a head may have, or than one read
+/// where that is more.
+pub fn fill<W: Wire>(raw: &mut RawBytes, wire: &mut W, most: usize) -> Filled
+    requires short { length raw.old.items < MAX_HEAD }
+    requires some { 1 ≤ most }
     ensures filled { IsFilled (W.past wire.old) (W.past wire.new) raw.old.items raw.new.items result }
-    ensures fits { length raw.new.items ≤ MAX_HEAD }
-    ensures few { length raw.new.items ≤ length raw.old.items + MAX_READ }
+    ensures fits { length raw.new.items ≤ max MAX_HEAD (min most MAX_FILL) }
+    ensures few { length raw.new.items ≤ length raw.old.items + most }
 {
     if !wire.may_give() {
         return Filled::Wait;
     }
-    let most = (MAX_HEAD - raw.len()).min(MAX_READ);
+    let most = most.min(MAX_FILL);
+    let most = (MAX_HEAD.max(most) - raw.len()).min(most);
     if raw.reserve(most).is_err() {
         return Filled::NoMemory;
     }
-    let mut buf = [0; MAX_READ];
+    if most <= MAX_READ {
+        fill_by::<MAX_READ, W>(raw, wire, most)
+    } else if most <= MAX_HEAD {
+        fill_by::<MAX_HEAD, W>(raw, wire, most)
+    } else {
+        fill_by::<MAX_FILL, W>(raw, wire, most)
+    }
+}
+
+/// Reads once, at most `most` bytes, into room on the stack for `N`, and appends to the raw bytes, which have room for them. It is never
+/// inlined, so that a read of few bytes doesn't pay for the room of many.
+#[inline(never)]
+fn fill_by<const N: usize, W: Wire>(raw: &mut RawBytes, wire: &mut W, most: usize) -> Filled
+    requires some { 1 ≤ most }
+    requires fits { most ≤ N }
+    requires size { N ≤ MAX_FILL }
+    requires spare { most ≤ raw.old.spare }
+    ensures filled { IsFilled (W.past wire.old) (W.past wire.new) raw.old.items raw.new.items result }
+    ensures few { length raw.new.items ≤ length raw.old.items + most }
+{
+    let mut buf = [0; N];
     match wire.try_read(&mut buf[..most]) {
         Got::Bytes(n) => {
             raw.extend_reserved(&buf[..n]);

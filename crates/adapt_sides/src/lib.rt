@@ -20,7 +20,7 @@ mod turn;
 
 pub use copied::Copied;
 pub use fault::{ClientFault, RelayFault};
-pub use filling::{Filled, MAX_READ, fill};
+pub use filling::{Filled, MAX_FILL, MAX_READ, body_read, fill};
 pub use hop::Hop;
 pub use pieces::{part_of, put_front};
 pub use raw::RawBytes;

@@ -9,12 +9,11 @@ use Rattle.trace_core.specs.declared.history.Cause.{Cause}
 use Rattle.trace_core.specs.History.{in_bytes, ad_bytes}
 use Rattle.trace_core.specs.View.{after}
 use Rattle.trace_core.specs.Turns.{after_all, AllAre, in_sum, ad_sum, is_of_sending}
-use Rattle.plan_rules.specs.declared.room.TheConstants.{TURN_BYTES}
 use Rattle.plan_rules.specs.Room.{original_room, adapted_room}
 use Rattle.adapt_hold.specs.Holding.{Holding, IsTied, shows, history_then, moved}
 use Rattle.adapt_hold.proofs.Closes.{then_shows}
 use Rattle.adapt_turn.specs.declared.pass.PassAnswer.{PassAnswer}
-use Rattle.adapt_turn.specs.Reports.{View, Report, Reported, stepped}
+use Rattle.adapt_turn.specs.Reports.{View, Report, Reported, stepped, source_room, service_room}
 use Rattle.adapt_turn.proofs.Stepped.{reported_shows}
 
 -- an event brings the bytes of its own body that it says
@@ -47,22 +46,29 @@ ad_stepped : (failed : Option Cause) (reported : List Event) → ad_sum (stepped
 ad_stepped None reported = omega arith
 ad_stepped (Some cause) reported = omega arith
 
-pub original_few : (x : Seen) (claim window : ℕ) → original_room x claim window ≤ TURN_BYTES
-original_few x claim window = grind (arith, nat_tests)
+pub original_few : (x : Seen) (claim window turn : ℕ) → original_room x claim window turn ≤ turn
+original_few x claim window turn = grind (arith, nat_tests)
 
-pub adapted_few : (x : Seen) (window : ℕ) → adapted_room x window ≤ TURN_BYTES
-adapted_few x window = grind (arith, nat_tests)
+pub adapted_few : (x : Seen) (window turn : ℕ) → adapted_room x window turn ≤ turn
+adapted_few x window turn = grind (arith, nat_tests)
+
+-- the longest turn has all the room that there may be
+pub source_fits : (h : Holding) → source_room h ≤ 65536
+source_fits h = omega (arith, original_few (shows h.history) h.claim h.limits.window h.limits.turn, h.limits.turn_in_range)
+
+pub service_fits : (h : Holding) → service_room h ≤ 65536
+service_fits h = omega (arith, adapted_few (shows h.history) h.limits.window h.limits.turn, h.limits.turn_in_range)
 
 -- of what a pass reports so much came of the original, and so much of the adapted body
 pub reported_received : {F : Type 0} {v : View F} {h k : Holding} {r : Report} {passed : PassAnswer}
     → IsTied h → Reported v h k r passed
-    → (n : ℕ) → in_sum r.events ≤ n → n ≤ TURN_BYTES → (shows k.history).received ≤ (shows h.history).received + TURN_BYTES
+    → (n : ℕ) → in_sum r.events ≤ n → n ≤ h.limits.turn → (shows k.history).received ≤ (shows h.history).received + h.limits.turn
 reported_received {F} {v} {h} {k} {r} {passed} t p n few turn =
     let shown = reported_shows t p in
     let all = received_all (shows h.history) (stepped passed.failed r.events) in
     let less = in_stepped passed.failed r.events in
-    let at : (after_all (shows h.history) (stepped passed.failed r.events)).received ≤ (shows h.history).received + TURN_BYTES = omega (arith, all, less, few, turn) in
-    subst (λ (x : Seen). x.received ≤ (shows h.history).received + TURN_BYTES) (sym shown) at
+    let at : (after_all (shows h.history) (stepped passed.failed r.events)).received ≤ (shows h.history).received + h.limits.turn = omega (arith, all, less, few, turn) in
+    subst (λ (x : Seen). x.received ≤ (shows h.history).received + h.limits.turn) (sym shown) at
 
 pub reported_adapted : {F : Type 0} {v : View F} {h k : Holding} {r : Report} {passed : PassAnswer}
     → IsTied h → Reported v h k r passed

@@ -43,63 +43,63 @@ brings_nothing _ = true
 
 -- Room.
 
-room-in : (x : Seen) (n rest claim window : ℕ) → Sound x → x.closed ≡ false → Allows x (In n) → n + rest ≤ original_room x claim window → rest ≤ original_room (after x (In n)) claim window
-room-in x n rest claim window s c a r = grind (arith, nat_tests)
+room-in : (x : Seen) (n rest claim window turn : ℕ) → Sound x → x.closed ≡ false → Allows x (In n) → n + rest ≤ original_room x claim window turn → rest ≤ original_room (after x (In n)) claim window turn
+room-in x n rest claim window turn s c a r = grind (arith, nat_tests)
 
-room-end : (x : Seen) (rest claim window : ℕ) → Allows x End → rest ≤ original_room x claim window → rest ≤ original_room (after x End) claim window
-room-end x rest claim window a r = grind (arith, nat_tests)
+room-end : (x : Seen) (rest claim window turn : ℕ) → Allows x End → rest ≤ original_room x claim window turn → rest ≤ original_room (after x End) claim window turn
+room-end x rest claim window turn a r = grind (arith, nat_tests)
 
-pub room_of_source : (x : Seen) (claim window : ℕ) (events : List Event) → Sound x → MayAllFollow x events → AllAre is_of_source events
-    → in_sum events ≤ original_room x claim window → HasRoomFor x claim window events
-room_of_source x claim window [] s m o r = tt
-room_of_source x claim window (In n ∷ events) s m o r =
-    (omega (arith, r), room_of_source (after x (In n)) claim window events (sound-after x (In n) s m.1) m.2 o.1 (room-in x n (in_sum events) claim window s m.0 m.1 r))
-room_of_source x claim window (End ∷ events) s m o r =
-    (tt, room_of_source (after x End) claim window events (sound-after x End s m.1) m.2 o.1 (room-end x (in_sum events) claim window m.1 (omega (arith, r))))
-room_of_source x claim window (_ ∷ events) s m o r = absurd (false≢true o.0)
+pub room_of_source : (x : Seen) (claim window turn : ℕ) (events : List Event) → Sound x → MayAllFollow x events → AllAre is_of_source events
+    → in_sum events ≤ original_room x claim window turn → HasRoomFor x claim window turn events
+room_of_source x claim window turn [] s m o r = tt
+room_of_source x claim window turn (In n ∷ events) s m o r =
+    (omega (arith, r), room_of_source (after x (In n)) claim window turn events (sound-after x (In n) s m.1) m.2 o.1 (room-in x n (in_sum events) claim window turn s m.0 m.1 r))
+room_of_source x claim window turn (End ∷ events) s m o r =
+    (tt, room_of_source (after x End) claim window turn events (sound-after x End s m.1) m.2 o.1 (room-end x (in_sum events) claim window turn m.1 (omega (arith, r))))
+room_of_source x claim window turn (_ ∷ events) s m o r = absurd (false≢true o.0)
 
-room-ad : (x : Seen) (n rest window : ℕ) → Sound x → x.closed ≡ false → Allows x (Ad n) → n + rest ≤ adapted_room x window → rest ≤ adapted_room (after x (Ad n)) window
-room-ad x n rest window s c a r = grind (arith, nat_tests)
+room-ad : (x : Seen) (n rest window turn : ℕ) → Sound x → x.closed ≡ false → Allows x (Ad n) → n + rest ≤ adapted_room x window turn → rest ≤ adapted_room (after x (Ad n)) window turn
+room-ad x n rest window turn s c a r = grind (arith, nat_tests)
 
-room-continue : (x : Seen) (rest window : ℕ) → Sound x → x.closed ≡ false → Allows x Continue → rest ≤ adapted_room x window → rest ≤ adapted_room (after x Continue) window
-room-continue x rest window s c a r = grind (arith, nat_tests)
+room-continue : (x : Seen) (rest window turn : ℕ) → Sound x → x.closed ≡ false → Allows x Continue → rest ≤ adapted_room x window turn → rest ≤ adapted_room (after x Continue) window turn
+room-continue x rest window turn s c a r = grind (arith, nat_tests)
 
-room-no_mod : (x : Seen) (rest window : ℕ) → Sound x → x.closed ≡ false → Allows x NoMod → rest ≤ adapted_room x window → rest ≤ adapted_room (after x NoMod) window
-room-no_mod x rest window s c a r = grind (arith, nat_tests)
+room-no_mod : (x : Seen) (rest window turn : ℕ) → Sound x → x.closed ≡ false → Allows x NoMod → rest ≤ adapted_room x window turn → rest ≤ adapted_room (after x NoMod) window turn
+room-no_mod x rest window turn s c a r = grind (arith, nat_tests)
 
-room-mod : (x : Seen) (payload : Payload) (rest window : ℕ) → Sound x → x.closed ≡ false → Allows x (Mod payload) → rest ≤ adapted_room x window → rest ≤ adapted_room (after x (Mod payload)) window
-room-mod x payload rest window s c a r = grind (arith, nat_tests)
+room-mod : (x : Seen) (payload : Payload) (rest window turn : ℕ) → Sound x → x.closed ≡ false → Allows x (Mod payload) → rest ≤ adapted_room x window turn → rest ≤ adapted_room (after x (Mod payload)) window turn
+room-mod x payload rest window turn s c a r = grind (arith, nat_tests)
 
-room-ad_end : (x : Seen) (rest window : ℕ) → Sound x → x.closed ≡ false → Allows x AdEnd → rest ≤ adapted_room x window → rest ≤ adapted_room (after x AdEnd) window
-room-ad_end x rest window s c a r = grind (arith, nat_tests)
+room-ad_end : (x : Seen) (rest window turn : ℕ) → Sound x → x.closed ≡ false → Allows x AdEnd → rest ≤ adapted_room x window turn → rest ≤ adapted_room (after x AdEnd) window turn
+room-ad_end x rest window turn s c a r = grind (arith, nat_tests)
 
-room-heard : (x : Seen) (rest window : ℕ) → Sound x → x.closed ≡ false → Allows x Heard → rest ≤ adapted_room x window → rest ≤ adapted_room (after x Heard) window
-room-heard x rest window s c a r = grind (arith, nat_tests)
+room-heard : (x : Seen) (rest window turn : ℕ) → Sound x → x.closed ≡ false → Allows x Heard → rest ≤ adapted_room x window turn → rest ≤ adapted_room (after x Heard) window turn
+room-heard x rest window turn s c a r = grind (arith, nat_tests)
 
-pub room_of_replies : (x : Seen) (claim window : ℕ) (events : List Event) → Sound x → MayAllFollow x events → AllAre is_of_replies events
-    → ad_sum events ≤ adapted_room x window → HasRoomFor x claim window events
-room_of_replies x claim window [] s m o r = tt
-room_of_replies x claim window (Ad n ∷ events) s m o r =
-    (omega (arith, r), room_of_replies (after x (Ad n)) claim window events (sound-after x (Ad n) s m.1) m.2 o.1 (room-ad x n (ad_sum events) window s m.0 m.1 r))
-room_of_replies x claim window (Continue ∷ events) s m o r =
-    (tt, room_of_replies (after x Continue) (claim_then (after x Continue) Continue claim window) window events (sound-after x Continue s m.1) m.2 o.1 (room-continue x (ad_sum events) window s m.0 m.1 (omega (arith, r))))
-room_of_replies x claim window (NoMod ∷ events) s m o r =
-    (tt, room_of_replies (after x NoMod) (claim_then (after x NoMod) NoMod claim window) window events (sound-after x NoMod s m.1) m.2 o.1 (room-no_mod x (ad_sum events) window s m.0 m.1 (omega (arith, r))))
-room_of_replies x claim window (Mod body ∷ events) s m o r =
-    (tt, room_of_replies (after x (Mod body)) (claim_then (after x (Mod body)) (Mod body) claim window) window events (sound-after x (Mod body) s m.1) m.2 o.1 (room-mod x body (ad_sum events) window s m.0 m.1 (omega (arith, r))))
-room_of_replies x claim window (AdEnd ∷ events) s m o r =
-    (tt, room_of_replies (after x AdEnd) claim window events (sound-after x AdEnd s m.1) m.2 o.1 (room-ad_end x (ad_sum events) window s m.0 m.1 (omega (arith, r))))
-room_of_replies x claim window (Heard ∷ events) s m o r =
-    (tt, room_of_replies (after x Heard) claim window events (sound-after x Heard s m.1) m.2 o.1 (room-heard x (ad_sum events) window s m.0 m.1 (omega (arith, r))))
-room_of_replies x claim window (_ ∷ events) s m o r = absurd (false≢true o.0)
+pub room_of_replies : (x : Seen) (claim window turn : ℕ) (events : List Event) → Sound x → MayAllFollow x events → AllAre is_of_replies events
+    → ad_sum events ≤ adapted_room x window turn → HasRoomFor x claim window turn events
+room_of_replies x claim window turn [] s m o r = tt
+room_of_replies x claim window turn (Ad n ∷ events) s m o r =
+    (omega (arith, r), room_of_replies (after x (Ad n)) claim window turn events (sound-after x (Ad n) s m.1) m.2 o.1 (room-ad x n (ad_sum events) window turn s m.0 m.1 r))
+room_of_replies x claim window turn (Continue ∷ events) s m o r =
+    (tt, room_of_replies (after x Continue) (claim_then (after x Continue) Continue claim window) window turn events (sound-after x Continue s m.1) m.2 o.1 (room-continue x (ad_sum events) window turn s m.0 m.1 (omega (arith, r))))
+room_of_replies x claim window turn (NoMod ∷ events) s m o r =
+    (tt, room_of_replies (after x NoMod) (claim_then (after x NoMod) NoMod claim window) window turn events (sound-after x NoMod s m.1) m.2 o.1 (room-no_mod x (ad_sum events) window turn s m.0 m.1 (omega (arith, r))))
+room_of_replies x claim window turn (Mod body ∷ events) s m o r =
+    (tt, room_of_replies (after x (Mod body)) (claim_then (after x (Mod body)) (Mod body) claim window) window turn events (sound-after x (Mod body) s m.1) m.2 o.1 (room-mod x body (ad_sum events) window turn s m.0 m.1 (omega (arith, r))))
+room_of_replies x claim window turn (AdEnd ∷ events) s m o r =
+    (tt, room_of_replies (after x AdEnd) claim window turn events (sound-after x AdEnd s m.1) m.2 o.1 (room-ad_end x (ad_sum events) window turn s m.0 m.1 (omega (arith, r))))
+room_of_replies x claim window turn (Heard ∷ events) s m o r =
+    (tt, room_of_replies (after x Heard) claim window turn events (sound-after x Heard s m.1) m.2 o.1 (room-heard x (ad_sum events) window turn s m.0 m.1 (omega (arith, r))))
+room_of_replies x claim window turn (_ ∷ events) s m o r = absurd (false≢true o.0)
 
 -- events that bring nothing
 
-pub room_of_others : (x : Seen) (claim window : ℕ) (events : List Event) → AllAre brings_nothing events → HasRoomFor x claim window events
-room_of_others x claim window [] o = tt
-room_of_others x claim window (In n ∷ events) o = absurd (false≢true o.0)
-room_of_others x claim window (Ad n ∷ events) o = absurd (false≢true o.0)
-room_of_others x claim window (event ∷ events) o = (tt, room_of_others (after x event) _ window events o.1)
+pub room_of_others : (x : Seen) (claim window turn : ℕ) (events : List Event) → AllAre brings_nothing events → HasRoomFor x claim window turn events
+room_of_others x claim window turn [] o = tt
+room_of_others x claim window turn (In n ∷ events) o = absurd (false≢true o.0)
+room_of_others x claim window turn (Ad n ∷ events) o = absurd (false≢true o.0)
+room_of_others x claim window turn (event ∷ events) o = (tt, room_of_others (after x event) _ window turn events o.1)
 
 pub all_map : (f g : Event → Bool) → ((event : Event) → f event ≡ true → g event ≡ true) → (events : List Event) → AllAre f events → AllAre g events
 all_map f g i [] o = tt
@@ -140,31 +140,31 @@ replies_brought (_ ∷ events) o = absurd (false≢true o.0)
 -- What `run` asks.
 
 pub source_runs : (h : Holding) (events : List Event) (out : List ℕ) → IsTied h → IsRoomy h → MayAllFollow (shows h.history) events → AllAre is_of_source events
-    → in_sum events ≤ length out → length out ≤ original_room (shows h.history) h.claim h.limits.window → MayRun h events out
+    → in_sum events ≤ length out → length out ≤ original_room (shows h.history) h.claim h.limits.window h.limits.turn → MayRun h events out
 source_runs h events out t r m o c l =
     let b = source_brought events o in
     record {
       may = m;
       carried = omega (arith, b, c);
-      room = room_of_source (shows h.history) h.claim h.limits.window events (ends h t).sound m o (omega (arith, c, l));
+      room = room_of_source (shows h.history) h.claim h.limits.window h.limits.turn events (ends h t).sound m o (omega (arith, c, l));
       roomy = r;
     }
 
 pub replies_run : (h : Holding) (events : List Event) (out : List ℕ) → IsTied h → IsRoomy h → MayAllFollow (shows h.history) events → AllAre is_of_replies events
-    → ad_sum events ≤ length out → length out ≤ adapted_room (shows h.history) h.limits.window → MayRun h events out
+    → ad_sum events ≤ length out → length out ≤ adapted_room (shows h.history) h.limits.window h.limits.turn → MayRun h events out
 replies_run h events out t r m o c l =
     let b = replies_brought events o in
     record {
       may = m;
       carried = omega (arith, b, c);
-      room = room_of_replies (shows h.history) h.claim h.limits.window events (ends h t).sound m o (omega (arith, c, l));
+      room = room_of_replies (shows h.history) h.claim h.limits.window h.limits.turn events (ends h t).sound m o (omega (arith, c, l));
       roomy = r;
     }
 
 others_run : (h : Holding) (events : List Event) → IsRoomy h → MayAllFollow (shows h.history) events → AllAre brings_nothing events → MayRun h events []
 others_run h events r m o =
     let b = none_brought events o in
-    record { may = m; carried = omega (arith, b); room = room_of_others (shows h.history) h.claim h.limits.window events o; roomy = r }
+    record { may = m; carried = omega (arith, b); room = room_of_others (shows h.history) h.claim h.limits.window h.limits.turn events o; roomy = r }
 
 pub sending_runs : (h : Holding) (events : List Event) → IsRoomy h → MayAllFollow (shows h.history) events → AllAre is_of_sending events → MayRun h events []
 sending_runs h events r m o = others_run h events r m (all_map is_of_sending brings_nothing sending_brings_nothing events o)

@@ -36,7 +36,7 @@ took_all h (event ∷ events) bytes t m =
       took_all next events (drop (brought event) bytes) s.tied (record {
         may = subst (λ (x : Seen). MayAllFollow x events) (sym same) m.may.2;
         carried = let d = length-drop (brought event) bytes in omega (arith, d, n);
-        room = subst (λ (x : Seen). HasRoomFor x next.claim next.limits.window events) (sym same) m.room.1;
+        room = subst (λ (x : Seen). HasRoomFor x next.claim next.limits.window next.limits.turn events) (sym same) m.room.1;
         roomy = s.roomy;
       }),
     )

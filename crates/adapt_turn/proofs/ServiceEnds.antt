@@ -2,10 +2,10 @@
 use Rattle.std.proofs.Common.{◌≡◌, ◌+◌, ◌≤◌, ◌⊎◌, inl, inr, Bool, true, false, [], Option, Some, None, arith, refl, sym, ◌∙◌, ap, subst}
 use Rattle.std.specs.Prelude.{MatchOption, ⊤}
 use Rattle.trace_core.specs.declared.history.Cause.{Cause}
-use Rattle.plan_rules.specs.declared.room.TheConstants.{TURN_BYTES}
 use Rattle.wire_kit.specs.Past.{Past, IsLater}
 use Rattle.wire_kit.specs.declared.wire.Wire.{Ghosts as Wire}
 use Rattle.adapt_sides.specs.declared.service.Service.{Ghosts as Service}
+use Rattle.plan_rules.specs.declared.limits.Limits.{Limits}
 use Rattle.adapt_hold.specs.Holding.{Holding, IsTied, shows}
 use Rattle.adapt_turn.specs.declared.pass.PassAnswer.{PassAnswer}
 use Rattle.adapt_turn.specs.declared.ends.ServiceEnd.{ServiceEnd}
@@ -18,7 +18,7 @@ use Rattle.adapt_turn.specs.Stands.{WaitedBoth, Blamed}
 use Rattle.adapt_turn.proofs.Paced.{reported_adapted, adapted_few, none_of_sending}
 use Rattle.adapt_turn.proofs.Reasons.{reported_idle, reported_still, reported_blames, reported_fails, writes_beside, reads_beside, both_waited, blamed_then, cause_weaker, not_failed, service_blame}
 use Rattle.adapt_turn.proofs.Rows.{reported_took, reported_acts, of_sending, of_replies, took_both, then_acts, acts_then}
-use Rattle.adapt_turn.proofs.Stepped.{reported_over}
+use Rattle.adapt_turn.proofs.Stepped.{reported_over, reported_ran}
 use Rattle.adapt_turn.proofs.Told.{reported_told, open_done}
 
 -- the write alone, which didn't wait
@@ -62,7 +62,8 @@ both_passes v w reused old mid new first second passed tied tied' c c' whole bot
     let none = not_failed first.failed _ (reported_over tied p) c' in
     let few = reported_adapted tied p 0 (none_of_sending _ p.only) in
     let more = reported_adapted tied' q _ b.reports.few in
-    let turn = adapted_few (shows mid.hold.history) mid.hold.limits.window in
+    let turn = adapted_few (shows mid.hold.history) mid.hold.limits.window mid.hold.limits.turn in
+    let limits : mid.hold.limits.turn ≡ h.limits.turn = ap (λ (y : Holding). y.limits.turn) p.is ∙ ap (λ (l : Limits). l.turn) (reported_ran tied p).limits in
     record {
       did = inr (record { mid = mid; first = first; second = second; tied = tied'; running = c'; writes = a; reads = b });
       tied = tied;
@@ -70,7 +71,7 @@ both_passes v w reused old mid new first second passed tied tied' c c' whole bot
       still = λ e. reported_still q (both e).1 ∙ reported_still p (both e).0;
       waits = λ e. both_waited h mid.hold _ _ _ _ _ (λ y. v.rests_reading (shows y.history) (service_room y) new.side) (reported_still p (both e).0) (b.rests (shows h.history)) (writes_beside p (both e).0) (reads_beside q (both e).1);
       framed = λ e. subst (λ (y : Holding). v.is_framed (service_room y) new.side) (reported_still p (both e).0) (b.reports.framed (both e).1);
-      paced = omega (arith, few, more, turn);
+      paced = omega (arith, few, more, turn, limits);
       took = took_both (may_step sides.Service) h mid.hold new.hold (reported_took sides.Service of_sending tied p) (reported_took sides.Service of_replies tied' q);
       active = λ e k. elim (one e) [
         | inl n ↦ acts_then (may_step sides.Service) h mid.hold new.hold _ _ _ _ _ (reported_acts sides.Service of_sending tied p n whole) (over_wire q) (reported_took sides.Service of_replies tied' q)
@@ -92,7 +93,7 @@ pub record LineTold {V W : Type 0} (v : Service V) (w : Wire W) (reused : Bool) 
   pub still : passed.waiting ≡ true → new ≡ old
   pub idle : passed.waiting ≡ true → passed.failed ≡ None
   pub framed : passed.waiting ≡ true → MatchOption line' ⊤ (λ l. MatchOption l.wire ⊤ (λ wire. v.is_framed (service_room old) l.side))
-  pub paced : (shows new.history).adapted_received ≤ (shows old.history).adapted_received + TURN_BYTES
+  pub paced : (shows new.history).adapted_received ≤ (shows old.history).adapted_received + old.limits.turn
   pub took : TookBy (may_step sides.Service) old new
   pub active : passed.waiting ≡ false → passed.broken ≡ false → BytesOr (Advances (may_step sides.Service) old new) (λ p. on_held line ⊥ (λ wire. w.past wire p)) (λ p. on_held line' ⊥ (λ wire. w.past wire p))
   pub blames : (cause : Cause) → passed.failed ≡ Some cause → Blamed (service_faults v w line line') cause

@@ -4,7 +4,6 @@ use Rattle.trace_core.specs.declared.history.Cause.{Cause}
 use Rattle.trace_core.specs.declared.history.Cause.TheVariants as causes
 use Rattle.trace_core.specs.declared.history.Event.TheVariants.{Fail}
 use Rattle.trace_core.specs.declared.history.Seen.{Seen}
-use Rattle.plan_rules.specs.declared.room.TheConstants.{TURN_BYTES}
 use Rattle.wire_kit.specs.declared.wire.Wire.{Ghosts as Wire}
 use Rattle.adapt_sides.specs.declared.source.Source.{Ghosts as Source}
 use Rattle.adapt_sides.specs.declared.service.Service.{Ghosts as Service}
@@ -44,7 +43,7 @@ pub record SourcePasses {S H W : Type 0} (s : Source S H) (w : Wire W) (old new 
   pub waits : passed.waiting ≡ true → Waited (s.rests (source_room old.hold) new.side) (λ past. past.read_waits) (w.past old.wire) (w.past new.wire)
   pub framed : passed.waiting ≡ true → s.is_framed (source_room old.hold) new.side
   -- a pass brings no more of the body than a turn may
-  pub paced : (shows new.hold.history).received ≤ (shows old.hold.history).received + TURN_BYTES
+  pub paced : (shows new.hold.history).received ≤ (shows old.hold.history).received + old.hold.limits.turn
   -- it steps events of the source, or Fail
   pub took : TookBy (may_step sides.Source) old.hold new.hold
   pub active : passed.waiting ≡ false → BytesOr (Advances (may_step sides.Source) old.hold new.hold) (w.past old.wire) (w.past new.wire)
@@ -102,7 +101,7 @@ pub record ServicePasses {V W : Type 0} (v : Service V) (w : Wire W) (reused : B
   pub still : passed.waiting ≡ true → new.hold ≡ old.hold
   pub waits : passed.waiting ≡ true → WaitedBoth (v.rests_writing (shows old.hold.history) new.side) (v.rests_reading (shows old.hold.history) (service_room old.hold) new.side) (w.past old.wire) (w.past new.wire)
   pub framed : passed.waiting ≡ true → v.is_framed (service_room old.hold) new.side
-  pub paced : (shows new.hold.history).adapted_received ≤ (shows old.hold.history).adapted_received + TURN_BYTES
+  pub paced : (shows new.hold.history).adapted_received ≤ (shows old.hold.history).adapted_received + old.hold.limits.turn
   pub took : TookBy (may_step sides.Service) old.hold new.hold
   pub active : passed.waiting ≡ false → passed.broken ≡ false → BytesOr (Advances (may_step sides.Service) old.hold new.hold) (w.past old.wire) (w.past new.wire)
   pub blames : (cause : Cause) → passed.failed ≡ Some cause → Blamed (faults_in (hear_view v w old new)) cause

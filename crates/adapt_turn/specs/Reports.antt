@@ -92,10 +92,10 @@ stepped (Some cause) reported = Fail cause ∷ []
 
 -- how much room the source's side reads into, and the service's
 abbrev pub source_room : Holding → ℕ
-source_room h = original_room (shows h.history) h.claim h.limits.window
+source_room h = original_room (shows h.history) h.claim h.limits.window h.limits.turn
 
 abbrev pub service_room : Holding → ℕ
-service_room h = adapted_room (shows h.history) h.limits.window
+service_room h = adapted_room (shows h.history) h.limits.window h.limits.turn
 
 -- What a pass is lent, at one moment: what the transaction holds, one side, and the side's wire.
 pub record Lent (S W : Type 0) : Type 0 where

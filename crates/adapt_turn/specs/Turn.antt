@@ -5,7 +5,6 @@ use Rattle.trace_core.specs.declared.history.Cause.{Cause}
 use Rattle.trace_core.specs.declared.history.Cause.TheVariants as causes
 use Rattle.trace_core.specs.declared.history.Point.TheVariants.{Reqmod, Respmod}
 use Rattle.trace_core.specs.Legal.{MayFollow}
-use Rattle.plan_rules.specs.declared.room.TheConstants.{TURN_BYTES}
 use Rattle.wire_kit.specs.Past.{Past}
 use Rattle.wire_kit.specs.declared.wire.Wire.{Ghosts as Wire}
 use Rattle.adapt_sides.specs.declared.source.Source.{Ghosts as Source}
@@ -170,7 +169,7 @@ pub record SourceKeeps {S V K A C : Type 0} (old new : TxView S V K A C) : Type 
   pub service : new.service ≡ old.service
   pub next_wire : new.next_wire ≡ old.next_wire
   -- it brings no more of the original than a turn may
-  pub few : (shows new.hold.history).received ≤ (shows old.hold.history).received + TURN_BYTES
+  pub few : (shows new.hold.history).received ≤ (shows old.hold.history).received + old.hold.limits.turn
   pub writers : HasNotFailed new.outcome → SameWriters old new
 
 -- what a turn of the service keeps
@@ -179,7 +178,7 @@ pub record ServiceKeeps {S V K A C : Type 0} (old new : TxView S V K A C) : Type
   pub source_wire : new.source_wire ≡ old.source_wire
   pub next_wire : new.next_wire ≡ old.next_wire
   -- it brings no more of the adapted body than a turn may
-  pub few : (shows new.hold.history).adapted_received ≤ (shows old.hold.history).adapted_received + TURN_BYTES
+  pub few : (shows new.hold.history).adapted_received ≤ (shows old.hold.history).adapted_received + old.hold.limits.turn
   pub writers : HasNotFailed new.outcome → SameWriters old new
 
 -- what a turn of the next hop keeps

@@ -8,5 +8,5 @@ mod head;
 mod next;
 mod writer;
 
-pub use next::{Ending, MAX_CHUNK, Next};
+pub use next::{Ending, MAX_CHUNK, Next, USUAL_CHUNK};
 pub use writer::{ChunkWriter, Wrote};

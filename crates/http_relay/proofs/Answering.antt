@@ -68,7 +68,7 @@ undelivered_then x false h = h
 untouched_then : (x : Seen) (k : ℕ) (done : Bool) (taken d : List ℕ) → k ≡ 0 → d ≡ [] → (taken ≡ []) × IsUndelivered x → (taken ++ d ≡ []) × IsUndelivered (after_all x (hop_events k done))
 untouched_then x k done taken d z e h = (nothing_taken taken d h.0 e, subst (λ (n : ℕ). IsUndelivered (after_all x (hop_events n done))) (sym z) (undelivered_then x done h.1))
 
-given_by : (x : Seen) (tape : Tape) (next : Next) (old new : Hop) (k : ℕ) (e done : Bool) (d head body taken : List ℕ) → Sound x → KeepsUndelivered x tape → Decides x old.writer old.framing old.stage next
+given_by : (x : Seen) (tape : Tape) (next : Next) (old new : Hop) (k : ℕ) (e done : Bool) (d head body taken : List ℕ) → Sound x → KeepsUndelivered x tape → Decides old.turn x old.writer old.framing old.stage next
     → Moves tape next old.writer k e d new.writer → Settles x next old new k e done d → Follows tape body → HasGiven x head body taken old → HasGiven (after_all x (hop_events k done)) head body (taken ++ d) new
 given_by x tape next old new k e done d head body taken s u c m t i h =
     record {
@@ -82,7 +82,7 @@ given_by x tape next old new k e done d head body taken s u c m t i h =
       touched = λ n. some_taken taken d (elim (t.reached n) [ inl o ↦ inl (h.touched o) | inr s ↦ inr s ]);
     }
 
-aside_by : (x : Seen) (tape : Tape) (next : Next) (old new : Hop) (k : ℕ) (e done : Bool) (d taken : List ℕ) → Decides x old.writer old.framing old.stage next
+aside_by : (x : Seen) (tape : Tape) (next : Next) (old new : Hop) (k : ℕ) (e done : Bool) (d taken : List ℕ) → Decides old.turn x old.writer old.framing old.stage next
     → Moves tape next old.writer k e d new.writer → Settles x next old new k e done d → IsAside taken old → IsAside (taken ++ d) new
 aside_by x tape next old new k e done d taken c m t h = record {
   text = subst (λ (stage : Stage). AsideAt stage (taken ++ d) new.writer) (sym t.stage) (aside_on old.stage x tape old.framing old.writer new.writer next taken k e d c m h.text);
@@ -100,10 +100,10 @@ gift_then at.Message true h = refl
 gift_then at.Whole true h = refl
 gift_then (at.Refusal status) true h = let odd : false ≡ true = h refl in cc
 
-begun_at_end : (x : Seen) (next : Next) (old : Hop) (k : ℕ) (e : Bool) → Decides x old.writer old.framing old.stage next → Reaches next k e → e ≡ true → is_message old.stage ≡ true
+begun_at_end : (x : Seen) (next : Next) (old : Hop) (k : ℕ) (e : Bool) → Decides old.turn x old.writer old.framing old.stage next → Reaches next k e → e ≡ true → is_message old.stage ≡ true
 begun_at_end x next old k e c r i = (c.ends (r.all i).1).0
 
-pub goes_on : (x : Seen) (tape : Tape) (next : Next) (old new : Hop) (k : ℕ) (e done : Bool) (d : List ℕ) → Sound x → KeepsUndelivered x tape → Decides x old.writer old.framing old.stage next
+pub goes_on : (x : Seen) (tape : Tape) (next : Next) (old new : Hop) (k : ℕ) (e done : Bool) (d : List ℕ) → Sound x → KeepsUndelivered x tape → Decides old.turn x old.writer old.framing old.stage next
     → Moves tape next old.writer k e d new.writer → Settles x next old new k e done d → GoesOn x tape old new (hop_events k done) d
 goes_on x tape next old new k e done d s u c m t = record {
   legal = legal_by x old.framing old.writer old.stage next k e done s c (reaches tape next old.writer new.writer k e d m) t.may;
@@ -218,17 +218,18 @@ turned_drop_text x tape old mid new before after' result l t = record {
   fits = λ n. fits_drop_text x old mid new t.answer result l (t.fits n);
 }
 
-pub decides_at : (x : Seen) (old : Hop) (v : Writer) (f : Framing) (stage : Stage) (next : Next) → v ≡ old.writer → f ≡ old.framing → stage ≡ old.stage → Decides x v f stage next → Decides x old.writer old.framing old.stage next
-decides_at x old v f stage next w fe se c =
-    subst (λ (v' : Writer). Decides x v' old.framing old.stage next) w (subst (λ (f' : Framing). Decides x v f' old.stage next) fe (subst (λ (s' : Stage). Decides x v f s' next) se c))
+pub decides_at : (x : Seen) (old : Hop) (v : Writer) (f : Framing) (stage : Stage) (turn : ℕ) (next : Next) → v ≡ old.writer → f ≡ old.framing → stage ≡ old.stage → turn ≡ old.turn → Decides turn x v f stage next → Decides old.turn x old.writer old.framing old.stage next
+decides_at x old v f stage turn next w fe se te c =
+    subst (λ (v' : Writer). Decides old.turn x v' old.framing old.stage next) w (subst (λ (f' : Framing). Decides old.turn x v f' old.stage next) fe
+    (subst (λ (s' : Stage). Decides old.turn x v f s' next) se (subst (λ (n : ℕ). Decides n x v f stage next) te c)))
 
 -- the writer and the rest of the side, by their parts
-pub turned : (x : Seen) (tape : Tape) (next : Next) (old new : Hop) (v : Writer) (f : Framing) (stage : Stage) (before after' : Past → Type 0) (result : Result Turn RelayFault) (answer : Option Put) (k : ℕ) (e done : Bool)
-    → v ≡ old.writer → f ≡ old.framing → stage ≡ old.stage → Sound x → KeepsUndelivered x tape → Decides x v f stage next → Offers before after' (offered v tape next) answer → (answer ≡ None → offered v tape next ≡ []) → (offered v tape next ≡ [] → answer ≡ None)
+pub turned : (x : Seen) (tape : Tape) (next : Next) (old new : Hop) (v : Writer) (f : Framing) (stage : Stage) (bytes : ℕ) (before after' : Past → Type 0) (result : Result Turn RelayFault) (answer : Option Put) (k : ℕ) (e done : Bool)
+    → v ≡ old.writer → f ≡ old.framing → stage ≡ old.stage → bytes ≡ old.turn → Sound x → KeepsUndelivered x tape → Decides bytes x v f stage next → Offers before after' (offered v tape next) answer → (answer ≡ None → offered v tape next ≡ []) → (offered v tape next ≡ [] → answer ≡ None)
     → Moves tape next v k e (delta_of (offered v tape next) answer) new.writer → Settles x next old new k e done (delta_of (offered v tape next) answer) → events_of result ≡ hop_events k done → (old.fault ≡ None → FitsOffer x old new answer result) → WriteTurn x tape old new before after' result
-turned x tape next old new v f stage before after' result answer k e done w fe se s u c o silent asks m t h fit =
+turned x tape next old new v f stage bytes before after' result answer k e done w fe se be s u c o silent asks m t h fit =
     let text = offered v tape next in
-    let decides : Decides x old.writer old.framing old.stage next = decides_at x old v f stage next w fe se c in
+    let decides : Decides old.turn x old.writer old.framing old.stage next = decides_at x old v f stage bytes next w fe se be c in
     record {
       text = text;
       answer = answer;
@@ -330,7 +331,7 @@ no_done : (done : Bool) → hop_events 0 done ≡ [] → done ≡ false
 no_done true e = cc
 no_done false e = refl
 
-due_by : (stage : Stage) (x : Seen) (old : Hop) (next : Next) (e : Bool) → stage ≡ old.stage → Sound x → Decides x old.writer old.framing old.stage next → next.count ≡ 0 → e ≡ is_ending next.end → e ≡ false
+due_by : (stage : Stage) (x : Seen) (old : Hop) (next : Next) (e : Bool) → stage ≡ old.stage → Sound x → Decides old.turn x old.writer old.framing old.stage next → next.count ≡ 0 → e ≡ is_ending next.end → e ≡ false
     → (is_whole old.stage ≡ true → x.closed ≡ false → Allows x Done → ⊥) → is_message old.stage || is_whole old.stage ≡ true → x.closed ≡ false → Allows x Done → ⊥
 due_by at.Empty x old next e s v c z i n m b o a = let t : (is_message at.Empty || is_whole at.Empty) ≡ true = ap (λ (st : Stage). is_message st || is_whole st) s ∙ b in cc
 due_by at.Message x old next e s v c z i n m b o a =
@@ -339,17 +340,12 @@ due_by at.Message x old next e s v c z i n m b o a =
 due_by at.Whole x old next e s v c z i n m b o a = m (ap is_whole (sym s)) o a
 due_by (at.Refusal status) x old next e s v c z i n m b o a = let t : (is_message (at.Refusal status) || is_whole (at.Refusal status)) ≡ true = ap (λ (st : Stage). is_message st || is_whole st) s ∙ b in cc
 
-some_of : (x : Seen) (n : ℕ) → Allows x (Usr n) → 1 ≤ n
-some_of x n (inl a) = a.1.0
-some_of x n (inr a) = a.1.0
-
--- where no byte comes next none may go: one always fits
-no_usr : (x : Seen) (old : Hop) (next : Next) → Decides x old.writer old.framing old.stage next → is_message old.stage ≡ true → next.count ≡ 0 → (n : ℕ) → x.closed ≡ false → Allows x (Usr n) → ⊥
+-- where no byte comes next none may go
+no_usr : (x : Seen) (old : Hop) (next : Next) → Decides old.turn x old.writer old.framing old.stage next → is_message old.stage ≡ true → next.count ≡ 0 → (n : ℕ) → x.closed ≡ false → Allows x (Usr n) → ⊥
 no_usr x old next c m z n o a =
-    let one : 1 ≤ next.count = c.greatest m 1 o (fewer x 1 n (omega arith) (some_of x n a) a) (omega arith, λ h l. omega (arith, l)) in
-    absurd (omega (arith, z, one))
+    absurd (omega (arith, z, c.some m n o a))
 
-pub fits_none : (x : Seen) (old new : Hop) (next : Next) (answer : Option Put) (k : ℕ) (e done : Bool) (turn : Turn) → answer ≡ None → Sound x → Decides x old.writer old.framing old.stage next → IsIdle old.writer next k e
+pub fits_none : (x : Seen) (old new : Hop) (next : Next) (answer : Option Put) (k : ℕ) (e done : Bool) (turn : Turn) → answer ≡ None → Sound x → Decides old.turn x old.writer old.framing old.stage next → IsIdle old.writer next k e
     → turn.events.items ≡ hop_events 0 done → (done ≡ false → e ≡ true → ⊥) → (done ≡ false → is_whole old.stage ≡ true → x.closed ≡ false → Allows x Done → ⊥)
     → (turn.waiting ≡ true → turn.events.items ≡ []) → (turn.waiting ≡ false → turn.events.items ≡ [] → ⊥) → waiting new.writer ≡ [] → new.stage ≡ stage_then old.stage e → FitsAnswer x new answer turn
 fits_none x old new next answer k e done turn a v c i h ne nm t f out st = record {
@@ -381,11 +377,11 @@ may_by : (x : Seen) (e may : Bool) (k s : ℕ) → (may ≡ true → (x.closed �
 may_by x e may k s a z (inl i) = inl i
 may_by x e may k s a z (inr i) = inr ((a i.0).0, (a i.0).1, z i.1)
 
-pub settles_by : (x : Seen) (next : Next) (old new : Hop) (w : Writer) (f : Framing) (stage : Stage) (touched : Bool) (fault : Option RelayFault) (k s : ℕ) (e done may : Bool) (d : List ℕ)
-    → new ≡ record { writer = w; framing = f; stage = stage_then stage e; touched = touched; fault = fault } → f ≡ old.framing → stage ≡ old.stage → (touched ≡ false → (old.touched ≡ false) × (d ≡ []) × (k ≡ 0)) → (touched ≡ true → (old.touched ≡ true) ⊎ (0 < length d))
+pub settles_by : (x : Seen) (next : Next) (old new : Hop) (w : Writer) (f : Framing) (stage : Stage) (touched : Bool) (fault : Option RelayFault) (turn k s : ℕ) (e done may : Bool) (d : List ℕ)
+    → new ≡ record { writer = w; framing = f; stage = stage_then stage e; touched = touched; fault = fault; turn = turn } → f ≡ old.framing → stage ≡ old.stage → (touched ≡ false → (old.touched ≡ false) × (d ≡ []) × (k ≡ 0)) → (touched ≡ true → (old.touched ≡ true) ⊎ (0 < length d))
     → (done ≡ true → (stage_then stage e ≡ at.Whole) × (waiting w ≡ []) × ((e ≡ true) ⊎ ((may ≡ true) × (s ≡ 0)))) → (may ≡ true → (x.closed ≡ false) × Allows x Done) → (s ≡ 0 → k ≡ 0)
     → Settles x next old new k e done d
-settles_by x next old new w f stage touched fault k s e done may d n fe se t r g a z = record {
+settles_by x next old new w f stage touched fault turn k s e done may d n fe se t r g a z = record {
   framing = ap (λ (h : Hop). h.framing) n ∙ fe;
   stage = ap (λ (h : Hop). h.stage) n ∙ ap (λ (st : Stage). stage_then st e) se;
   touched = λ u. t (sym (ap (λ (h : Hop). h.touched) n) ∙ u);

@@ -45,7 +45,8 @@ moved_to x n s a = moved_by x n s a (cases_lt 0 n)
 -- What is given to all moves of a turn.
 pub record Held (x : Seen) (tape : Tape) (f : Framing) (old : Writer) (stage : Stage) (next : Next) (body : List ℕ) : Type 0 where
   sound : Sound x
-  decided : Decides x old f stage next
+  turn : ℕ
+  decided : Decides turn x old f stage next
   base : 0 < next.count → tape.base ≤ chosen_delivered x
   long : length (bytes_of tape next) ≡ next.count
   follows : Follows tape body
@@ -59,7 +60,7 @@ part_is tape next body from k e b i l =
     ∙ (ap (λ (xs : List ℕ). take k xs) (drop-drop (next.from - tape.base) tape.base body)
     ∙ ap (λ (m : ℕ). take k (drop m body)) behind_base))
 
-pub allowed : (x : Seen) (f : Framing) (old : Writer) (stage : Stage) (next : Next) (k : ℕ) → Decides x old f stage next → k ≤ next.count → 0 < k → Allows x (Usr k)
+pub allowed : {turn : ℕ} (x : Seen) (f : Framing) (old : Writer) (stage : Stage) (next : Next) (k : ℕ) → Decides turn x old f stage next → k ≤ next.count → 0 < k → Allows x (Usr k)
 allowed x f old stage next k c l some = fewer x k next.count some l (c.usr (omega arith)).2
 
 data_sent : (x : Seen) (tape : Tape) (f : Framing) (old v : Writer) (stage : Stage) (next : Next) (head body taken : List ℕ) (k : ℕ) → Held x tape f old stage next body → waiting v ≡ []
@@ -129,15 +130,15 @@ only_passes tape next old w k e d z n (begun_chunk m c o l s) = absurd (omega ar
 only_passes tape next old w k e d z n (sent m k' o s few within) = absurd (omega arith)
 only_passes tape next old w k e d z n (ended m o a i) = cc
 
-not_begun : (x : Seen) (f : Framing) (old : Writer) (stage : Stage) (next : Next) → is_message stage ≡ false → Decides x old f stage next → (0 < next.count) ⊎ (next.count ≤ 0) → next.count ≡ 0
+not_begun : {turn : ℕ} (x : Seen) (f : Framing) (old : Writer) (stage : Stage) (next : Next) → is_message stage ≡ false → Decides turn x old f stage next → (0 < next.count) ⊎ (next.count ≤ 0) → next.count ≡ 0
 not_begun x f old stage next m c (inl some) = let t : is_message stage ≡ true = (c.usr some).0 in cc
 not_begun x f old stage next m c (inr none) = omega arith
 
-not_ending : (x : Seen) (f : Framing) (old : Writer) (stage : Stage) (next : Next) (b : Bool) → is_ending next.end ≡ b → is_message stage ≡ false → Decides x old f stage next → b ≡ false
+not_ending : {turn : ℕ} (x : Seen) (f : Framing) (old : Writer) (stage : Stage) (next : Next) (b : Bool) → is_ending next.end ≡ b → is_message stage ≡ false → Decides turn x old f stage next → b ≡ false
 not_ending x f old stage next true i m c = let t : is_message stage ≡ true = (c.ends i).0 in cc
 not_ending x f old stage next false i m c = refl
 
-passes_by : (x : Seen) (tape : Tape) (f : Framing) (old w : Writer) (stage : Stage) (next : Next) (k : ℕ) (e : Bool) (d : List ℕ) → is_message stage ≡ false → Decides x old f stage next → Moves tape next old k e d w → OnlyPasses old w d k e
+passes_by : {turn : ℕ} (x : Seen) (tape : Tape) (f : Framing) (old w : Writer) (stage : Stage) (next : Next) (k : ℕ) (e : Bool) (d : List ℕ) → is_message stage ≡ false → Decides turn x old f stage next → Moves tape next old k e d w → OnlyPasses old w d k e
 passes_by x tape f old w stage next k e d m c v =
     only_passes tape next old w k e d (not_begun x f old stage next m c (cases_lt 0 next.count)) (not_ending x f old stage next (is_ending next.end) refl m c) v
 
@@ -160,7 +161,7 @@ given_on at.Whole x tape f old w next head body taken k e d g m h =
 given_on (at.Refusal status) x tape f old w next head body taken k e d g m h = absurd h
 
 -- and of a refusal
-pub aside_on : (stage : Stage) (x : Seen) (tape : Tape) (f : Framing) (old w : Writer) (next : Next) (taken : List ℕ) (k : ℕ) (e : Bool) (d : List ℕ) → Decides x old f stage next
+pub aside_on : {turn : ℕ} (stage : Stage) (x : Seen) (tape : Tape) (f : Framing) (old w : Writer) (next : Next) (taken : List ℕ) (k : ℕ) (e : Bool) (d : List ℕ) → Decides turn x old f stage next
     → Moves tape next old k e d w → AsideAt stage taken old → AsideAt (stage_then stage e) (taken ++ d) w
 aside_on at.Empty x tape f old w next taken k e d c m h =
     let p = passes_by x tape f old w at.Empty next k e d refl c m in
@@ -209,10 +210,10 @@ done_by x n false l o a = (l.0, l.1, (o, a, tt))
 pub record MayEnd (x : Seen) (next : Next) (k : ℕ) (e : Bool) : Type 0 where
   pub now : (e ≡ true) ⊎ ((x.closed ≡ false) × Allows x Done × (k ≡ 0))
 
-open_usr : (x : Seen) (f : Framing) (old : Writer) (stage : Stage) (next : Next) (k : ℕ) → Decides x old f stage next → k ≤ next.count → 0 < k → (x.closed ≡ false) × Allows x (Usr k)
+open_usr : {turn : ℕ} (x : Seen) (f : Framing) (old : Writer) (stage : Stage) (next : Next) (k : ℕ) → Decides turn x old f stage next → k ≤ next.count → 0 < k → (x.closed ≡ false) × Allows x (Usr k)
 open_usr x f old stage next k c l some = ((c.usr (omega arith)).1, allowed x f old stage next k c l some)
 
-legal_done : (x : Seen) (f : Framing) (old : Writer) (stage : Stage) (next : Next) (k : ℕ) (e : Bool) → Sound x → Decides x old f stage next → Reaches next k e
+legal_done : {turn : ℕ} (x : Seen) (f : Framing) (old : Writer) (stage : Stage) (next : Next) (k : ℕ) (e : Bool) → Sound x → Decides turn x old f stage next → Reaches next k e
     → (e ≡ true) ⊎ ((x.closed ≡ false) × Allows x Done × (k ≡ 0)) → MayAllFollow x (hop_events k true)
 legal_done x f old stage next k e s c r (inl i) =
     let all = r.all i in
@@ -223,16 +224,16 @@ legal_done x f old stage next k e s c r (inl i) =
     (m.still ∙ due.1) (done_allowed (usr_to x next.count) m.sound (m.over ∙ due.2) (m.out ∙ (due.3 ∙ sym m.came))))
 legal_done x f old stage next k e s c r (inr i) = subst (λ (n : ℕ). MayAllFollow x (hop_events n true)) (sym i.2) (i.0, i.1, tt)
 
-pub legal_by : (x : Seen) (f : Framing) (old : Writer) (stage : Stage) (next : Next) (k : ℕ) (e done : Bool) → Sound x → Decides x old f stage next → Reaches next k e
+pub legal_by : {turn : ℕ} (x : Seen) (f : Framing) (old : Writer) (stage : Stage) (next : Next) (k : ℕ) (e done : Bool) → Sound x → Decides turn x old f stage next → Reaches next k e
     → (done ≡ true → (e ≡ true) ⊎ ((x.closed ≡ false) × Allows x Done × (k ≡ 0))) → MayAllFollow x (hop_events k done)
 legal_by x f old stage next k e true s c r a = legal_done x f old stage next k e s c r (a refl)
 legal_by x f old stage next k e false s c r a = usr_legal x k (open_usr x f old stage next k c r.few) (cases_lt 0 k)
 
-base_of : (x : Seen) (tape : Tape) (f : Framing) (old : Writer) (stage : Stage) (next : Next) → KeepsUndelivered x tape → Decides x old f stage next → 0 < next.count → tape.base ≤ chosen_delivered x
+base_of : {turn : ℕ} (x : Seen) (tape : Tape) (f : Framing) (old : Writer) (stage : Stage) (next : Next) → KeepsUndelivered x tape → Decides turn x old f stage next → 0 < next.count → tape.base ≤ chosen_delivered x
 base_of x tape f old stage next u c some = omega (arith, u.base (c.usr some).1)
 
 -- a turn may be made by what was decided
-pub may_go_on : (x : Seen) (tape : Tape) (f : Framing) (old : Writer) (stage : Stage) (next : Next) → Sound x → KeepsUndelivered x tape → Decides x old f stage next → MayGoOn old tape next
+pub may_go_on : {turn : ℕ} (x : Seen) (tape : Tape) (f : Framing) (old : Writer) (stage : Stage) (next : Next) → Sound x → KeepsUndelivered x tape → Decides turn x old f stage next → MayGoOn old tape next
 may_go_on x tape f old stage next s u c = record {
   low = λ some. omega (arith, base_of x tape f old stage next u c some, c.from);
   there = λ some. omega (arith, c.from, u.end, usr_room x next.count s (c.usr some).2);
@@ -240,9 +241,10 @@ may_go_on x tape f old stage next s u c = record {
   within = c.fits.1;
 }
 
-pub held_by : (x : Seen) (tape : Tape) (f : Framing) (old : Writer) (stage : Stage) (next : Next) (body : List ℕ) → Sound x → KeepsUndelivered x tape → Decides x old f stage next → Follows tape body → Held x tape f old stage next body
-held_by x tape f old stage next body s u c i = record {
+pub held_by : {turn : ℕ} (x : Seen) (tape : Tape) (f : Framing) (old : Writer) (stage : Stage) (next : Next) (body : List ℕ) → Sound x → KeepsUndelivered x tape → Decides turn x old f stage next → Follows tape body → Held x tape f old stage next body
+held_by {turn} x tape f old stage next body s u c i = record {
   sound = s;
+  turn = turn;
   decided = c;
   base = base_of x tape f old stage next u c;
   long = there old tape next (may_go_on x tape f old stage next s u c);

@@ -15,6 +15,11 @@ pub fewer : (x : Seen) (m n : ℕ) → 1 ≤ m → m ≤ n → Allows x (Usr n) 
 fewer x m n some l (inl a) = inl (a.0, (some, omega (arith, a.1.1)), omega (arith, a.2))
 fewer x m n some l (inr a) = inr (a.0, (some, omega (arith, a.1.1)), omega (arith, a.2))
 
+-- an Usr has a byte
+pub some_of : (x : Seen) (n : ℕ) → Allows x (Usr n) → 1 ≤ n
+some_of x n (inl a) = a.1.0
+some_of x n (inr a) = a.1.0
+
 -- what is seen once so many bytes of the chosen message went out
 pub record Moved (x y : Seen) (n : ℕ) : Type 0 where
   pub out : chosen_delivered y ≡ chosen_delivered x + n

@@ -20,13 +20,15 @@ use Rattle.adapt_sides.specs.Turns.Gift.{nothing as no_gift, message as message_
 use Rattle.adapt_sides.specs.Tapes.{chosen_delivered, chosen_received, chosen_over, IsUndelivered}
 use Rattle.http_relay.specs.Message.{is_chunks, length_of}
 
--- a next hop's end: the text that is on its way, how the body goes, what is written, whether a byte went out, and its fault
+-- a next hop's end: the text that is on its way, how the body goes, what is written, whether a byte went out, its fault, and how
+-- many bytes of the body one turn writes at most
 pub record Hop : Type 0 where
   pub writer : Writer
   pub framing : Framing
   pub stage : Stage
   pub touched : Bool
   pub fault : Option RelayFault
+  pub turn : ℕ
 
 -- what is fixed of the body's text, with these bytes of the body in it; with its end or not
 pub data Front (framing : Framing) (whole : Bool) (body text : List ℕ) (left : ℕ) : Type 0 where
@@ -91,14 +93,17 @@ is_empty _ = false
 abbrev pub body_end : Framing → List ℕ
 body_end framing = if is_chunks framing then last_chunk false else []
 
--- What comes next: of the chosen message's bytes that may go all that fit into a turn and into the chunk that was begun, and then
+-- What comes next in a turn of at most this many bytes: of the chosen message's bytes that may go all that fit into the turn and
+-- into the chunk that was begun, and then
 -- the body's end, if it comes after them. Before a message is begun, and after its end, nothing. So there is one such next.
-pub record Decides (x : Seen) (w : Writer) (framing : Framing) (stage : Stage) (next : Next) : Type 0 where
+pub record Decides (turn : ℕ) (x : Seen) (w : Writer) (framing : Framing) (stage : Stage) (next : Next) : Type 0 where
   pub chunked : next.chunked ≡ is_chunks framing
   pub from : next.from ≡ chosen_delivered x
   pub fits : FitsTurn w next.chunked next.count
+  pub few : next.count ≤ turn
   pub usr : 0 < next.count → (is_message stage ≡ true) × (x.closed ≡ false) × Allows x (Usr next.count)
-  pub greatest : is_message stage ≡ true → (n : ℕ) → x.closed ≡ false → Allows x (Usr n) → FitsTurn w next.chunked n → n ≤ next.count
+  pub greatest : is_message stage ≡ true → (n : ℕ) → x.closed ≡ false → Allows x (Usr n) → n ≤ turn → FitsTurn w next.chunked n → n ≤ next.count
+  pub some : is_message stage ≡ true → (n : ℕ) → x.closed ≡ false → Allows x (Usr n) → 0 < next.count
   pub room : 0 < next.count → IfSome (length_of framing) (λ n. chosen_received x ≤ n)
   pub ends : is_ending next.end ≡ true → (is_message stage ≡ true) × (x.closed ≡ false) × (chosen_over x ≡ true) × (chosen_delivered x + next.count ≡ chosen_received x)
   pub no_end : is_message stage ≡ true → is_ending next.end ≡ false → x.closed ≡ false → chosen_over x ≡ true → chosen_delivered x + next.count ≡ chosen_received x → ⊥
@@ -154,3 +159,4 @@ pub record DropsText (old new : Hop) : Type 0 where
   pub stage : new.stage ≡ old.stage
   pub touched : new.touched ≡ old.touched
   pub fault : new.fault ≡ old.fault
+  pub turn : new.turn ≡ old.turn

@@ -54,11 +54,11 @@ nothing_first (x ∷ xs) ys e = cc
 no_out : (x : Seen) → IsUndelivered x → chosen_delivered x ≡ 0
 no_out x h = grind (arith, nat_tests, h.0, h.1)
 
-pub hop_begins : (x : Seen) (head body : List ℕ) (w : Writer) → w ≡ fresh [] → IsUndelivered x → HasGiven x head body [] (record { writer = w; framing = by.None; stage = at.Empty; touched = false; fault = None })
-hop_begins x head body w e u = record { given = (ap waiting e, u); untouched = λ n. (refl, u); touched = λ t. cc }
+pub hop_begins : (x : Seen) (head body : List ℕ) (w : Writer) (turn : ℕ) → w ≡ fresh [] → IsUndelivered x → HasGiven x head body [] (record { writer = w; framing = by.None; stage = at.Empty; touched = false; fault = None; turn = turn })
+hop_begins x head body w turn e u = record { given = (ap waiting e, u); untouched = λ n. (refl, u); touched = λ t. cc }
 
-pub hop_aside : (w : Writer) → w ≡ fresh [] → IsAside [] (record { writer = w; framing = by.None; stage = at.Empty; touched = false; fault = None })
-hop_aside w e = record { text = ap waiting e; untouched = λ n. refl; touched = λ t. cc }
+pub hop_aside : (w : Writer) (turn : ℕ) → w ≡ fresh [] → IsAside [] (record { writer = w; framing = by.None; stage = at.Empty; touched = false; fault = None; turn = turn })
+hop_aside w turn e = record { text = ap waiting e; untouched = λ n. refl; touched = λ t. cc }
 
 -- a message begins where nothing was given
 begun_at : (x : Seen) (stage : Stage) (f g : Framing) (other head body taken : List ℕ) (w : Writer) → stage ≡ at.Empty → GivenAt stage x f other body taken w → GivesMessage x g false head body taken (fresh head)
@@ -67,16 +67,16 @@ begun_at x at.Message f g other head body taken w e h = cc
 begun_at x at.Whole f g other head body taken w e h = cc
 begun_at x (at.Refusal status) f g other head body taken w e h = cc
 
-pub begun : (x : Seen) (other head body taken : List ℕ) (g : Framing) (old : Hop) (w : Writer) (touched : Bool) (fault : Option RelayFault) → old.stage ≡ at.Empty → w ≡ fresh head → touched ≡ old.touched
-    → HasGiven x other body taken old → HasGiven x head body taken (record { writer = w; framing = g; stage = at.Message; touched = touched; fault = fault })
-begun x other head body taken g old w touched fault s e t h = record {
+pub begun : (x : Seen) (other head body taken : List ℕ) (g : Framing) (old : Hop) (w : Writer) (touched : Bool) (fault : Option RelayFault) (turn : ℕ) → old.stage ≡ at.Empty → w ≡ fresh head → touched ≡ old.touched
+    → HasGiven x other body taken old → HasGiven x head body taken (record { writer = w; framing = g; stage = at.Message; touched = touched; fault = fault; turn = turn })
+begun x other head body taken g old w touched fault turn s e t h = record {
   given = subst (λ (v : Writer). GivesMessage x g false head body taken v) (sym e) (begun_at x old.stage old.framing g other head body taken old.writer s h.given);
   untouched = λ n. h.untouched (sym t ∙ n);
   touched = λ n. h.touched (sym t ∙ n);
 }
 
-pub refused : (status : ℕ) (w : Writer) (framing : Framing) (touched : Bool) (fault : Option RelayFault) → touched ≡ false → w ≡ fresh (refusal status) → IsAside [] (record { writer = w; framing = framing; stage = at.Refusal status; touched = touched; fault = fault })
-refused status w framing touched fault n e = record { text = ap waiting e ∙ append-nil (refusal status); untouched = λ u. refl; touched = λ t. let odd : true ≡ false = sym t ∙ n in cc }
+pub refused : (status : ℕ) (w : Writer) (framing : Framing) (touched : Bool) (fault : Option RelayFault) (turn : ℕ) → touched ≡ false → w ≡ fresh (refusal status) → IsAside [] (record { writer = w; framing = framing; stage = at.Refusal status; touched = touched; fault = fault; turn = turn })
+refused status w framing touched fault turn n e = record { text = ap waiting e ∙ append-nil (refusal status); untouched = λ u. refl; touched = λ t. let odd : true ≡ false = sym t ∙ n in cc }
 
 -- nothing changed that the message's prefix depends on
 record Keeps (x y : Seen) : Type 0 where

@@ -58,7 +58,7 @@ FitsOffer x old new answer (Err fault) =
 -- wire is asked only if there is such a text.
 pub record OffersAll (x : Seen) (tape : Tape) (old : Hop) (text : List ℕ) (answer : Option Put) : Type 0 where
   pub next : Next
-  pub decides : Decides x old.writer old.framing old.stage next
+  pub decides : Decides old.turn x old.writer old.framing old.stage next
   pub all : text ≡ offered old.writer tape next
   pub asks : answer ≡ None ↔ text ≡ []
 

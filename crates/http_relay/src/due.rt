@@ -15,15 +15,17 @@ use chunk_writer::{ChunkWriter, Ending, Next};
 use http_side::Framing;
 use trace_core::{Event, Kind, Seen, State};
 
-/// What may come next of the message, or `None` if its body breaks its length.
+/// What may come next of the message in a turn of at most this many bytes, or `None` if its body breaks its length.
 #[tactic(auto, using(crate::proofs::Chosen::fewer))]
 pub(crate) fn decide(
     state: &State,
     writer: &ChunkWriter,
     framing: Framing,
     stage: Stage,
+    turn: u64,
 ) -> Option<Next>
-    ensures next { IfSome result (λ next. Decides (shows state.now) writer.now framing stage next) }
+    requires { 1 ≤ turn }
+    ensures next { IfSome result (λ next. Decides turn (shows state.now) writer.now framing stage next) }
     ensures none { result ≡ None → (is_message stage ≡ true) × BreaksLength (shows state.now) framing }
 {
     let seen = state.seen();
@@ -40,7 +42,7 @@ pub(crate) fn decide(
     if !fits_length(&seen, framing, came, over) {
         return None;
     }
-    let count = writer.fit(chunked, deliverable(state));
+    let count = writer.fit(chunked, deliverable(state).min(turn));
     let end = ending(&seen, framing, count);
     Some(Next {
         chunked,

@@ -1,9 +1,10 @@
 //! The next hop's end of one transaction: one message, or the proxy's own refusal (RFC 9112, sections 6 and 7).
 
-ghost use Rattle.std.specs.Prelude.{◌≡◌, ℕ, List, IfSome, IfErr, OnOk, Err, IsTrue, true, false, Some, None, [], ◌⊎◌, not, length};
+ghost use Rattle.std.specs.Prelude.{◌≡◌, ◌≤◌, ℕ, List, IfSome, IfErr, OnOk, Err, IsTrue, true, false, Some, None, [], ◌⊎◌, not, length};
 ghost use Rattle.trace_core.specs.declared.history.Seen.{Seen};
 ghost use Rattle.trace_core.specs.History.{shows};
 ghost use Rattle.chunk_writer.specs.Writer.{fresh, waiting, KeepsNoText};
+ghost use Rattle.chunk_writer.specs.declared.next.TheConstants.{USUAL_CHUNK};
 ghost use Rattle.http_side.specs.Refusals.{is_own_status, refusal};
 ghost use Rattle.adapt_sides.specs.Tapes.{KeepsUndelivered};
 ghost use Rattle.adapt_sides.specs.Turns.{wire_fault};
@@ -13,7 +14,7 @@ ghost use Rattle.http_relay.specs.Writing.{WriteTurn};
 
 use crate::due::{decide, turn_of};
 use adapt_sides::{RelayFault, Turn};
-use chunk_writer::ChunkWriter;
+use chunk_writer::{ChunkWriter, USUAL_CHUNK};
 use http_side::{Framing, own_refusal};
 use span_tape::SpanTape;
 use std::alloc::Global;
@@ -62,20 +63,25 @@ pub struct HopWriter {
     stage: Stage,
     touched: bool,
     fault: Option<RelayFault>,
+    /// How many bytes of the body one turn writes at most.
+    turn: u64,
 }
 
 impl Model for HopWriter {
+    ghost use Rattle.std.specs.Prelude.{◌≤◌};
     ghost use Rattle.http_relay.specs.Giving.{Hop};
 
     ghost Value = { Hop };
 
-    ghost view = { λ h. record { writer = h.writer; framing = h.framing; stage = h.stage; touched = h.touched; fault = h.fault } };
+    ghost view = { λ h. record { writer = h.writer; framing = h.framing; stage = h.stage; touched = h.touched; fault = h.fault; turn = h.turn } };
+
+    ghost invariant = { λ h. 1 ≤ h.turn };
 }
 
 impl HopWriter {
-    /// A next hop to which nothing is written yet.
+    /// A next hop to which nothing is written yet. A turn writes [`USUAL_CHUNK`] bytes of the body at most.
     pub fn new(alloc: Global) -> HopWriter
-        ensures shows { result ≡ record { writer = fresh []; framing = Framing.None; stage = Stage.Empty; touched = false; fault = None } }
+        ensures shows { result ≡ record { writer = fresh []; framing = Framing.None; stage = Stage.Empty; touched = false; fault = None; turn = USUAL_CHUNK } }
         ensures given { (x : Seen) (head body : List ℕ) → IsUndelivered x → HasGiven x head body [] result }
         ensures aside { IsAside [] result }
     {
@@ -85,13 +91,25 @@ impl HopWriter {
             stage: Stage::Empty,
             touched: false,
             fault: None,
+            turn: USUAL_CHUNK,
         }
+    }
+
+    /// The same next hop, of whose body one turn writes at most this many bytes.
+    pub fn with_turn(mut self, turn: u64) -> HopWriter
+        requires { 1 ≤ turn }
+        ensures shows { result ≡ record self { turn = turn } }
+        ensures given { (x : Seen) (head body taken : List ℕ) → HasGiven x head body taken self → HasGiven x head body taken result }
+        ensures aside { (taken : List ℕ) → IsAside taken self → IsAside taken result }
+    {
+        self.turn = turn;
+        self
     }
 
     /// Begins the chosen message: its forwarded head, and how its body goes.
     pub fn begin(&mut self, head: Vec<u8>, framing: Framing)
         requires { self.old.stage ≡ Stage.Empty }
-        ensures shows { self.new ≡ record { writer = fresh head.items; framing = framing; stage = Stage.Message; touched = self.old.touched; fault = self.old.fault } }
+        ensures shows { self.new ≡ record { writer = fresh head.items; framing = framing; stage = Stage.Message; touched = self.old.touched; fault = self.old.fault; turn = self.old.turn } }
         ensures given { (x : Seen) (none body taken : List ℕ) → HasGiven x none body taken self.old → HasGiven x head.items body taken self.new }
     {
         self.writer = ChunkWriter::new(head);
@@ -104,7 +122,7 @@ impl HopWriter {
     pub fn refuse(&mut self, status: u16)
         requires untouched { self.old.touched ≡ false }
         requires own { IsTrue (is_own_status status) }
-        ensures shows { self.new ≡ record { writer = fresh (refusal status); framing = self.old.framing; stage = Stage.Refusal status; touched = false; fault = wire_fault self.old.fault } }
+        ensures shows { self.new ≡ record { writer = fresh (refusal status); framing = self.old.framing; stage = Stage.Refusal status; touched = false; fault = wire_fault self.old.fault; turn = self.old.turn } }
         ensures aside { IsAside [] self.new }
     {
         self.writer = ChunkWriter::constant(own_refusal(status));
@@ -150,7 +168,7 @@ impl HopWriter {
 
     /// Counts what a turn wrote, and says whether the whole message is out with it.
     fn count_written(&mut self, sent: u64, ended: bool, may: bool) -> bool
-        ensures stage { self.new ≡ record { writer = self.old.writer; framing = self.old.framing; stage = stage_then self.old.stage ended; touched = self.old.touched; fault = self.old.fault } }
+        ensures stage { self.new ≡ record { writer = self.old.writer; framing = self.old.framing; stage = stage_then self.old.stage ended; touched = self.old.touched; fault = self.old.fault; turn = self.old.turn } }
         ensures done { result ≡ true → (stage_then self.old.stage ended ≡ Stage.Whole) × (waiting self.old.writer ≡ []) × ((ended ≡ true) ⊎ ((may ≡ true) × (sent ≡ 0))) }
         ensures ended { result ≡ false → waiting self.old.writer ≡ [] → ended ≡ true → ⊥ }
         ensures may { result ≡ false → waiting self.old.writer ≡ [] → is_whole self.old.stage ≡ true → sent ≡ 0 → may ≡ true → ⊥ }
@@ -182,13 +200,14 @@ impl HopWriter {
 
         // A head that is out is kept no longer.
         ensures gone { OnOk result (KeepsNoText self.new.writer) }
+        ensures bytes { self.new.turn ≡ self.old.turn }
     {
         if let Some(fault) = self.fault {
             return Err(fault);
         }
         let _ = state.trace();
         let may = state.sendable().done;
-        let next = match decide(state, &self.writer, self.framing, self.stage) {
+        let next = match decide(state, &self.writer, self.framing, self.stage, self.turn) {
             Some(next) => next,
             None => {
                 self.fault = Some(RelayFault::Length);

@@ -1,6 +1,6 @@
 //! The source's side: a message's head, and its body, over a wire.
 
-ghost use Rattle.std.specs.Prelude.{◌≡◌, ◌<◌, ◌≤◌, [], ◌++◌, length, take, IfOk, IfSome, IfErr, OnOk, OnErr, None, true, false, List, ℕ, ◌↔◌, IsTrue, option_copied};
+ghost use Rattle.std.specs.Prelude.{◌≡◌, ◌<◌, ◌≤◌, [], ◌++◌, length, max, take, IfOk, IfSome, IfErr, OnOk, OnErr, None, true, false, List, ℕ, ◌↔◌, IsTrue, option_copied};
 ghost use Rattle.trace_core.specs.History.{seen, shows};
 ghost use Rattle.trace_core.specs.Turns.{in_sum};
 ghost use Rattle.adapt_sides.specs.declared.filling.TheConstants.{MAX_READ};
@@ -13,7 +13,7 @@ ghost use Rattle.trace_core.specs.declared.history.Seen.{Seen};
 ghost use Rattle.wire_kit.specs.Past.{Past};
 
 use crate::source_body::SourceBody;
-use adapt_sides::{Filled, RawBytes, RelayFault, Turn, fill};
+use adapt_sides::{Filled, RawBytes, RelayFault, Turn, body_read, fill};
 use arrayvec::ArrayVec;
 use http_side::{Framing, HttpFault, HttpRequest, HttpResponse};
 use std::alloc::{AllocError, Global};
@@ -92,11 +92,11 @@ impl SourceSide {
         requires not_over { is_over self.old.body.reader ≡ false }
         requires some_room { 0 < length out.old }
         ensures turn { ReadTurn (length out.old) self.old self.new (W.past wire.old) (W.past wire.new) out.new result }
-        ensures kept { length self.new.raw.items ≤ MAX_READ }
+        ensures kept { length self.new.raw.items ≤ max MAX_READ (length out.old) }
         ensures fault { self.new.fault ≡ self.old.fault }
         ensures head { self.new.head ≡ self.old.head }
     {
-        match fill(&mut self.raw, wire) {
+        match fill(&mut self.raw, wire, body_read(out.len())) {
             Filled::Bytes => match self.frame_raw(out) {
                 Ok(events) => Ok(Turn {
                     events,
@@ -123,7 +123,7 @@ impl SourceSide {
     /// Frames the raw bytes, and reads the wire once where nothing of them can be framed and there is room.
     fn frame_or_read<W: Wire>(&mut self, wire: &mut W, out: &mut [u8]) -> Result<Turn, RelayFault>
         ensures turn { ReadTurn (length out.old) self.old self.new (W.past wire.old) (W.past wire.new) out.new result }
-        ensures kept { length self.old.raw.items < length self.new.raw.items → length self.new.raw.items ≤ MAX_READ }
+        ensures kept { length self.old.raw.items < length self.new.raw.items → length self.new.raw.items ≤ max MAX_READ (length out.old) }
         ensures fault { self.new.fault ≡ self.old.fault }
         ensures head { self.new.head ≡ self.old.head }
     {
@@ -149,7 +149,7 @@ impl SourceSide {
     /// Runs [`SourceSide::frame_or_read`], and then keeps no empty room.
     fn turn_once<W: Wire>(&mut self, wire: &mut W, out: &mut [u8]) -> Result<Turn, RelayFault>
         ensures turn { ReadTurn (length out.old) self.old self.new (W.past wire.old) (W.past wire.new) out.new result }
-        ensures kept { length self.old.raw.items < length self.new.raw.items → length self.new.raw.items ≤ MAX_READ }
+        ensures kept { length self.old.raw.items < length self.new.raw.items → length self.new.raw.items ≤ max MAX_READ (length out.old) }
         ensures fault { self.new.fault ≡ self.old.fault }
         ensures head { self.new.head ≡ self.old.head }
         ensures empty { self.new.raw.items ≡ [] → self.new.raw.spare ≡ 0 }
@@ -170,8 +170,9 @@ impl SourceSide {
         ensures turn { self.old.fault ≡ None → ReadTurn (length out.old) self.old self.new (W.past wire.old) (W.past wire.new) out.new result }
         ensures head { self.new.head ≡ self.old.head }
 
-        // Raw bytes that are kept after a turn are those of before, or of one read; no empty room is kept.
-        ensures kept { length self.old.raw.items < length self.new.raw.items → length self.new.raw.items ≤ MAX_READ }
+        // Raw bytes that are kept after a turn are those of before, or of one read, of as many as the turn has room for, or [`MAX_READ`]
+        // where that is more; no empty room is kept.
+        ensures kept { length self.old.raw.items < length self.new.raw.items → length self.new.raw.items ≤ max MAX_READ (length out.old) }
         ensures empty { self.old.fault ≡ None → self.new.raw.items ≡ [] → self.new.raw.spare ≡ 0 }
     {
         if let Some(fault) = self.fault {

@@ -16,9 +16,9 @@ use Rattle.icap_client.specs.Sending.{KeepsUnsent, Decides, sending_events}
 use Rattle.icap_client.specs.Turns.{GoesOn, WriteTurn, FitsOffer, FitsAnswer, events_of}
 use Rattle.icap_client.proofs.Turning.{goes_on, nothing_due}
 
-pub turned : (x : Seen) (tape : Tape) (next : Next) (v w : Writer) (before after : Past → Type 0) (result : Result Turn ClientFault) (answer : Option Put) (k : ℕ) (e : Bool)
-    → Sound x → KeepsUnsent x tape → Decides x v next → Offers before after (offered v tape next) answer → (answer ≡ None ↔ offered v tape next ≡ []) → Moves tape next v k e (delta_of (offered v tape next) answer) w
-    → events_of result ≡ sending_events k e → FitsOffer x w answer result → WriteTurn x tape v w before after result
+pub turned : {most : ℕ} (x : Seen) (tape : Tape) (next : Next) (v w : Writer) (before after : Past → Type 0) (result : Result Turn ClientFault) (answer : Option Put) (k : ℕ) (e : Bool)
+    → Sound x → KeepsUnsent x tape → Decides most x v next → Offers before after (offered v tape next) answer → (answer ≡ None ↔ offered v tape next ≡ []) → Moves tape next v k e (delta_of (offered v tape next) answer) w
+    → events_of result ≡ sending_events k e → FitsOffer x w answer result → WriteTurn most x tape v w before after result
 turned x tape next v w before after result answer k e s u c o a m h f = record {
   next = next;
   answer = answer;
@@ -70,7 +70,7 @@ fits_wait x w answer turn a n t = record {
   woke = λ h i. t h n;
 }
 
-pub fits_none : (x : Seen) (tape : Tape) (next : Next) (v w : Writer) (answer : Option Put) (k : ℕ) (e : Bool) (d : List ℕ) (turn : Turn) → answer ≡ None → Decides x v next → Moves tape next v k e d w → IsIdle v next k e → turn.events.items ≡ sending_events 0 e
+pub fits_none : {most : ℕ} (x : Seen) (tape : Tape) (next : Next) (v w : Writer) (answer : Option Put) (k : ℕ) (e : Bool) (d : List ℕ) (turn : Turn) → answer ≡ None → Decides most x v next → Moves tape next v k e d w → IsIdle v next k e → turn.events.items ≡ sending_events 0 e
     → (turn.waiting ≡ true → turn.events.items ≡ []) → (turn.waiting ≡ false → turn.events.items ≡ [] → ⊥) → FitsAnswer x w answer turn
 fits_none x tape next v w answer k e d turn a c m i h t f = record {
   no_fault = λ b. cc;

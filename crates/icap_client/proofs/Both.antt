@@ -88,8 +88,8 @@ says x w bytes answer (Ok turn) f s = record {
 }
 says x w bytes answer (Err g) f s = record { idle = λ h. cc; waits = λ t e n d. cc }
 
-pub sends_by : (x : Seen) (tape : Tape) (old new : Writer) (fault kept : Option ClientFault) (P Q : Past → Type 0) (result : Result Turn ClientFault) → fault ≡ None → KeepsUnsent x tape
-    → WriteTurn x tape old new P Q result → ((turn : Turn) → result ≡ Ok turn → kept ≡ None) → ((g : ClientFault) → result ≡ Err g → kept ≡ Some g)
+pub sends_by : {most : ℕ} (x : Seen) (tape : Tape) (old new : Writer) (fault kept : Option ClientFault) (P Q : Past → Type 0) (result : Result Turn ClientFault) → fault ≡ None → KeepsUnsent x tape
+    → WriteTurn most x tape old new P Q result → ((turn : Turn) → result ≡ Ok turn → kept ≡ None) → ((g : ClientFault) → result ≡ Err g → kept ≡ Some g)
     → Sends x tape (λ head x came taken. HasSent head x came taken old) (λ head x came taken. HasSent head x came taken new) fault kept (NothingDue x new) P Q result
 sends_by x tape old new fault kept P Q result none k t sound stays =
     let text = offered old tape t.next in

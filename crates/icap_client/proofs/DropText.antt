@@ -44,7 +44,7 @@ fits_still x mid new answer (Ok turn) l f = record {
 }
 fits_still x mid new answer (Err fault) l f = f
 
-pub write_still : (x : Seen) (tape : Tape) (old mid new : Writer) (P Q : Past → Type 0) (result : Result Turn ClientFault) → DropsText mid new → WriteTurn x tape old mid P Q result → WriteTurn x tape old new P Q result
+pub write_still : {most : ℕ} (x : Seen) (tape : Tape) (old mid new : Writer) (P Q : Past → Type 0) (result : Result Turn ClientFault) → DropsText mid new → WriteTurn most x tape old mid P Q result → WriteTurn most x tape old new P Q result
 write_still x tape old mid new P Q result l t = record {
   next = t.next;
   answer = t.answer;

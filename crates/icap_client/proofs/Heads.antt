@@ -1,5 +1,5 @@
 -- Heads of responses: why one is refused, and what the adapted message's makes of what was heard.
-use Rattle.std.proofs.Common.{◌≡◌, ◌≢◌, ℕ, ◌≤◌, ◌⊎◌, inl, inr, Bool, true, false, List, [], ◌∷◌, ◌++◌, length, take, refl, ap, sym, subst, ◌∙◌, append_assoc, append-nil, arith, Option, None, Result, Ok, Err, IfOk, IsTrue}
+use Rattle.std.proofs.Common.{◌≡◌, ◌≢◌, ℕ, ◌≤◌, ◌⊎◌, inl, inr, Bool, true, false, List, [], ◌∷◌, ◌++◌, length, take, refl, ap, sym, subst, ◌∙◌, append_assoc, append-nil, arith, None, Result, Ok, Err, IfOk, IsTrue}
 use Rattle.std.proofs.lemmas.List.{take-take, length-take-le, length-take}
 use Rattle.icap_head.specs.Heads.{Response, HasResponse, RefusesResponse, StartsResponse}
 use Rattle.icap_head.proofs.Folding.{head_of_front, unfolded_length}

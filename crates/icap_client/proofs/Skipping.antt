@@ -237,9 +237,6 @@ frames_same old new e = frames_kept old new (ap (λ (n : Asker). n.stage) e) (ap
 pub holds_start : (head : IcapResponse) (chunks : ChunkReader) → chunks ≡ start → HoldsHead (Body chunks) (Some head)
 holds_start head chunks e = subst (λ (r : ChunkReader). HoldsHead (Body r) (Some head)) (sym e) (refl, none_starts, sound_starts)
 
-pub both : {A B : Type 0} → A → B → A × B
-both a b = (a, b)
-
 some_mapped : (o : Option IcapResponse) → is_some o ≡ true → is_some (option_map response_parts o) ≡ true
 some_mapped None e = cc
 some_mapped (Some head) e = refl

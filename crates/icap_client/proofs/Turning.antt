@@ -126,7 +126,8 @@ chunked_data false v k e = cc
 -- What is given to all moves of a turn.
 pub record Given (x : Seen) (tape : Tape) (next : Next) (old : Writer) (came : List ℕ) : Type 0 where
   sound : Sound x
-  decided : Decides x old next
+  most : ℕ
+  decided : Decides most x old next
   base : 0 < next.count → tape.base ≤ x.sent
   long : length (bytes_of tape next) ≡ next.count
   came_is : Came x tape came
@@ -172,7 +173,7 @@ stop_by : (x : Seen) (n : ℕ) (b : Bool) → MayAllFollow x (if b then [] else 
 stop_by x n true l o a = (o, a, tt)
 stop_by x n false l o a = (l.0, l.1, (o, a, tt))
 
-legal_by : (x : Seen) (tape : Tape) (next : Next) (old : Writer) (k : ℕ) (e : Bool) → Sound x → Decides x old next → Reaches next k e → MayAllFollow x (sending_events k e)
+legal_by : {most : ℕ} (x : Seen) (tape : Tape) (next : Next) (old : Writer) (k : ℕ) (e : Bool) → Sound x → Decides most x old next → Reaches next k e → MayAllFollow x (sending_events k e)
 legal_by x tape next old k false s c r =
     svc_legal x k (λ some. let all = c.svc (omega (arith, r.few)) in (all.0, fewer x k next.count some r.few all.1)) (cases_lt 0 k)
 legal_by x tape next old k true s c r =
@@ -181,11 +182,11 @@ legal_by x tape next old k true s c r =
     subst (λ (n : ℕ). MayAllFollow x (sending_events n true)) (sym (r.all refl).0)
     (stop_by x next.count (next.count == 0) (svc_legal x next.count c.svc (cases_lt 0 next.count)) (l.open_still ∙ due.0) (l.stop due.1 due.2))
 
-from_base : (x : Seen) (tape : Tape) (next : Next) (old : Writer) → KeepsUnsent x tape → Decides x old next → 0 < next.count → tape.base ≤ x.sent
+from_base : {most : ℕ} (x : Seen) (tape : Tape) (next : Next) (old : Writer) → KeepsUnsent x tape → Decides most x old next → 0 < next.count → tape.base ≤ x.sent
 from_base x tape next old k c some = k.base (c.svc some).0 (c.svc some).1.0
 
 -- a turn may be made by what was decided
-pub may_go_on : (x : Seen) (tape : Tape) (next : Next) (old : Writer) → KeepsUnsent x tape → Decides x old next → MayGoOn old tape next
+pub may_go_on : {most : ℕ} (x : Seen) (tape : Tape) (next : Next) (old : Writer) → KeepsUnsent x tape → Decides most x old next → MayGoOn old tape next
 may_go_on x tape next old k c = record {
   low = λ some. omega (arith, from_base x tape next old k c some, c.from);
   there = λ some. omega (arith, c.from, k.end, (c.svc some).1.2);
@@ -205,13 +206,14 @@ only_by : (k : ℕ) (e : Bool) → AllAre is_of_sending (sending_events k e)
 only_by k true = only_stop k (k == 0)
 only_by k false = only_svc k (k == 0)
 
-pub goes_on : (x : Seen) (tape : Tape) (next : Next) (old w : Writer) (k : ℕ) (e : Bool) (d : List ℕ) → Sound x → KeepsUnsent x tape → Decides x old next → Moves tape next old k e d w
+pub goes_on : {most : ℕ} (x : Seen) (tape : Tape) (next : Next) (old w : Writer) (k : ℕ) (e : Bool) (d : List ℕ) → Sound x → KeepsUnsent x tape → Decides most x old next → Moves tape next old k e d w
     → GoesOn x tape old w (sending_events k e) d
-goes_on x tape next old w k e d s u c m = record {
+goes_on {most} x tape next old w k e d s u c m = record {
   legal = legal_by x tape next old k e s c (reaches tape next old w k e d m);
   only = only_by k e;
   sent = λ head came taken i h. carried head x tape next old w came taken k e d (record {
     sound = s;
+    most = most;
     decided = c;
     base = from_base x tape next old u c;
     long = there old tape next (may_go_on x tape next old u c);
@@ -233,10 +235,10 @@ still_out tape next v w k d o c (passed {d = d'} {v = u} m part w' p) = (append_
 still_out tape next v w k d o c (begun_chunk m a b l some) = absurd (omega (arith, c, some))
 still_out tape next v w k d o c (sent m k' a some few inside) = absurd (omega (arith, c, some, few))
 
--- where no byte comes next, none may follow: one byte fits into each turn
-none_fits : (x : Seen) (w : Writer) (next : Next) → Decides x w next → next.count ≡ 0 → (n : ℕ) → x.closed ≡ false → Allows x (Svc n) → ⊥
+-- where no byte comes next, none may follow
+none_fits : {most : ℕ} (x : Seen) (w : Writer) (next : Next) → Decides most x w next → next.count ≡ 0 → (n : ℕ) → x.closed ≡ false → Allows x (Svc n) → ⊥
 none_fits x w next c z n o a =
-    let one : 1 ≤ next.count = c.greatest 1 (o, fewer x 1 n (omega arith) a.1.0 a) (omega arith, λ b l. l) in
+    let one : 0 < next.count = c.some n (o, a) in
     omega (arith, one, z)
 
 -- a last chunk that may follow is due where the body has gone
@@ -245,7 +247,7 @@ stop_from x n z (m, inl h) = inl (h.0, omega (arith, h.1, z))
 stop_from x n z (m, inr h) = inr (moved_preview (open_preview x) x.sent (x.sent + n) (omega (arith, z)) h)
 
 -- nothing was offered, and no event stands: nothing is due
-pub nothing_due : (x : Seen) (tape : Tape) (next : Next) (w new : Writer) (k : ℕ) (e : Bool) (d : List ℕ) → Decides x w next → Moves tape next w k e d new → IsIdle w next k e → sending_events 0 e ≡ [] → NothingDue x new
+pub nothing_due : {most : ℕ} (x : Seen) (tape : Tape) (next : Next) (w new : Writer) (k : ℕ) (e : Bool) (d : List ℕ) → Decides most x w next → Moves tape next w k e d new → IsIdle w next k e → sending_events 0 e ≡ [] → NothingDue x new
 nothing_due x tape next w new k true d c m i n = cc
 nothing_due x tape next w new k false d c m i n = record {
   flushed = still_out tape next w new k d i.out i.none m;

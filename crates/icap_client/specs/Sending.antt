@@ -70,14 +70,16 @@ stop_text_at x place =
     if is_null x.plan.len then []
     else last_chunk (is_preview x.plan.kind && not x.stopped && x.ended && (place == x.received))
 
--- What comes next: of the body bytes that may be sent all that fit into a turn and into the chunk that was begun, and after them
--- the last chunk, if it is due. So there is one such next.
-pub record Decides (x : Seen) (w : Writer) (next : Next) : Type 0 where
+-- What comes next in a turn of at most this many bytes: of the body bytes that may be sent all that fit into the turn and into the
+-- chunk that was begun, and after them the last chunk, if it is due. So there is one such next.
+pub record Decides (most : ℕ) (x : Seen) (w : Writer) (next : Next) : Type 0 where
   pub chunked : next.chunked ≡ true
   pub from : next.from ≡ x.sent
   pub fits : FitsTurn w true next.count
+  pub few : next.count ≤ most
   pub svc : 0 < next.count → MayCome x (Svc next.count)
-  pub greatest : (n : ℕ) → MayCome x (Svc n) → FitsTurn w true n → n ≤ next.count
+  pub greatest : (n : ℕ) → MayCome x (Svc n) → n ≤ most → FitsTurn w true n → n ≤ next.count
+  pub some : (n : ℕ) → MayCome x (Svc n) → 0 < next.count
   pub stop : is_ending next.end ≡ true → StopsBehind x next.count
   pub no_stop : is_ending next.end ≡ false → StopsBehind x next.count → ⊥
   pub text : is_ending next.end ≡ true → end_text next.end ≡ stop_text_at x (x.sent + next.count)

@@ -30,13 +30,14 @@ pub record GoesOn (x : Seen) (tape : Tape) (old new : Writer) (events : List Eve
   pub only : AllAre is_of_sending events
   pub sent : (head came taken : List ℕ) → Came x tape came → HasSent head x came taken old → HasSent head (after_all x events) came (taken ++ delta) new
 
--- the service's side: what is written, what is read with the fault that stays, and two marks: the Stop was fixed after which
--- nothing goes to the service; a preview was answered, with no 100 before it
+-- the service's side: what is written, what is read with the fault that stays, two marks: the Stop was fixed after which
+-- nothing goes to the service; a preview was answered, with no 100 before it; and how many bytes of the body one turn writes at most
 pub record Service : Type 0 where
   pub writer : Writer
   pub replies : ReadSide
   pub last_stop : Bool
   pub answered : Bool
+  pub turn : ℕ
 
 -- a final response answered a preview, with no 100 before it (RFC 3507, section 4.5)
 abbrev pub is_answered : Seen → Bool
@@ -65,12 +66,12 @@ abbrev pub FitsOffer : Seen → Writer → Option Put → Result Turn ClientFaul
 FitsOffer x w answer (Ok turn) = FitsAnswer x w answer turn
 FitsOffer x w answer (Err fault) = (fault ≡ Device) × (answer ≡ Some put.Fault)
 
--- A turn of a side without a fault: its wire took a prefix of all that is due, which is what waits and, unless a long head goes
+-- A turn of a side without a fault, of at most this many body bytes: its wire took a prefix of all that is due, which is what waits and, unless a long head goes
 -- out alone, what comes next after it; the wire is asked only if there is such a text.
-pub record WriteTurn (x : Seen) (tape : Tape) (old new : Writer) (before after : Past → Type 0) (result : Result Turn ClientFault) : Type 0 where
+pub record WriteTurn (most : ℕ) (x : Seen) (tape : Tape) (old new : Writer) (before after : Past → Type 0) (result : Result Turn ClientFault) : Type 0 where
   pub next : Next
   pub answer : Option Put
-  pub decides : Decides x old next
+  pub decides : Decides most x old next
   pub wire : Offers before after (offered old tape next) answer
   pub asks : answer ≡ None ↔ offered old tape next ≡ []
   pub goes_on : GoesOn x tape old new (events_of result) (delta_of (offered old tape next) answer)

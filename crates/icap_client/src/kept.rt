@@ -1,6 +1,6 @@
 //! The bytes of a reply that are kept without being framed.
 
-ghost use Rattle.std.specs.Prelude.{◌≡◌, ◌<◌, ◌≤◌, ◌==◌, [], length, drop, true};
+ghost use Rattle.std.specs.Prelude.{◌≡◌, ◌<◌, ◌≤◌, ◌==◌, [], length, drop, max, true};
 ghost use Rattle.std.specs.List.{list_any};
 ghost use Rattle.icap_head.specs.Heads.{RefusesResponse};
 ghost use Rattle.icap_head.specs.declared.reading.HeadFault.TheVariants.{More};
@@ -8,6 +8,7 @@ ghost use Rattle.adapt_bytes.specs.declared.limits.TheConstants.{MAX_HEAD};
 ghost use Rattle.adapt_bytes.specs.Text.{has_line};
 ghost use Rattle.icap_client.specs.HeadFront.{IsHeadFront};
 ghost use Rattle.adapt_sides.specs.Filling.{IsFilled};
+ghost use Rattle.adapt_sides.specs.declared.filling.TheConstants.{MAX_FILL};
 
 use adapt_bytes::{MAX_HEAD, behind};
 use adapt_sides::{Filled, RawBytes, fill};
@@ -24,14 +25,14 @@ pub(crate) struct Kept {
 
 impl Model for Kept {
     ghost use Rattle.std.specs.Prelude.{◌≤◌, length};
-    ghost use Rattle.adapt_bytes.specs.declared.limits.TheConstants.{MAX_HEAD};
+    ghost use Rattle.adapt_sides.specs.declared.filling.TheConstants.{MAX_FILL};
     ghost use Rattle.icap_client.specs.HeadFront.{Store, IsJudged};
 
     ghost Value = { Store };
 
     ghost view = { λ k. record { bytes = k.bytes.items; judged = k.judged; room = k.bytes.spare } };
 
-    ghost invariant = { λ k. (length k.bytes.items ≤ MAX_HEAD) × (k.judged ≤ length k.bytes.items) × IsJudged k.judged k.bytes.items };
+    ghost invariant = { λ k. (length k.bytes.items ≤ MAX_FILL) × (k.judged ≤ length k.bytes.items) × IsJudged k.judged k.bytes.items };
 }
 
 /// Whether a line ends in the bytes.
@@ -60,7 +61,7 @@ impl Kept {
     /// The number of bytes.
     pub(crate) fn len(&self) -> usize
         ensures len { result ≡ length self.now.bytes }
-        ensures limit { result ≤ MAX_HEAD }
+        ensures limit { result ≤ MAX_FILL }
     {
         self.bytes.len()
     }
@@ -76,7 +77,8 @@ impl Kept {
     pub(crate) fn pass(&mut self, used: usize, judged: bool)
         requires within { used ≤ length self.old.bytes }
         requires front { judged ≡ true → RefusesResponse More (drop used self.old.bytes) }
-        ensures { self.new.bytes ≡ drop used self.old.bytes }
+        ensures bytes { self.new.bytes ≡ drop used self.old.bytes }
+        ensures fewer { length self.new.bytes ≤ length self.old.bytes }
     {
         self.judged = 0;
         self.bytes.advance(used);
@@ -103,11 +105,13 @@ impl Kept {
         }
     }
 
-    /// Reads once, and appends what came.
-    pub(crate) fn fill<W: Wire>(&mut self, wire: &mut W) -> Filled
-        requires { length self.old.bytes < MAX_HEAD }
+    /// Reads once, at most `most` bytes, and appends what came.
+    pub(crate) fn fill<W: Wire>(&mut self, wire: &mut W, most: usize) -> Filled
+        requires short { length self.old.bytes < MAX_HEAD }
+        requires some { 1 ≤ most }
         ensures filled { IsFilled (W.past wire.old) (W.past wire.new) self.old.bytes self.new.bytes result }
+        ensures few { length self.new.bytes ≤ max MAX_HEAD most }
     {
-        fill(&mut self.bytes, wire)
+        fill(&mut self.bytes, wire, most)
     }
 }

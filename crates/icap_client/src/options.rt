@@ -50,7 +50,8 @@ pub struct OptionsSide {
 }
 
 impl Model for OptionsSide {
-    ghost use Rattle.std.specs.Prelude.{length, drop, option_map, vec_capacity};
+    ghost use Rattle.std.specs.Prelude.{◌≤◌, length, drop, option_map, vec_capacity};
+    ghost use Rattle.adapt_bytes.specs.declared.limits.TheConstants.{MAX_HEAD};
     ghost use Rattle.icap_head.specs.Heads.{response_parts};
     ghost use Rattle.icap_client.specs.Asking.{Asker, HoldsText, HoldsHead};
 
@@ -58,7 +59,7 @@ impl Model for OptionsSide {
 
     ghost view = { λ s. record { waiting = drop s.out s.text.items; stage = s.stage; response = option_map response_parts s.response; raw = s.raw.bytes; fault = s.fault; room = s.raw.room } };
 
-    ghost invariant = { λ s. HoldsText s.out (length s.text.items) (vec_capacity s.text) × HoldsHead s.stage s.response };
+    ghost invariant = { λ s. HoldsText s.out (length s.text.items) (vec_capacity s.text) × HoldsHead s.stage s.response × (length s.raw.bytes ≤ MAX_HEAD) };
 }
 
 impl OptionsSide {
@@ -256,7 +257,7 @@ impl OptionsSide {
         ensures asks { Asks self.old self.new (W.past wire.old) (W.past wire.new) result }
         ensures fault { self.new.fault ≡ self.old.fault }
     {
-        match self.raw.fill(wire) {
+        match self.raw.fill(wire, MAX_READ) {
             Filled::Bytes => {}
             Filled::Wait => return Ok(None),
             Filled::Ended => return Err(ClientFault::Closed),

@@ -1,11 +1,13 @@
 //! The service's end of one transaction: both halves.
 
-ghost use Rattle.std.specs.Prelude.{option_copied, ◌≡◌, ℕ, List, ◌+◌, ◌≤◌, ◌++◌, ◌∷◌, ◌↔◌, IsTrue, IfSome, is_some, IfOk, Err, true, false, Some, None, ◌⊎◌, [], length, map, string_bytes, ◌<◌, MatchOption};
+ghost use Rattle.std.specs.Prelude.{option_copied, ◌≡◌, ℕ, List, ◌+◌, ◌≤◌, ◌++◌, ◌∷◌, ◌↔◌, IsTrue, IfSome, is_some, IfOk, Err, true, false, Some, None, ◌⊎◌, [], length, map, max, string_bytes, ◌<◌, MatchOption};
 ghost use Rattle.adapt_bytes.specs.declared.limits.TheConstants.{COUNT_LIMIT, MAX_HEAD};
 ghost use Rattle.trace_core.specs.declared.history.Seen.{Seen};
 ghost use Rattle.trace_core.specs.History.{seen, shows};
 ghost use Rattle.wire_kit.specs.Past.{Past};
 ghost use Rattle.chunk_writer.specs.Writer.{fresh, waiting};
+ghost use Rattle.chunk_writer.specs.declared.next.TheConstants.{USUAL_CHUNK};
+ghost use Rattle.adapt_sides.specs.declared.filling.TheConstants.{MAX_FILL};
 ghost use Rattle.icap_client.specs.Heard.{KeepsHead};
 ghost use Rattle.icap_client.specs.Carried.{carried_text};
 ghost use Rattle.icap_client.specs.Said.{infection_in, tag_in, virus_in};
@@ -24,7 +26,7 @@ use crate::side::ReplySide;
 use crate::stage::Stage;
 use adapt_sides::{ClientFault, Turn, push_event};
 use arrayvec::ArrayVec;
-use chunk_writer::{ChunkWriter, Wrote};
+use chunk_writer::{ChunkWriter, USUAL_CHUNK, Wrote};
 use encapsulated::Layout;
 use span_tape::SpanTape;
 use std::alloc::{AllocError, Global};
@@ -33,21 +35,23 @@ use std::net::Ipv4Addr;
 use trace_core::{Event, Plan, Point, State};
 use wire_kit::{Put, Wire};
 
-/// Writes what is due, with one write at most, and notes whether the last Stop is fixed.
+/// Writes what is due, with one write of at most `most` body bytes, and notes whether the last Stop is fixed.
 fn write_once<W: Wire>(
     writer: &mut ChunkWriter,
     last_stop: &mut bool,
+    most: u64,
     state: &State,
     tape: &SpanTape,
     wire: &mut W,
 ) -> Result<Turn, ClientFault>
-    requires { KeepsUnsent (shows state.now) tape.now }
-    ensures turn { WriteTurn (shows state.now) tape.now writer.old writer.new (W.past wire.old) (W.past wire.new) result }
+    requires tape { KeepsUnsent (shows state.now) tape.now }
+    requires some { 1 ≤ most }
+    ensures turn { WriteTurn most (shows state.now) tape.now writer.old writer.new (W.past wire.old) (W.past wire.new) result }
     ensures last_stop { last_stop.new ≡ (after_all (shows state.now) (events_of result)).last_stop }
     ensures head { writer.new.head ≡ writer.old.head }
 {
     let _ = state.trace();
-    let next = decide(state, writer);
+    let next = decide(state, writer, most);
     let wrote = writer.write(&next, tape, wire);
     let seen = state.seen();
     *last_stop = has_last_stop(&seen, wrote.ended, next.from + next.count);
@@ -81,18 +85,24 @@ pub struct ServiceSide {
     last_stop: bool,
     /// Whether a preview was answered, with no 100 before the answer.
     answered: bool,
+    /// How many bytes of the body one turn writes at most.
+    turn: u64,
 }
 
 impl Model for ServiceSide {
+    ghost use Rattle.std.specs.Prelude.{◌≤◌};
     ghost use Rattle.icap_client.specs.Turns.{Service};
 
     ghost Value = { Service };
 
-    ghost view = { λ s. record { writer = s.writer; replies = s.replies; last_stop = s.last_stop; answered = s.answered } };
+    ghost view = { λ s. record { writer = s.writer; replies = s.replies; last_stop = s.last_stop; answered = s.answered; turn = s.turn } };
+
+    ghost invariant = { λ s. 1 ≤ s.turn };
 }
 
 impl ServiceSide {
-    /// A request whose ICAP head, followed by the encapsulated heads, is this text.
+    /// A request whose ICAP head, followed by the encapsulated heads, is this text. A turn writes [`USUAL_CHUNK`] bytes of the body
+    /// at most.
     pub fn of_head(alloc: Global, point: Point, head: Vec<u8>) -> ServiceSide
         ensures writer { result.writer ≡ fresh head.items }
         ensures reader { result.replies.reader ≡ first_reader point }
@@ -100,13 +110,24 @@ impl ServiceSide {
         ensures fault { result.replies.fault ≡ None }
         ensures room { result.replies.room ≡ 0 }
         ensures marks { (result.last_stop ≡ false) × (result.answered ≡ false) }
+        ensures turn { result.turn ≡ USUAL_CHUNK }
     {
         ServiceSide {
             writer: ChunkWriter::new(head),
             replies: ReplySide::new(alloc, point),
             last_stop: false,
             answered: false,
+            turn: USUAL_CHUNK,
         }
+    }
+
+    /// The same side, of whose body one turn writes at most this many bytes.
+    pub fn with_turn(mut self, turn: u64) -> ServiceSide
+        requires { 1 ≤ turn }
+        ensures { result ≡ record self { turn = turn } }
+    {
+        self.turn = turn;
+        self
     }
 
     /// A request that offers a message of this plan to the service there, which is told the user's address `from`, where there is
@@ -129,6 +150,7 @@ impl ServiceSide {
         ensures fault { IfOk result (λ side. side.replies.fault ≡ None) }
         ensures room { IfOk result (λ side. side.replies.room ≡ 0) }
         ensures marks { IfOk result (λ side. (side.last_stop ≡ false) × (side.answered ≡ false)) }
+        ensures turn { IfOk result (λ side. side.turn ≡ USUAL_CHUNK) }
     {
         let head = request_head(alloc, plan, from, carried, host, port, path, req, res)?;
         Ok(ServiceSide::of_head(alloc, plan.point, head))
@@ -143,6 +165,7 @@ impl ServiceSide {
         ensures fault { self.new.replies.fault ≡ None }
         ensures room { self.new.replies.room ≡ 0 }
         ensures marks { (self.new.last_stop ≡ false) × (self.new.answered ≡ false) }
+        ensures turn { self.new.turn ≡ self.old.turn }
     {
         self.writer.restart();
         self.replies.restart();
@@ -175,7 +198,7 @@ impl ServiceSide {
     /// The raw bytes left over.
     pub fn raw_left(&self) -> usize
         ensures left { result ≡ length self.now.replies.raw }
-        ensures limit { result ≤ MAX_HEAD }
+        ensures limit { result ≤ MAX_FILL }
     {
         self.replies.raw_left()
     }
@@ -241,6 +264,7 @@ impl ServiceSide {
         ensures replies { self.new.replies ≡ self.old.replies }
         ensures last_stop { self.new.last_stop ≡ self.old.last_stop }
         ensures answered { self.new.answered ≡ self.old.answered }
+        ensures turn { self.new.turn ≡ self.old.turn }
         ensures writer { DropsText self.old.writer self.new.writer }
         ensures heads { KeepsOrDrops self.old.writer self.new.writer }
         ensures kept { may_retry ≡ true → self.new.writer.head ≡ self.old.writer.head }
@@ -263,10 +287,11 @@ impl ServiceSide {
         ensures raw { self.new.replies.raw ≡ self.old.replies.raw }
         ensures room { self.new.replies.room ≡ self.old.replies.room }
         ensures answered { self.new.answered ≡ self.old.answered }
+        ensures bytes { self.new.turn ≡ self.old.turn }
 
         // One write at most, and what each answer of it means. A turn that goes well leaves no fault, and one that fails keeps its
         // fault (the `fault` of `Sends`).
-        ensures turn { self.old.replies.fault ≡ None → WriteTurn (shows state.now) tape.now self.old.writer self.new.writer (W.past wire.old) (W.past wire.new) result }
+        ensures turn { self.old.replies.fault ≡ None → WriteTurn self.old.turn (shows state.now) tape.now self.old.writer self.new.writer (W.past wire.old) (W.past wire.new) result }
         ensures sends { Sends (shows state.now) tape.now
             (λ head x came taken. ServiceSent head x came taken self.old) (λ head x came taken. ServiceSent head x came taken self.new)
             self.old.replies.fault self.new.replies.fault (NothingDue (shows state.now) self.new.writer) (W.past wire.old) (W.past wire.new) result }
@@ -283,7 +308,15 @@ impl ServiceSide {
         if let Some(fault) = self.replies.fault() {
             return Err(fault);
         }
-        match write_once(&mut self.writer, &mut self.last_stop, state, tape, wire) {
+        let most = self.turn;
+        match write_once(
+            &mut self.writer,
+            &mut self.last_stop,
+            most,
+            state,
+            tape,
+            wire,
+        ) {
             Ok(turn) => {
                 self.drop_text(state.may(Event::Retry));
                 Ok(turn)
@@ -307,6 +340,7 @@ impl ServiceSide {
         ensures last_stop { self.new.last_stop ≡ self.old.last_stop }
         ensures answered { IfOk result (λ turn. self.new.answered ≡ is_answered (after_all (shows state.now) turn.events.items)) }
         ensures head { KeepsHead (shows state.now) self.old.replies.reader self.new.replies.reader }
+        ensures bytes { self.new.turn ≡ self.old.turn }
 
         // What the wire gave, what was framed, and why bytes are refused. A turn that goes well leaves no fault, and one that fails
         // keeps its fault (the `fault` of `Hears`).
@@ -318,7 +352,9 @@ impl ServiceSide {
         // Where it keeps a fault the wire isn't touched again.
         ensures untouched { IfSome self.old.replies.fault (λ fault. (p : Past) → W.past wire.old p → W.past wire.new p) }
 
-        // No empty room is kept.
+        // Raw bytes that are kept after a turn are those of before, or no more than a head may have, or than the turn has room for; no
+        // empty room is kept.
+        ensures few { length self.old.replies.raw < length self.new.replies.raw → length self.new.replies.raw ≤ max MAX_HEAD (length out.old) }
         ensures empty { self.old.replies.fault ≡ None → self.new.replies.raw ≡ [] → self.new.replies.room ≡ 0 }
 
         // The heads' text is kept as long as the request may begin anew, which it may not after a byte of a reply; then what is

@@ -1,6 +1,6 @@
 //! The reading half of the service's side: the reader over a wire.
 
-ghost use Rattle.std.specs.Prelude.{option_copied, is_none, not, ◌&&◌, ◌==◌, ◌≡◌, ◌<◌, ◌≤◌, ◌↔◌, [], length, map, string_bytes, take, IsTrue, IfOk, IfErr, IfSome, OnOk, None, Some, Bool, true, false, Err, MatchOption};
+ghost use Rattle.std.specs.Prelude.{option_copied, is_none, not, ◌&&◌, ◌==◌, ◌≡◌, ◌<◌, ◌≤◌, ◌↔◌, [], length, map, max, string_bytes, take, IsTrue, IfOk, IfErr, IfSome, OnOk, None, Some, Bool, true, false, Err, MatchOption};
 ghost use Rattle.adapt_bytes.specs.declared.limits.TheConstants.{MAX_HEAD};
 ghost use Rattle.trace_core.specs.History.{seen, shows};
 ghost use Rattle.icap_client.specs.Events.{MayCome, ad_sum};
@@ -12,6 +12,7 @@ ghost use Rattle.icap_client.specs.Laws.{first_reader};
 ghost use Rattle.icap_client.specs.Refused.{Refuses};
 ghost use Rattle.icap_client.specs.Reading.{ReadSide, GivesBack, SideHears, MayRead, NothingToRead, ReadTurn};
 ghost use Rattle.adapt_sides.specs.Filling.{IsFilled};
+ghost use Rattle.adapt_sides.specs.declared.filling.TheConstants.{MAX_FILL};
 ghost use Rattle.icap_client.specs.Turns.{is_over};
 ghost use Rattle.wire_kit.specs.Past.{Past};
 
@@ -20,7 +21,7 @@ use crate::kept::Kept;
 use crate::reader::ReplyReader;
 use crate::said::Found;
 use crate::stage::Stage;
-use adapt_sides::{ClientFault, Filled, Turn};
+use adapt_sides::{ClientFault, Filled, MAX_READ, Turn, body_read};
 use arrayvec::ArrayVec;
 use encapsulated::Layout;
 use std::alloc::{AllocError, Global};
@@ -95,7 +96,7 @@ impl ReplySide {
     /// The raw bytes left over.
     pub fn raw_left(&self) -> usize
         ensures left { result ≡ length self.now.raw }
-        ensures limit { result ≤ MAX_HEAD }
+        ensures limit { result ≤ MAX_FILL }
     {
         self.raw.len()
     }
@@ -188,6 +189,7 @@ impl ReplySide {
         ensures fault { self.new.fault ≡ self.old.fault }
         ensures head { KeepsHead (shows state.now) self.old.reader self.new.reader }
         ensures kept { IfErr result (λ _. SideHears (shows state.now) self.old self.new [] [] []) }
+        ensures fewer { length self.new.raw ≤ length self.old.raw }
     {
         if self.is_at_front() {
             return Ok(ArrayVec::new());
@@ -232,8 +234,9 @@ impl ReplySide {
         ensures fault { self.new.fault ≡ self.old.fault }
         ensures turn { (all_sent : Bool) → MayRead (shows state.now) all_sent → ReadTurn (shows state.now) all_sent (length out.old) self.old self.new (W.past wire.old) (W.past wire.new) out.new result }
         ensures head { KeepsHead (shows state.now) self.old.reader self.new.reader }
+        ensures few { length self.new.raw ≤ MAX_HEAD }
     {
-        match self.raw.fill(wire) {
+        match self.raw.fill(wire, MAX_READ) {
             Filled::Bytes => {}
             Filled::Wait => {
                 return Ok(Turn {
@@ -266,8 +269,9 @@ impl ReplySide {
         ensures fault { self.new.fault ≡ self.old.fault }
         ensures turn { (all_sent : Bool) → MayRead (shows state.now) all_sent → ReadTurn (shows state.now) all_sent (length out.old) self.old self.new (W.past wire.old) (W.past wire.new) out.new result }
         ensures head { KeepsHead (shows state.now) self.old.reader self.new.reader }
+        ensures few { length self.new.raw ≤ max MAX_HEAD (length out.old) }
     {
-        match self.raw.fill(wire) {
+        match self.raw.fill(wire, body_read(out.len())) {
             Filled::Bytes => match self.frame_raw(state, out) {
                 Ok(events) => Ok(Turn {
                     events,
@@ -296,6 +300,7 @@ impl ReplySide {
         ensures turn { ReadTurn (shows state.now) all_sent (length out.old) self.old self.new (W.past wire.old) (W.past wire.new) out.new result }
         ensures fault { self.new.fault ≡ self.old.fault }
         ensures head { KeepsHead (shows state.now) self.old.reader self.new.reader }
+        ensures few { length self.old.raw < length self.new.raw → length self.new.raw ≤ max MAX_HEAD (length out.old) }
     {
         let events = match self.frame_raw(state, out) {
             Ok(events) => events,
@@ -340,6 +345,7 @@ impl ReplySide {
         ensures turn { ReadTurn (shows state.now) all_sent (length out.old) self.old self.new (W.past wire.old) (W.past wire.new) out.new result }
         ensures fault { self.new.fault ≡ self.old.fault }
         ensures head { KeepsHead (shows state.now) self.old.reader self.new.reader }
+        ensures few { length self.old.raw < length self.new.raw → length self.new.raw ≤ max MAX_HEAD (length out.old) }
         ensures empty { self.new.raw ≡ [] → self.new.room ≡ 0 }
     {
         let result = self.frame_or_read(state, all_sent, wire, out);
@@ -368,7 +374,9 @@ impl ReplySide {
         ensures sound { OnOk result (self.new.fault ≡ None) }
         ensures head { KeepsHead (shows state.now) self.old.reader self.new.reader }
 
-        // No empty room is kept.
+        // Raw bytes that are kept after a turn are those of before, or no more than a head may have, or than the turn has room for; no
+        // empty room is kept.
+        ensures few { length self.old.raw < length self.new.raw → length self.new.raw ≤ max MAX_HEAD (length out.old) }
         ensures empty { self.old.fault ≡ None → self.new.raw ≡ [] → self.new.room ≡ 0 }
     {
         if let Some(fault) = self.fault {

@@ -4,7 +4,7 @@
 type Entry = (&'static str, &'static str);
 
 /// The keys of the document.
-const OF_THE_DOCUMENT: [Entry; 36] = [
+const OF_THE_DOCUMENT: [Entry; 37] = [
     (
         "listen",
         "an IPv4 address and a port, as \"127.0.0.1:3128\"",
@@ -57,6 +57,10 @@ const OF_THE_DOCUMENT: [Entry; 36] = [
     ("keep_origins", "0 to 1024 connections (default 0: none)"),
     ("origin_idle", "1 to 3600 seconds (default 30)"),
     ("dial", "\"first\" or \"late\" (default \"first\")"),
+    (
+        "turn",
+        "4096 to 65536 bytes, a multiple of 4096 and at most window (default 4096)",
+    ),
     ("service_idle", "0 to 3600 seconds (default 60)"),
     (
         "options_ttl",

@@ -69,6 +69,7 @@ time_fixed =
     number_row (codes "keep_origins") (λ c. c.keep_origins)
     ∷ number_row (codes "origin_idle") (λ c. c.origin_idle)
     ∷ row (codes "dial") dial_time (λ c. c.dial)
+    ∷ number_row (codes "turn") (λ c. c.turn)
     ∷ number_row (codes "service_idle") (λ c. c.service_idle)
     ∷ number_row (codes "options_ttl") (λ c. c.options_ttl)
     ∷ number_row (codes "head_deadline") (λ c. c.head_deadline)

@@ -14,6 +14,7 @@ use Rattle.proxy_config.specs.Values.{number_at, truth_or, HasAddress}
 use Rattle.proxy_config.specs.Ports.{IsAdmin, IsMetrics}
 use Rattle.proxy_config.specs.FilePath.{path_or_none}
 use Rattle.proxy_config.specs.Dial.{dial_or}
+use Rattle.proxy_config.specs.TurnSize.{turn_at}
 use Rattle.proxy_config.specs.HostNames.{IsHostsOf, IsHostFault}
 use Rattle.proxy_config.specs.Carry.{carry_or}
 use Rattle.proxy_config.specs.Networks.{SaysNetworks, SaysNetworksOrNone}
@@ -32,6 +33,7 @@ pub data Kind : Type 0 where
   denied_networks : Kind
   field_names : Kind
   dial_time : Kind
+  turn_size : Kind
   host_table : Kind
   service : Kind
   parent_proxy : Kind
@@ -48,6 +50,7 @@ ValueOf user_networks = Option (List Network)
 ValueOf denied_networks = List Network
 ValueOf field_names = List (List ℕ)
 ValueOf dial_time = Dial
+ValueOf turn_size = ℕ
 ValueOf host_table = Hosts
 ValueOf service = Option ServicePoint
 ValueOf parent_proxy = Option SocketAddrV4
@@ -64,6 +67,7 @@ Says user_networks name document value = SaysNetworks name document value
 Says denied_networks name document value = SaysNetworksOrNone name document value
 Says field_names name document value = carry_or (get_member name document) ≡ Some value
 Says dial_time name document value = dial_or (get_member name document) ≡ Some value
+Says turn_size name document value = turn_at document ≡ Some value
 Says host_table name document value = IsHostsOf document value
 Says service name document value = IsServiceOf name document value
 Says parent_proxy name document value = IsParent document value
@@ -130,12 +134,13 @@ entrance_rows =
     ∷ row (codes "hosts_file") file_path (λ c. option_map string_bytes c.hosts_file)
     ∷ []
 
--- how long connections lie idle and may take to open, and when a service is paused
+-- how long connections lie idle and may take to open, how many bytes a turn moves, and when a service is paused
 abbrev pub time_rows : List Row
 time_rows =
     row (codes "keep_origins") (number 0 1024 0) (λ c. c.keep_origins)
     ∷ row (codes "origin_idle") (number 1 3600 30) (λ c. c.origin_idle)
     ∷ row (codes "dial") dial_time (λ c. c.dial)
+    ∷ row (codes "turn") turn_size (λ c. c.turn)
     ∷ row (codes "service_idle") (number 0 3600 60) (λ c. c.service_idle)
     ∷ row (codes "options_ttl") (number 0 2147483648 0) (λ c. c.options_ttl)
     ∷ row (codes "head_deadline") (number 0 3600 0) (λ c. c.head_deadline)

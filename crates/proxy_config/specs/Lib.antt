@@ -12,6 +12,7 @@ pub mod FilePath
 pub mod Names
 pub mod Ports
 pub mod Dial
+pub mod TurnSize
 pub mod Networks
 pub mod Carry
 pub mod Reach

@@ -110,6 +110,7 @@ fn change_of_times(old: &Config, new: &Config) -> Option<&'static str>
         ("keep_origins", old.keep_origins == new.keep_origins),
         ("origin_idle", old.origin_idle == new.origin_idle),
         ("dial", same_dial(old.dial, new.dial)),
+        ("turn", old.turn == new.turn),
         ("service_idle", old.service_idle == new.service_idle),
         ("options_ttl", old.options_ttl == new.options_ttl),
         ("head_deadline", old.head_deadline == new.head_deadline),

@@ -1,5 +1,6 @@
 //! The configuration as a whole.
 
+ghost use Rattle.proxy_config.specs.TurnSize.{IsTurn};
 ghost use Rattle.proxy_config.specs.Values.{IsWithin};
 ghost use Rattle.adapt_bytes.specs.declared.limits.TheConstants.{MAX_ALLOW_LIMIT, MAX_PREVIEW, MAX_WINDOW};
 ghost use Rattle.span_bank.specs.declared.limits.TheConstants.{MAX_CAPACITY, MAX_ROWS};
@@ -85,6 +86,9 @@ pub struct Config {
     pub origin_idle: u64,
     /// When the connection to an origin is opened.
     pub dial: Dial,
+    /// The most body bytes of a message that a turn moves: 4,096 to 65,536, a multiple of 4,096. More than 4,096 are at most
+    /// `window`.
+    pub turn: u64,
     /// Seconds after which an idle connection to a service is closed: 0 to 3,600; 0 where none is kept.
     pub service_idle: u64,
     /// Seconds that the options of a service hold where its answer doesn't say: 0 to `2^31`; 0 where they hold for ever.
@@ -115,10 +119,11 @@ pub struct Config {
         × IsWithin 0 4096 user_connections
         × IsWithin 0 1024 keep_origins × IsWithin 1 3600 origin_idle × IsWithin 0 3600 service_idle × IsWithin 0 2147483648 options_ttl × IsWithin 0 3600 head_deadline
         × IsWithin 0 3600 connect_deadline × IsWithin 0 1024 service_failures × IsWithin 1 3600 service_pause },
+    ghost turn_fits: { IsTurn window turn },
 }
 
 /// The names of the keys.
-pub(crate) const KEYS: [&str; 36] = [
+pub(crate) const KEYS: [&str; 37] = [
     "listen",
     "admin",
     "shards",
@@ -144,6 +149,7 @@ pub(crate) const KEYS: [&str; 36] = [
     "keep_origins",
     "origin_idle",
     "dial",
+    "turn",
     "service_idle",
     "options_ttl",
     "head_deadline",
@@ -185,7 +191,7 @@ impl Config {
             proxy_protocol,
             hosts_file,
         } = Entrance::read(alloc, table)?;
-        let times = Times::read(alloc, table)?;
+        let times = Times::read(alloc, table, sizes.window)?;
         let refusal_pages = read_path(alloc, table, "refusal_pages")?;
         let Places {
             hosts,
@@ -220,6 +226,7 @@ impl Config {
             keep_origins: times.keep_origins,
             origin_idle: times.origin_idle,
             dial: times.dial,
+            turn: times.turn,
             service_idle: times.service_idle,
             options_ttl: times.options_ttl,
             head_deadline: times.head_deadline,

@@ -32,6 +32,7 @@ mod services;
 mod sizes;
 mod sorting;
 mod times;
+mod turn_size;
 mod unknown;
 mod values;
 mod words;

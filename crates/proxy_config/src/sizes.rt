@@ -29,18 +29,20 @@ pub(crate) struct Sizes {
 }
 
 impl Sizes {
-    ghost use Rattle.std.specs.Prelude.{codes, IfOk, IfErr};
+    ghost use Rattle.std.specs.Prelude.{◌≡◌, codes, IfOk, IfErr, Some};
     ghost use Rattle.toml.specs.View.{table_view};
     ghost use Rattle.proxy_config.specs.Config.{IsFirstFault};
     ghost use Rattle.proxy_config.specs.Fault.{Names};
     ghost use Rattle.proxy_config.specs.Groups.{AreSaidOf, HasSizes};
     ghost use Rattle.proxy_config.specs.Keys.{size_rows};
+    ghost use Rattle.proxy_config.specs.TurnSize.{window_at};
     ghost use Rattle.proxy_config.specs.Turns.{IsPast};
 
     /// Reads them, a line a key: its name, the range of its number, and its default.
     pub(crate) fn read(alloc: Global, table: &Table) -> Result<Sizes, ConfigFault>
         requires next { IsPast (codes "admin") (table_view table.now) }
         ensures ok { IfOk result (AreSaidOf HasSizes size_rows (table_view table.now)) }
+        ensures window { IfOk result (λ sizes. window_at (table_view table.now) ≡ Some sizes.window) }
         ensures past { IfOk result (λ _. IsPast (codes "window") (table_view table.now)) }
         ensures err { IfErr result (Names (IsFirstFault (table_view table.now))) }
     {

@@ -1,5 +1,5 @@
 -- What a service is asked: the text of a request to it (RFC 3507, sections 4.4, 4.8 and 4.9).
-use Rattle.std.specs.Prelude.{◌≡◌, ℕ, Bool, true, false, ◌&&◌, List, [], Option, Some, None, MatchOption, ⊤, string_bytes}
+use Rattle.std.specs.Prelude.{◌≡◌, ℕ, Bool, true, false, ◌&&◌, List, [], Option, Some, None, MatchOption, option_map, ⊤, string_bytes}
 use Rattle.std.specs.Net.Socket.{v4_port}
 use Rattle.std.specs.declared.net.ipv4_addr.Ipv4Addr.{Ipv4Addr}
 use Rattle.trace_core.specs.declared.history.Plan.{Plan}
@@ -61,6 +61,10 @@ Binds plan side = MatchOption side (is_plain plan.kind ≡ true) (IsOfPlan plan)
 pub record Offered : Type 0 where
   pub plan : Plan
   pub side : Option Service
+
+-- the same offer, of whose body one turn writes at most this many bytes
+abbrev pub with_turn : ℕ → Offered → Offered
+with_turn turn o = record { plan = o.plan; side = option_map (λ (s : Service). record s { turn = turn }) o.side }
 
 -- the text of its request up to its chunks; nothing where it isn't offered
 abbrev pub text_of : Option Service → List ℕ

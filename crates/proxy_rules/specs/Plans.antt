@@ -18,6 +18,7 @@ pub record AreLimits (config : Config) (limits : Limits) : Type 0 where
   pub preview : limits.preview_limit ≡ config.preview_limit
   pub allow : limits.allow_limit ≡ config.allow_limit
   pub window : limits.window ≡ config.window
+  pub turn : limits.turn ≡ config.turn
   pub retry : limits.retry ≡ config.retry
 
 -- the length that a framing gives, if it can be counted

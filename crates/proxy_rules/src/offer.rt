@@ -1,6 +1,6 @@
 //! What a service is asked: its options, and one request for each message (RFC 3507, sections 4.8 to 4.10).
 
-ghost use Rattle.std.specs.Prelude.{◌≡◌, ◌+◌, ◌<◌, ◌↔◌, ◌&&◌, not, is_some, [], length, string_bytes, Bool, true, false, None, Some, Ok, IfOk, IfSome, option_copied};
+ghost use Rattle.std.specs.Prelude.{◌≡◌, ◌+◌, ◌<◌, ◌≤◌, ◌↔◌, ◌&&◌, not, is_some, [], length, string_bytes, Bool, true, false, None, Some, Ok, IfOk, IfSome, option_copied};
 ghost use Rattle.std.specs.Net.Socket.{v4_port};
 ghost use Rattle.trace_core.specs.declared.history.Point.TheVariants as points;
 ghost use Rattle.trace_core.specs.History.{is_plain, is_preview, is_null};
@@ -9,7 +9,7 @@ ghost use Rattle.icap_client.specs.Asking.{options_request};
 ghost use Rattle.icap_client.specs.RequestHead.{request_head};
 ghost use Rattle.proxy_rules.specs.Origins.{bare_path};
 ghost use Rattle.proxy_rules.specs.Plans.{known_length, IsPlanned};
-ghost use Rattle.proxy_rules.specs.Offers.{IsUnused, Binds, AsksFor, previews_nothing, options_for, offered_request, offered_response};
+ghost use Rattle.proxy_rules.specs.Offers.{IsUnused, Binds, AsksFor, with_turn, previews_nothing, options_for, offered_request, offered_response};
 
 use crate::plans::{request_plan, response_plan};
 use adapt_bytes::COUNT_LIMIT;
@@ -114,6 +114,7 @@ impl Offer {
     ) -> Result<Offer, AllocError>
         ensures planned { IfOk result (λ offer. IsPlanned (options_for (option_copied service.entry) (option_copied options.entry)) limits.now points.Reqmod (bare_path user.now.target) (known_length (request_framing user.now)) offer.plan) }
         ensures text { IfOk result (λ offer. AsksFor (option_copied service.entry) from [] (offered_request user.now) [] offer) }
+        ensures turn { IfOk result (λ offer. IfSome offer.side (λ side. side.turn ≡ limits.now.turn)) }
     {
         let Some(service) = service else {
             return Ok(Offer::unoffered(request_plan(None, limits, user)));
@@ -124,7 +125,7 @@ impl Offer {
         }
         let message = Message::Request(user);
         let req = encapsulated_head(alloc, &Encapsulated { user, message })?;
-        Offer::to(alloc, service, plan, from, &[], &req, &[])
+        Offer::to(alloc, service, plan, limits, from, &[], &req, &[])
     }
 
     /// Plans an origin's response to a user's request by what its service says, and offers it to that service where the plan says so:
@@ -143,6 +144,7 @@ impl Offer {
     ) -> Result<Offer, AllocError>
         ensures planned { IfOk result (λ offer. IsPlanned (options_for (option_copied service.entry) (option_copied options.entry)) limits.now points.Respmod (bare_path user.now.target) (known_length (response_framing response.now)) offer.plan) }
         ensures text { IfOk result (λ offer. AsksFor (option_copied service.entry) from carried.now (offered_request user.now) (offered_response response.now) offer) }
+        ensures turn { IfOk result (λ offer. IfSome offer.side (λ side. side.turn ≡ limits.now.turn)) }
     {
         let Some(service) = service else {
             return Ok(Offer::unoffered(response_plan(None, limits, user, response)));
@@ -155,7 +157,7 @@ impl Offer {
         let req = encapsulated_head(alloc, &Encapsulated { user, message: own })?;
         let message = Message::Response(response);
         let res = encapsulated_head(alloc, &Encapsulated { user, message })?;
-        Offer::to(alloc, service, plan, from, carried, &req, &res)
+        Offer::to(alloc, service, plan, limits, from, carried, &req, &res)
     }
 
     /// A message that isn't offered.
@@ -166,11 +168,12 @@ impl Offer {
         Offer { plan, side: None }
     }
 
-    /// An offer by a plan that was made for it.
+    /// An offer by a plan that was made for it, by turns of these limits.
     fn to(
         alloc: Global,
         service: &ServicePoint,
         plan: Plan,
+        limits: &Limits,
         from: Option<Ipv4Addr>,
         carried: &[u8],
         req: &[u8],
@@ -179,14 +182,28 @@ impl Offer {
         requires { previews_nothing plan ≡ false }
         ensures plan { IfOk result (λ offer. offer.plan ≡ plan) }
         ensures text { IfOk result (AsksFor (Some service.now) from carried.now req.now res.now) }
+        ensures turn { IfOk result (λ offer. IfSome offer.side (λ side. side.turn ≡ limits.now.turn)) }
     {
         let host = service.host.as_bytes();
         let path = service.path.as_bytes();
         let port = service.address.port();
         match Offer::new(alloc, plan, from, carried, host, port, path, req, res)? {
-            Some(offer) => Ok(offer),
+            Some(offer) => Ok(offer.with_turn(limits.turn)),
             None => unreachable!(),
         }
+    }
+
+    /// The same offer, of whose body one turn writes at most this many bytes.
+    pub fn with_turn(self, turn: u64) -> Offer
+        requires { 1 ≤ turn }
+        ensures { result ≡ with_turn turn self }
+    {
+        let Offer { plan, side } = self;
+        let side = match side {
+            Some(side) => Some(side.with_turn(turn)),
+            None => None,
+        };
+        Offer { plan, side }
     }
 
     /// The plan.

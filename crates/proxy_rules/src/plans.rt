@@ -23,6 +23,7 @@ pub fn limits_of(config: &Config) -> Limits
         preview_limit: config.preview_limit,
         allow_limit: config.allow_limit,
         window: config.window,
+        turn: config.turn,
         retry: config.retry,
     }
 }

@@ -103,6 +103,7 @@ pub fn begin<B: Ledgers, W: Wires>(
     ensures sides { IfOk result (λ running. (running.tx.ends.source ≡ beginning.message.side) × (running.tx.ends.maker.user ≡ beginning.message.user) × (running.tx.ends.maker.last ≡ beginning.last) × (running.tx.ends.service ≡ service_end_of beginning.offer.side beginning.way.service)) }
     ensures origin { IfOk result (λ running. beginning.message.user ≡ None → running.tx.ends.maker.origin ≡ beginning.origin) }
     ensures wires { IfOk result (λ running. (running.tx.ends.source_wire ≡ beginning.way.source) × (running.tx.ends.next_wire ≡ beginning.way.next)) }
+    ensures turns { IfOk result (λ running. (running.tx.ends.next.turn ≡ beginning.limits.turn) × (running.tx.ends.back.turn ≡ beginning.limits.turn)) }
     ensures back { IfErr result (λ back. back ≡ beginning) }
 {
     let is_connected = beginning.way.service.is_some();
@@ -134,9 +135,9 @@ pub fn begin<B: Ledgers, W: Wires>(
             source,
             source_wire,
             service: service_end(side, service_wire),
-            next: HopWriter::new(alloc),
+            next: HopWriter::new(alloc).with_turn(limits.turn),
             next_wire,
-            back: HopWriter::new(alloc),
+            back: HopWriter::new(alloc).with_turn(limits.turn),
             maker,
         },
         pace,

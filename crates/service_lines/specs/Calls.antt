@@ -9,7 +9,6 @@ Wakes thread_of (Some waiter) (Some woken) = thread_of woken ≡ waiter.thread
 Wakes thread_of (Some waiter) None = ⊥
 Wakes thread_of None woken = woken ≡ None
 
--- whoever was first in a queue was called; there is no queue where exchanges wait for no second
-abbrev pub Calls : {W : Type 0} → (thread_of : W → ℕ) → (seconds : ℕ) → Option (Call W) → Type 0
-Calls thread_of seconds (Some call) = Wakes thread_of call.first.waiter call.woken
-Calls thread_of seconds None = seconds ≡ 0
+-- whoever was first in a queue was called
+abbrev pub Calls : {W : Type 0} → (thread_of : W → ℕ) → Call W → Type 0
+Calls thread_of call = Wakes thread_of call.first.waiter call.woken

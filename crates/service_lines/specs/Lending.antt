@@ -5,7 +5,7 @@ use Rattle.trace_core.specs.declared.history.Point.TheVariants.{Reqmod, Respmod}
 use Rattle.service_lines.specs.declared.connector.Act.{Act}
 use Rattle.service_lines.specs.declared.connector.Act.TheVariants.{Opened, Looked, Resumed, Checked, Rested, Closed}
 use Rattle.service_lines.specs.declared.connector.LendFault.{LendFault}
-use Rattle.service_lines.specs.declared.connector.LendFault.TheVariants.{Busy, Unreached, NoMemory, Paused}
+use Rattle.service_lines.specs.declared.connector.LendFault.TheVariants.{Busy, Unreached, Paused}
 use Rattle.service_lines.specs.declared.leased.Leased.{Leased}
 use Rattle.service_lines.specs.declared.leased.Leased.TheVariants as leased
 use Rattle.service_lines.specs.declared.leased.LeasedConnection.{LeasedConnection}

@@ -1,5 +1,5 @@
 -- A circuit breaker: a service that failed so often in a row gets nothing for some seconds, and then one message, by which it is judged.
-use Rattle.std.specs.Prelude.{◌≡◌, ℕ, suc, ◌-◌, ◌||◌, ◌&&◌, Bool, true, false, nat_eq, nat_lt, nat_le, if◌then◌else◌, Option, MatchOption, ⊤}
+use Rattle.std.specs.Prelude.{ℕ, suc, ◌-◌, ◌||◌, ◌&&◌, Bool, true, false, nat_eq, nat_lt, nat_le, if◌then◌else◌}
 use Rattle.service_lines.specs.declared.queue.Waiter.{Waiter}
 use Rattle.service_lines.specs.declared.breaker.PauseRule.{PauseRule}
 use Rattle.service_lines.specs.declared.breaker.ServiceEnd.{ServiceEnd}

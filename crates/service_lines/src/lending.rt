@@ -265,9 +265,9 @@ impl<'a, E: Edge, Q: Ledger, A: Ledger> Pools<'a, E, Q, A> {
         connector: &mut C,
         connection: LeasedConnection<C::Used, Q, A>,
         now: u64,
-    ) -> Option<Call<E::Woken>>
+    ) -> Call<E::Woken>
         ensures asked { PutsBack self.now.idle_seconds (C.past connector.old) (C.past connector.new) }
-        ensures calls { Calls E.thread_of self.now.waiting.seconds result }
+        ensures calls { Calls E.thread_of result }
     {
         let LeasedConnection { wire, lease } = connection;
         match lay_down(connector, wire, self.idle_seconds > 0, now) {
@@ -282,9 +282,9 @@ impl<'a, E: Edge, Q: Ledger, A: Ledger> Pools<'a, E, Q, A> {
         rt: &R,
         connector: &mut C,
         connection: LeasedConnection<C::Used, Q, A>,
-    ) -> Option<Call<E::Woken>>
+    ) -> Call<E::Woken>
         ensures asked { (p : List AnyAct) → C.past connector.old p → C.past connector.new (Act.Closed ∷ p) }
-        ensures calls { Calls E.thread_of self.now.waiting.seconds result }
+        ensures calls { Calls E.thread_of result }
     {
         let LeasedConnection { wire, lease } = connection;
         connector.close(wire);

@@ -150,8 +150,8 @@ impl<'a, E: Edge, Q: Ledger, A: Ledger> Pools<'a, E, Q, A> {
         rt: &R,
         idle: E::Idle,
         lease: Leased<Q, A>,
-    ) -> Option<Call<E::Woken>>
-        ensures { Calls E.thread_of self.now.waiting.seconds result }
+    ) -> Call<E::Woken>
+        ensures { Calls E.thread_of result }
     {
         let point = lease.point();
         match lease {
@@ -162,8 +162,8 @@ impl<'a, E: Edge, Q: Ledger, A: Ledger> Pools<'a, E, Q, A> {
     }
 
     /// Gives up the lease of a connection that is closed: the one that waits longest may open another.
-    pub fn give_up<R: Wait>(&self, rt: &R, lease: Leased<Q, A>) -> Option<Call<E::Woken>>
-        ensures { Calls E.thread_of self.now.waiting.seconds result }
+    pub fn give_up<R: Wait>(&self, rt: &R, lease: Leased<Q, A>) -> Call<E::Woken>
+        ensures { Calls E.thread_of result }
     {
         let point = lease.point();
         match lease {
@@ -222,10 +222,10 @@ impl<'a, E: Edge, Q: Ledger, A: Ledger> Pools<'a, E, Q, A> {
         alloc: Global,
         point: Point,
         maximum: u64,
-    ) -> Result<(Limit<Q, A>, Option<Call<E::Woken>>), AllocError>
+    ) -> Result<(Limit<Q, A>, Call<E::Woken>), AllocError>
         requires { maximum ≤ MAX_CONNECTIONS }
         ensures limits { IfOk result (λ set. (limited_point set.0 ≡ point) × (maximum_of set.0 ≡ maximum)) }
-        ensures calls { IfOk result (λ set. Calls E.thread_of self.now.waiting.seconds set.1) }
+        ensures calls { IfOk result (λ set. Calls E.thread_of set.1) }
     {
         let limit = match point {
             Point::Reqmod => Limit::Request(self.request.set_max(rt, alloc, maximum)?.limit()),

@@ -27,13 +27,6 @@ impl First {
     {
         self.waiter
     }
-
-    /// Whether nobody waits.
-    pub fn is_nobody(&self) -> bool
-        ensures { IsTrue result ↔ (self.now.waiter ≡ None) }
-    {
-        self.waiter.is_none()
-    }
 }
 
 /// Whose turn it is once somebody has left, if it was that one's turn before. Only a queue makes one.

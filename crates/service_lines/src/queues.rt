@@ -59,7 +59,8 @@ pub(crate) struct Turn {
     seconds: u64,
     who: Option<Waiter>,
     found: Option<First>,
-    // It was found first in the queue, or came while nobody was found there; there is no queue where exchanges wait for no second.
+    // It was found first in the queue, or came while nobody was found there. One that comes where exchanges wait for no second looks at
+    // none.
     ghost first: { ForSome found (λ first. first.waiter ≡ who) },
     ghost off: { ForNone found (seconds ≡ 0) },
 }
@@ -69,7 +70,8 @@ pub(crate) struct Turn {
 pub struct Waiting<'a, E: Edge> {
     pub queues: &'a Queues,
     pub edge: E,
-    /// The most seconds that an exchange waits. None waits where it is 0, and no queue is looked at.
+    /// The most seconds that an exchange waits. One that comes doesn't wait where it is 0, and looks at no queue. Whoever waits may go by
+    /// another number: a reload changes it.
     pub seconds: u64,
 }
 
@@ -152,14 +154,9 @@ impl<'a, E: Edge> Waiting<'a, E> {
         self.queue(point).lock(rt).len() as u64
     }
 
-    /// Whether somebody waits, so that one who comes now has to join.
-    pub fn is_awaited<R: Wait>(&self, rt: &R, point: Point) -> bool
-        ensures off { self.now.seconds ≡ 0 → result ≡ false }
-    {
-        match self.first(rt, point) {
-            Some(first) => !first.is_nobody(),
-            None => false,
-        }
+    /// Whether somebody waits. One who waits may go by another number of seconds than the one who asks.
+    pub fn is_awaited<R: Wait>(&self, rt: &R, point: Point) -> bool {
+        !self.queue(point).lock(rt).is_empty()
     }
 
     /// Joins a queue. False where exchanges don't wait, or too many do already.
@@ -169,11 +166,9 @@ impl<'a, E: Edge> Waiting<'a, E> {
         self.seconds > 0 && self.queue(point).lock(rt).join(waiter).is_ok()
     }
 
-    /// The key of the one whose turn it is, where it is of this thread.
-    pub fn first_of<R: Wait>(&self, rt: &R, point: Point, thread: usize) -> Option<usize>
-        ensures off { self.now.seconds ≡ 0 → result ≡ None }
-    {
-        match self.first(rt, point)?.waiter() {
+    /// The key of the one whose turn it is, where it is of this thread. It may go by another number of seconds than the one who asks.
+    pub fn first_of<R: Wait>(&self, rt: &R, point: Point, thread: usize) -> Option<usize> {
+        match self.queue(point).lock(rt).first().waiter() {
             Some(waiter) if waiter.thread == thread => Some(waiter.key),
             _ => None,
         }
@@ -188,12 +183,12 @@ impl<'a, E: Edge> Waiting<'a, E> {
         Handover { next, woken }
     }
 
-    /// Calls the one whose turn it is: a connection may be free. `None` where exchanges don't wait.
-    pub fn call<R: Wait>(&self, rt: &R, point: Point) -> Option<Call<E::Woken>>
-        ensures { Calls E.thread_of self.now.seconds result }
+    /// Calls the one whose turn it is: a connection may be free. It may go by another number of seconds than the one who calls.
+    pub fn call<R: Wait>(&self, rt: &R, point: Point) -> Call<E::Woken>
+        ensures { Calls E.thread_of result }
     {
-        let first = self.first(rt, point)?;
+        let first = self.queue(point).lock(rt).first();
         let woken = self.wake(first.waiter());
-        Some(Call { first, woken })
+        Call { first, woken }
     }
 }

@@ -147,6 +147,19 @@ impl<S: Shares> Desk<S> {
         }
     }
 
+    /// Wakes all threads where users have ended their bytes, and somebody waits for a connection to a point's service: one of these users
+    /// that has one gives way. That is due where somebody begins to wait, and where the first has taken one and others still wait.
+    pub(crate) fn call_ended<R: Wait>(&self, rt: &R, point: Point) {
+        if !self.shared.room().has_ended()
+            || !pools_of(&self.shared).waiting.is_awaited(rt, point)
+        {
+            return;
+        }
+        for inbox in self.shared.inboxes() {
+            inbox.wake();
+        }
+    }
+
     /// Says how many connections to origins lie idle.
     pub(crate) fn tell_kept(&self) {
         let count = self.kept.count() as u64;
@@ -346,6 +359,12 @@ impl<S: Shares> Seating for Desk<S> {
     fn first_of<R: Wait>(&self, rt: &R, queue: usize) -> Option<usize> {
         let point = *POINTS.get(queue)?;
         let number = self.shared.number();
-        pools_of(&self.shared).waiting.first_of(rt, point, number)
+        match pools_of(&self.shared).waiting.first_of(rt, point, number) {
+            Some(key) => Some(key),
+            None if self.seats.have_ended() && self.awaits(rt, point) => {
+                self.seats.ended_with(point)
+            }
+            None => None,
+        }
     }
 }

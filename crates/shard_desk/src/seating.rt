@@ -68,6 +68,7 @@ pub trait Seating {
     /// How many queues there are for connections to services.
     fn queues(&self) -> usize;
 
-    /// The key of the exchange that is first in a queue, where it is one of these.
+    /// The key of the exchange that is first in a queue, where it is one of these. Else, where somebody waits in it, that of one with a
+    /// connection for it whose user has ended its bytes: it gives way.
     fn first_of<R: Wait>(&self, rt: &R, queue: usize) -> Option<usize>;
 }

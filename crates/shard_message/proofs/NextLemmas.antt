@@ -19,7 +19,8 @@ use Rattle.shard_message.specs.Ended.{Brings, EndsAs, IfOther, IsEndOf, IsNextBy
 use Rattle.shard_message.specs.declared.ended.Sequel.{Sequel}
 use Rattle.shard_message.specs.declared.ended.Sequel.TheVariants as sequels
 
-pub brings_more : {M : Type 0} (response next again further : M → Type 0) (sequel : Sequel M) → ((message : M) → next message → further message)
+pub brings_more : {M : Type 0} (response next again further : M → Type 0) (sequel : Sequel M)
+    → ((message : M) → next message → further message)
     → Brings (λ _. ⊥) next (λ _. ⊥) sequel → Brings response further again sequel
 brings_more response next again further (sequels.Sent None) more brings = tt
 brings_more response next again further (sequels.Sent (Some message)) more brings = absurd brings
@@ -29,28 +30,32 @@ brings_more response next again further (sequels.Withdrawn None) more brings = t
 brings_more response next again further (sequels.Withdrawn (Some message)) more brings = absurd brings
 brings_more response next again further (sequels.Failed cause is_old) more brings = tt
 
-sent_by : {M : Type 0} (response next again : M → Type 0) (message : Option (Box M Global)) (has_memory : Bool) → has_memory ≡ is_some message
+sent_by : {M : Type 0} (response next again : M → Type 0) (message : Option (Box M Global)) (has_memory : Bool)
+    → has_memory ≡ is_some message
     → Brings response next again (sequels.Sent message) → IsNextBy response next again (ends.Sent has_memory) message
 sent_by response next again None false e brings = tt
 sent_by response next again None true e brings = absurd cc
 sent_by response next again (Some message) false e brings = absurd cc
 sent_by response next again (Some message) true e brings = brings
 
-answered_by : {M : Type 0} (response next again : M → Type 0) (message : Option (Box M Global)) (lasting keeps lasts : Bool) → keeps ≡ is_some message
+answered_by : {M : Type 0} (response next again : M → Type 0) (message : Option (Box M Global)) (lasting keeps lasts : Bool)
+    → keeps ≡ is_some message
     → Brings response next again (sequels.Answered message lasting) → IsNextBy response next again (ends.Answered keeps lasts) message
 answered_by response next again None lasting false lasts e brings = tt
 answered_by response next again None lasting true lasts e brings = absurd cc
 answered_by response next again (Some message) lasting false lasts e brings = absurd cc
 answered_by response next again (Some message) lasting true lasts e brings = brings
 
-withdrawn_by : {M : Type 0} (response next again : M → Type 0) (message : Option (Box M Global)) (has_memory : Bool) → has_memory ≡ is_some message
+withdrawn_by : {M : Type 0} (response next again : M → Type 0) (message : Option (Box M Global)) (has_memory : Bool)
+    → has_memory ≡ is_some message
     → Brings response next again (sequels.Withdrawn message) → IsNextBy response next again (ends.Withdrawn has_memory) message
 withdrawn_by response next again None false e brings = tt
 withdrawn_by response next again None true e brings = absurd cc
 withdrawn_by response next again (Some message) false e brings = absurd cc
 withdrawn_by response next again (Some message) true e brings = brings
 
-next_by : {M : Type 0} (response next again : M → Type 0) (point : Point) (sequel : Sequel M) (end : End) → Brings response next again sequel → IsEndOf point sequel end
+next_by : {M : Type 0} (response next again : M → Type 0) (point : Point) (sequel : Sequel M) (end : End)
+    → Brings response next again sequel → IsEndOf point sequel end
     → IsNextBy response next again end (message_in sequel)
 next_by response next again point (sequels.Sent message) (ends.Sent has_memory) brings e = sent_by response next again message has_memory e brings
 next_by response next again point (sequels.Sent message) (ends.Answered keeps lasts) brings e = absurd e
@@ -85,7 +90,8 @@ next_itself {M} response next again point sequel told end message brings is e m 
     (subst (λ (z : End). IsNextBy response next again z (message_in sequel)) (sym e) (next_by response next again point sequel told brings is))
 
 -- where something else ended it, no message comes
-next_other : {M : Type 0} (response next again : M → Type 0) (end told : End) (message : Option (Box M Global)) → IsNextBy response next again told None → end ≡ told → message ≡ None
+next_other : {M : Type 0} (response next again : M → Type 0) (end told : End) (message : Option (Box M Global))
+    → IsNextBy response next again told None → end ≡ told → message ≡ None
     → IsNextBy response next again end message
 next_other {M} response next again end told message by e m =
     subst (λ (z : Option (Box M Global)). IsNextBy response next again end z) (sym m) (subst (λ (z : End). IsNextBy response next again z None) (sym e) by)
@@ -115,7 +121,8 @@ brings_closed response next x y false outcome onward carries lasts old (sequels.
 lasts_as : (lasting : Type 0) (lasts told found : Bool) → (lasts ≡ true ↔ lasting) → found ≡ lasts → told ≡ found → told ≡ true ↔ lasting
 lasts_as lasting lasts told found is f t = subst (λ (z : Bool). z ≡ true ↔ lasting) (sym (t ∙ f)) is
 
-ends_done : {M : Type 0} (point : Point) (onward carries lasting bars : Type 0) (lasts may old : Bool) (sequel : Sequel M) (end : End) → (lasts ≡ true ↔ lasting)
+ends_done : {M : Type 0} (point : Point) (onward carries lasting bars : Type 0) (lasts may old : Bool) (sequel : Sequel M) (end : End)
+    → (lasts ≡ true ↔ lasting)
     → IsSequel Done onward carries lasts may old sequel → IsEndOf point sequel end → EndsAs point Done onward carries lasting bars end
 ends_done point onward carries lasting bars lasts may old (sequels.Sent message) (ends.Sent has_memory) found is e = is
 ends_done point onward carries lasting bars lasts may old (sequels.Sent message) (ends.Answered keeps told) found is e = absurd e

@@ -7,7 +7,9 @@ use Rattle.shard_exchange.specs.declared.answers.Round.{Round}
 use Rattle.shard_exchange.specs.declared.answers.Round.TheVariants as rounds
 use Rattle.shard_message.specs.Rounds.{Adds, IsRound, IsTurned, ends_round}
 
-pub no_turn : {T : Type 0} (turn : T → Side → TurnAnswer → T → Type 0) (over : T → Bool) (old : T) (sides : List Side) → length sides < 1 → IsRound turn over sides old old rounds.Waiting
+-- no side is left
+pub no_turn : {T : Type 0} (turn : T → Side → TurnAnswer → T → Type 0) (over : T → Bool) (old : T) (sides : List Side) → length sides < 1
+    → IsRound turn over sides old old rounds.Waiting
 no_turn turn over old [] l = (refl, refl)
 no_turn turn over old (side ∷ later) l = absurd (omega (arith, l))
 
@@ -17,6 +19,7 @@ pub last_turn : {T : Type 0} (turn : T → Side → TurnAnswer → T → Type 0)
 last_turn turn over old mid [] none answer turned l t i e = absurd (omega (arith, l))
 last_turn turn over old mid (side ∷ later) none answer turned l t i e = (mid, answer, turned, t, i, inl (e, refl, refl))
 
+-- what is left after the first one
 later_is : (side : Side) (later : List Side) → take (length (side ∷ later) - 1) (drop 1 (side ∷ later)) ≡ later
 later_is side later = let n : length (side ∷ later) - 1 ≡ length later = omega arith in ap (λ k. take k later) n ∙ take-length later
 

@@ -20,13 +20,19 @@ no_answer = Ok None
 abbrev pub Still : (before after : Past → Type 0) → Type 0
 Still before after = (p q : Past) → before p → after q → (length q.read ≡ length p.read) × (length q.taken ≡ length p.taken)
 
+-- a text with some more bytes is longer
 longer : (read given : List ℕ) → 0 < length given → length (read ++ given) ≡ length read → ⊥
-longer read given some same = let all : length (read ++ given) ≡ length read + length given = length-append read given in omega (arith, some, same, all)
+longer read given some same =
+    let all : length (read ++ given) ≡ length read + length given = length-append read given in omega (arith, some, same, all)
 
+-- so is one with a part of what waited
 part_longer : (taken waiting : List ℕ) (n : ℕ) → 1 ≤ n → n ≤ length waiting → length (taken ++ take n waiting) ≡ length taken → ⊥
-part_longer taken waiting n some most same = longer taken (take n waiting) (let l : length (take n waiting) ≡ n = length-take-le n waiting most in omega (arith, some, l)) same
+part_longer taken waiting n some most same =
+    let l : length (take n waiting) ≡ n = length-take-le n waiting most in longer taken (take n waiting) (omega (arith, some, l)) same
 
-by_call : (call : Call) (old new : Asker) (before after : Past → Type 0) (given taken : List ℕ) → IsCall call before after old given taken → FitsCall call old new given no_answer
+-- by what the wire was asked
+by_call : (call : Call) (old new : Asker) (before after : Past → Type 0) (given taken : List ℕ)
+    → IsCall call before after old given taken → FitsCall call old new given no_answer
     → Still before after → MovesNone (old.stage ≡ Over) before after
 by_call (offered (put.Took n)) old new before after given taken wire fits still = λ p b.
     absurd (part_longer p.taken old.waiting n wire.1.fits.0 wire.1.fits.1 (still p _ b (wire.1.each p b)).1)
@@ -52,4 +58,5 @@ pub hears_none : (X : ClientFault → Type 0) (old new : Asker) (before after : 
     → Still before after → MovesNone (old.stage ≡ Over) before after
 hears_none X old new before after result faulted asks said still =
     let a = asks (sound X old.fault result faulted said) in
-    by_call a.call old new before after a.given a.taken a.wire (subst (λ (r : Result (Option IcapResponse) ClientFault). FitsCall a.call old new a.given r) said a.fits) still
+    let fits = subst (λ (r : Result (Option IcapResponse) ClientFault). FitsCall a.call old new a.given r) said a.fits in
+    by_call a.call old new before after a.given a.taken a.wire fits still

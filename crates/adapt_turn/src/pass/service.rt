@@ -1,6 +1,7 @@
 //! A pass of the service's side.
 
-ghost use Rattle.std.specs.Prelude.{◌≡◌, ℕ, true, false, List, Some, [], length, None};
+ghost use Rattle.std.specs.Prelude.{◌≡◌, ◌≤◌, ℕ, true, false, List, Some, [], length, None};
+ghost use Rattle.adapt_turn.specs.declared.pass.TheConstants.{LARGE_ROOM};
 ghost use Rattle.trace_core.specs.declared.history.Cause.{Cause};
 ghost use Rattle.trace_core.specs.declared.history.Seen.{Seen};
 ghost use Rattle.adapt_hold.specs.Holding.{shows, IsRoomy, IsTied, moved};
@@ -10,10 +11,9 @@ ghost use Rattle.trace_core.specs.declared.history.Event.TheVariants.{Fail};
 ghost use Rattle.adapt_sides.specs.declared.fault.ClientFault.TheVariants.{Device};
 
 use crate::ends::ServiceEnd;
-use crate::pass::{PassAnswer, close, idle, went_on};
+use crate::pass::{LARGE_ROOM, MIDDLE_ROOM, PassAnswer, SMALL_ROOM, close, idle, went_on};
 use adapt_hold::{Hold, step_all};
 use adapt_sides::{ClientFault, Service};
-use plan_rules::TURN_BYTES;
 use span_bank::{Bank, Ledgers};
 use std::sync::Wait;
 use trace_core::{Cause, Event};
@@ -79,7 +79,8 @@ fn is_closed<B: Ledgers>(hold: &Hold<B>) -> bool
     hold.state().is_closed()
 }
 
-/// Reads what the service answered.
+/// Reads what the service answered, into the smallest buffer that has the room.
+#[tactic(auto, using(crate::proofs::Paced::service_fits))]
 fn hear<B: Ledgers, V: Service, W: Wire>(
     rt: &impl Wait,
     bank: &Bank<B>,
@@ -101,8 +102,43 @@ fn hear<B: Ledgers, V: Service, W: Wire>(
     ensures breaks { result.broken ≡ true → Breaks hold.new.history reused (V.fault service.new) }
 {
     let _state = hold.state();
-    let mut buf = [0; TURN_BYTES as usize];
     let room = hold.adapted_room() as usize;
+    if room <= SMALL_ROOM {
+        hear_by::<SMALL_ROOM, B, V, W>(rt, bank, hold, service, wire, room, reused)
+    } else if room <= MIDDLE_ROOM {
+        hear_by::<MIDDLE_ROOM, B, V, W>(rt, bank, hold, service, wire, room, reused)
+    } else {
+        hear_by::<LARGE_ROOM, B, V, W>(rt, bank, hold, service, wire, room, reused)
+    }
+}
+
+/// Reads into room on the stack for `N` bytes. It is never inlined, so that a turn of few bytes doesn't pay for the room of many.
+#[inline(never)]
+fn hear_by<const N: usize, B: Ledgers, V: Service, W: Wire>(
+    rt: &impl Wait,
+    bank: &Bank<B>,
+    hold: &mut Hold<B>,
+    service: &mut V,
+    wire: &mut W,
+    room: usize,
+    reused: bool,
+) -> PassAnswer
+    requires running { (shows hold.old.history).closed ≡ false }
+    requires roomy { IsRoomy hold.old }
+    requires room { room ≡ service_room hold.old }
+    requires fits { room ≤ N }
+    requires size { N ≤ LARGE_ROOM }
+    ensures reports { HearReported V.Service W.Wire (lending hold.old service.old wire.old) (lending hold.new service.new wire.new) result }
+    ensures reason { HasFaultReason (V.fault service.old) (V.fault service.new) (λ fault. V.has_reason fault (shows hold.old.history) service.new) }
+    ensures sent { (request came taken : List ℕ) → V.has_sent request (shows hold.old.history) came taken service.old → V.has_sent request (shows hold.old.history) came taken service.new }
+    ensures rests { (x : Seen) → V.rests_writing x service.old → V.rests_writing x service.new }
+    ensures head { (shows hold.old.history).modified ≡ true → V.adapted_head service.new ≡ V.adapted_head service.old }
+    ensures response { (shows hold.old.history).modified ≡ true → V.is_response service.new ≡ V.is_response service.old }
+    ensures roomy { IsRoomy hold.new }
+    ensures unbroken { (cause : Cause) → result.failed ≡ Some cause → Breaks hold.old.history reused (V.fault service.new) → ⊥ }
+    ensures breaks { result.broken ≡ true → Breaks hold.new.history reused (V.fault service.new) }
+{
+    let mut buf = [0; N];
     take_service(rt, bank, hold, service, wire, &mut buf[..room], reused)
 }
 

@@ -1,14 +1,14 @@
 //! A pass of the source's side.
 
-ghost use Rattle.std.specs.Prelude.{◌≡◌, false, length};
+ghost use Rattle.std.specs.Prelude.{◌≡◌, ◌≤◌, false, length};
+ghost use Rattle.adapt_turn.specs.declared.pass.TheConstants.{LARGE_ROOM};
 ghost use Rattle.adapt_hold.specs.Holding.{shows, IsRoomy};
 ghost use Rattle.adapt_turn.specs.Reports.{HasFaultReason, lending, SourceReported, source_room, source_cause};
 ghost use Rattle.adapt_turn.specs.Passes.{SourcePasses};
 
-use crate::pass::{PassAnswer, close, went_on};
+use crate::pass::{LARGE_ROOM, MIDDLE_ROOM, PassAnswer, SMALL_ROOM, close, went_on};
 use adapt_hold::{Hold, step_all};
 use adapt_sides::{RelayFault, Source};
-use plan_rules::TURN_BYTES;
 use span_bank::{Bank, Ledgers};
 use std::sync::Wait;
 use trace_core::Cause;
@@ -35,7 +35,8 @@ pub(crate) fn source_pass<B: Ledgers, S: Source, A: Wire>(
     }
 }
 
-/// Reads of a source whose numbers are those of the history.
+/// Reads of a source whose numbers are those of the history, into the smallest buffer that has the room.
+#[tactic(auto, using(crate::proofs::Paced::source_fits))]
 fn read_source<B: Ledgers, S: Source, A: Wire>(
     rt: &impl Wait,
     bank: &Bank<B>,
@@ -53,8 +54,39 @@ fn read_source<B: Ledgers, S: Source, A: Wire>(
     ensures roomy { IsRoomy hold.new }
 {
     let _state = hold.state();
-    let mut buf = [0; TURN_BYTES as usize];
     let room = hold.original_room() as usize;
+    if room <= SMALL_ROOM {
+        read_by::<SMALL_ROOM, B, S, A>(rt, bank, hold, source, wire, room)
+    } else if room <= MIDDLE_ROOM {
+        read_by::<MIDDLE_ROOM, B, S, A>(rt, bank, hold, source, wire, room)
+    } else {
+        read_by::<LARGE_ROOM, B, S, A>(rt, bank, hold, source, wire, room)
+    }
+}
+
+/// Reads into room on the stack for `N` bytes. It is never inlined, so that a turn of few bytes doesn't pay for the room of many.
+#[inline(never)]
+fn read_by<const N: usize, B: Ledgers, S: Source, A: Wire>(
+    rt: &impl Wait,
+    bank: &Bank<B>,
+    hold: &mut Hold<B>,
+    source: &mut S,
+    wire: &mut A,
+    room: usize,
+) -> PassAnswer
+    requires running { (shows hold.old.history).closed ≡ false }
+    requires roomy { IsRoomy hold.old }
+    requires agrees { S.agrees (shows hold.old.history) source.old }
+    requires room { room ≡ source_room hold.old }
+    requires fits { room ≤ N }
+    requires size { N ≤ LARGE_ROOM }
+    ensures reports { SourceReported S.Source A.Wire (lending hold.old source.old wire.old) (lending hold.new source.new wire.new) result }
+    ensures reason { HasFaultReason (S.fault source.old) (S.fault source.new) (λ fault. S.has_reason fault source.new) }
+    ensures head { S.head source.new ≡ S.head source.old }
+    ensures whole { result.broken ≡ false }
+    ensures roomy { IsRoomy hold.new }
+{
+    let mut buf = [0; N];
     take_source(rt, bank, hold, source, wire, &mut buf[..room])
 }
 

@@ -3,7 +3,6 @@
 ghost use Rattle.std.specs.Prelude.{IsTrue, not, ◌≡◌, ℕ, ◌+◌, ◌≤◌, ◌⊎◌, true, false, [], Some, None};
 ghost use Rattle.trace_core.specs.declared.history.Event.TheVariants.{Fail};
 ghost use Rattle.trace_core.specs.declared.history.Cause.{Cause};
-ghost use Rattle.plan_rules.specs.declared.room.TheConstants.{TURN_BYTES};
 ghost use Rattle.http_side.specs.Refusals.{is_own_status};
 ghost use Rattle.adapt_sides.specs.Turns.{Gift, wire_fault};
 ghost use Rattle.adapt_sides.specs.Turns.Gift.{refusal, message};
@@ -153,8 +152,8 @@ impl<B: Ledgers, E: EndTypes> Tx<B, E> {
         ensures goes { ⟦<Self as Going>⟧.goes self.old self.new }
         ensures pace { self.new.pace ≡ self.old.pace }
         ensures hold { self.new.hold ≡ moved self.old.hold (Fail cause) [] }
-        ensures paced { ((shows self.new.hold.history).received ≤ (shows self.old.hold.history).received + TURN_BYTES)
-            × ((shows self.new.hold.history).adapted_received ≤ (shows self.old.hold.history).adapted_received + TURN_BYTES) }
+        ensures paced { ((shows self.new.hold.history).received ≤ (shows self.old.hold.history).received + self.old.hold.limits.turn)
+            × ((shows self.new.hold.history).adapted_received ≤ (shows self.old.hold.history).adapted_received + self.old.hold.limits.turn) }
         ensures over { (shows self.new.hold.history).closed ≡ true }
         ensures messages { (E.Writer.gift self.new.ends.next ≡ message → E.Writer.gift self.old.ends.next ≡ message) × (E.Writer.gift self.new.ends.back ≡ message → E.Writer.gift self.old.ends.back ≡ message) }
         ensures outcome { self.new.outcome ≡ Outcome.Fail cause }

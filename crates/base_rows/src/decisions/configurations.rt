@@ -177,6 +177,7 @@ fn put_tuning(out: &mut Vec<u8>, config: &Config) -> Result<(), NoMemory> {
     put_number(out, b"keep_origins", config.keep_origins)?;
     put_number(out, b"origin_idle", config.origin_idle)?;
     put_shown(out, b"dial", &config.dial)?;
+    put_number(out, b"turn", config.turn)?;
     put_times(out, config)?;
     put_path(out, b"refusal_pages", &config.refusal_pages)
 }

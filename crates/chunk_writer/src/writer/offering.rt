@@ -4,11 +4,11 @@ ghost use Rattle.std.specs.Prelude.{◌≡◌, ◌+◌, ◌-◌, ◌<◌, ◌≤
 ghost use Rattle.wire_kit.specs.Past.{Offers, delta_of, part_taken};
 ghost use Rattle.chunk_writer.specs.Writer.{IsIdle, waiting, data_text, end_text, next_text, offered, MayGoOn};
 ghost use Rattle.chunk_writer.specs.Moves.{Moves, Passes, IsStill};
-ghost use Rattle.chunk_writer.specs.declared.draft.TheConstants.{LONG_HEAD, ROOM};
+ghost use Rattle.chunk_writer.specs.declared.draft.TheConstants.{LARGE, LONG_HEAD};
 ghost use Rattle.chunk_writer.specs.declared.next.TheConstants.{MAX_CHUNK};
 
 use super::{ChunkWriter, Wrote};
-use crate::draft::{Draft, LONG_HEAD, ROOM, SHORT};
+use crate::draft::{Draft, LARGE, LONG_HEAD, ROOM, SHORT};
 use crate::next::Next;
 use span_tape::SpanTape;
 use wire_kit::{Put, Wire};
@@ -20,7 +20,7 @@ impl ChunkWriter {
         requires few { next.now.count ≤ MAX_CHUNK }
         requires fits { length self.now.head - self.now.head_out ≤ LONG_HEAD }
         ensures need { result ≡ length (waiting self.now) + next.now.count + 130 }
-        ensures room { result ≤ ROOM }
+        ensures room { result ≤ LARGE }
     {
         let waiting = self.head.as_slice().len() - self.head_out
             + (self.framing.as_slice().len() - self.framing_out);
@@ -140,7 +140,26 @@ impl ChunkWriter {
         }
     }
 
-    /// Offers what waits and what comes next, in one write. Most texts are short, and room for a long one is made for those
+    /// Offers what waits and what comes next, in one write of many body bytes. It is never inlined: its room is on the stack, and other
+    /// writes don't pay for it.
+    #[inline(never)]
+    fn write_many<W: Wire>(&mut self, next: &Next, tape: &SpanTape, wire: &mut W) -> Wrote
+        requires room { length (waiting self.old) + next.now.count + 130 ≤ LARGE }
+        requires next { MayGoOn self.old tape.now next.now }
+        ensures wire { Offers (W.past wire.old) (W.past wire.new) (waiting self.old ++ next_text self.old.left tape.now next.now) result.answer }
+        ensures moves { Moves tape.now next.now self.old result.sent result.ended
+            (delta_of (waiting self.old ++ next_text self.old.left tape.now next.now) result.answer) self.new }
+        ensures idle { result.answer ≡ None → IsIdle self.old next.now result.sent result.ended }
+        ensures out { result.answer ≡ None → waiting self.new ≡ [] }
+        ensures still { IsStill result.answer result.sent result.ended }
+        ensures silent { result.answer ≡ None → waiting self.old ++ next_text self.old.left tape.now next.now ≡ [] }
+        ensures asks { waiting self.old ++ next_text self.old.left tape.now next.now ≡ [] → result.answer ≡ None }
+    {
+        let mut draft = Draft::<LARGE>::new();
+        self.offer(&mut draft, next, tape, wire)
+    }
+
+    /// Offers what waits and what comes next, in one write. Most texts are short, and room for a longer one is made for those
     /// alone that need it.
     fn write_all<W: Wire>(&mut self, next: &Next, tape: &SpanTape, wire: &mut W) -> Wrote
         requires fits { length self.old.head - self.old.head_out ≤ LONG_HEAD }
@@ -154,12 +173,15 @@ impl ChunkWriter {
         ensures silent { result.answer ≡ None → waiting self.old ++ next_text self.old.left tape.now next.now ≡ [] }
         ensures asks { waiting self.old ++ next_text self.old.left tape.now next.now ≡ [] → result.answer ≡ None }
     {
-        if self.need(next) <= SHORT {
+        let need = self.need(next);
+        if need <= SHORT {
             let mut draft = Draft::<SHORT>::new();
             self.offer(&mut draft, next, tape, wire)
-        } else {
+        } else if need <= ROOM {
             let mut draft = Draft::<ROOM>::new();
             self.offer(&mut draft, next, tape, wire)
+        } else {
+            self.write_many(next, tape, wire)
         }
     }
 

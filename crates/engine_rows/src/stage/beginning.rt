@@ -9,7 +9,7 @@ use crate::stage::sides::{Sides, Subject, Wires, make_sides};
 use crate::stage::told::Counted;
 use adapt_turn::Side;
 use http_side::{OriginUse, OriginWay};
-use plan_rules::{Limits, Pace, claim};
+use plan_rules::{LEAST_TURN, Limits, Pace, claim};
 use proxy_rules::{Beginning, Incoming, Offer, Running, Way, laws};
 use span_bank::{Bank, Ledgers, Stake};
 use std::alloc::{AllocError, Global};
@@ -30,6 +30,7 @@ fn limits_of(plan: &Plan) -> Limits {
         preview_limit: 1024,
         allow_limit: 0,
         window: 8192,
+        turn: LEAST_TURN,
         retry: plan.retry,
     }
 }

@@ -9,7 +9,7 @@ ghost use Rattle.http_relay.specs.Reading.{AtHead, HeadTurn, JudgesHeadTo};
 use crate::side::SourceSide;
 use crate::source_body::SourceBody;
 use adapt_bytes::{MAX_HEAD, behind};
-use adapt_sides::{Filled, RelayFault, fill};
+use adapt_sides::{Filled, MAX_READ, RelayFault, fill};
 use http_side::{HttpFault, HttpRequest, HttpResponse, read_request, read_response};
 use wire_kit::Wire;
 
@@ -190,7 +190,7 @@ impl SourceSide {
             Ok(HeadProgress::Taken) => return Ok(HeadProgress::Taken),
             Err(fault) => return Err(fault),
         }
-        match fill(&mut self.raw, wire) {
+        match fill(&mut self.raw, wire, MAX_READ) {
             Filled::Bytes => self.judge(),
             Filled::Wait => Ok(HeadProgress::More),
             Filled::Ended => Err(RelayFault::Closed),

@@ -119,6 +119,9 @@ impl<'r, S: Shares, R: Wait + Dial + Clock, G: Gate> Services<Spot<'r, R, G>> fo
         );
         let lent = lend_waiting(&self.shared, &mut self.seats, &mut self.asked, at, point);
         note_lease(&mut self.seats, at.key, point, lent.is_ok());
+        if lent.is_ok() {
+            self.call_ended(at.rt, point);
+        }
         lent
     }
 
@@ -127,6 +130,7 @@ impl<'r, S: Shares, R: Wait + Dial + Clock, G: Gate> Services<Spot<'r, R, G>> fo
         let joins = pools_of(&self.shared).waiting.join(at.rt, point, waiter);
         if joins {
             self.seats.begin_wait(at.key, at.now);
+            self.call_ended(at.rt, point);
         }
         joins
     }

@@ -4,7 +4,7 @@ use Rattle.trace_core.specs.declared.history.Seen.{Seen}
 use Rattle.http_relay.specs.Message.{length_of}
 use Rattle.adapt_sides.specs.Tapes.{chosen_received, chosen_over, chosen_delivered}
 use Rattle.http_relay.specs.Giving.{BreaksLength}
-use Rattle.http_relay.proofs.Chosen.{fewer}
+use Rattle.http_relay.proofs.Chosen.{fewer, some_of}
 use Rattle.http_relay.proofs.due.decide.Goals as goal
 
 pub returns-then-not-fits_length-clause-none : goal.returns-then-not-fits_length-clause-none
@@ -24,10 +24,12 @@ returns-clause-next c =
       chunked = c.is_in_chunks-chunked.ensures;
       from = c.chosen-from.ensures.out ∙ ap chosen_delivered here;
       fits = (fit.few, fit.within);
+      few = omega (arith, fit.most);
       usr = λ some.
           let all = c.deliverable.ensures.allowed (omega (arith, some, fit.most)) in
-          (begun, all.0, fewer x c.fit-count.result c.deliverable.result some fit.most all.1);
-      greatest = λ m n o a f. fit.greatest n (c.deliverable.ensures.bound n (o, a)) f;
+          (begun, all.0, fewer x c.fit-count.result c.deliverable.result some (omega (arith, fit.most)) all.1);
+      greatest = λ m n o a t f. fit.greatest n (omega (arith, t, c.deliverable.ensures.bound n (o, a))) f;
+      some = λ m n o a. fit.some (omega (arith, c.requires, some_of x n a, c.deliverable.ensures.bound n (o, a)));
       room = λ some. subst (λ (y : Seen). IfSome (length_of length) (λ n. chosen_received y ≤ n)) here (fits.within c.if-not-fits_length.false);
       ends = λ i.
           let e = end.ends i in

@@ -13,6 +13,7 @@ returns c =
     (codes "keep_origins", old.keep_origins == new.keep_origins) ∷
     (codes "origin_idle", old.origin_idle == new.origin_idle) ∷
     (codes "dial", c.same_dial.result) ∷
+    (codes "turn", old.turn == new.turn) ∷
     (codes "service_idle", old.service_idle == new.service_idle) ∷
     (codes "options_ttl", old.options_ttl == new.options_ttl) ∷
     (codes "head_deadline", old.head_deadline == new.head_deadline) ∷
@@ -30,20 +31,24 @@ returns c =
           c.same_dial.ensures,
           (
             refl,
-            same_number old.service_idle new.service_idle,
+            same_number old.turn new.turn,
             (
               refl,
-              same_number old.options_ttl new.options_ttl,
+              same_number old.service_idle new.service_idle,
               (
                 refl,
-                same_number old.head_deadline new.head_deadline,
+                same_number old.options_ttl new.options_ttl,
                 (
                   refl,
-                  same_number old.connect_deadline new.connect_deadline,
+                  same_number old.head_deadline new.head_deadline,
                   (
                     refl,
-                    same_number old.service_failures new.service_failures,
-                    (refl, same_number old.service_pause new.service_pause, tt),
+                    same_number old.connect_deadline new.connect_deadline,
+                    (
+                      refl,
+                      same_number old.service_failures new.service_failures,
+                      (refl, same_number old.service_pause new.service_pause, tt),
+                    ),
                   ),
                 ),
               ),

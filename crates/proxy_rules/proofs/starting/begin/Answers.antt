@@ -47,11 +47,12 @@ invariant_of-running g c =
         start = first_snapshot (text_of c.args.beginning.offer.side) read [] c.args.beginning.way.source c.args.beginning.way.next c.args.beginning.way.service;
         since_is = since_begun g.W.SourceWire.Wire g.W.ServiceWire.Wire g.W.NextWire.Wire (text_of c.args.beginning.offer.side) read read [] [] _ _ _ c.in-Ok.tx.ends.service _ _ _ _
             (c.in-Ok.ensures.stands (record { bytes = read; ended = false }) (text_of c.args.beginning.offer.side) (begins (seen plan []) refl refl).0 (nothing_on (text_of c.args.beginning.offer.side) plan c.service_end.result unused)
-            (ap (λ (h : Hop). gift_of h.stage) c.new.ensures.shows) c.new.ensures.aside (ap (λ (h : Hop). gift_of h.stage) c.new-2.ensures.shows) c.new-2.ensures.aside)
+            (ap (λ (h : Hop). gift_of h.stage) c.with_turn.ensures.shows ∙ ap (λ (h : Hop). gift_of h.stage) c.new.ensures.shows) (c.with_turn.ensures.aside [] c.new.ensures.aside) (ap (λ (h : Hop). gift_of h.stage) c.with_turn-2.ensures.shows ∙ ap (λ (h : Hop). gift_of h.stage) c.new-2.ensures.shows) (c.with_turn-2.ensures.aside [] c.new-2.ensures.aside))
             (sym (append-nil read)) (grown_none _) (ap (λ z. z.source_wire) c.in-Ok.ensures.ends) line (ap (λ z. z.next_wire) c.in-Ok.ensures.ends);
         faultless_is = λ going.
             c.in-Ok.ensures.faultless (ap (λ (s : SourceSide). s.fault) source.ensures.side ∙ may.fault) (faultless_on (text_of c.args.beginning.offer.side) c.service_end.result unused)
-            (ap (λ (h : Hop). h.fault) c.new.ensures.shows) (ap (λ (h : Hop). h.fault) c.new-2.ensures.shows);
+            (ap (λ (h : Hop). h.fault) c.with_turn.ensures.shows ∙ ap (λ (h : Hop). h.fault) c.new.ensures.shows)
+            (ap (λ (h : Hop). h.fault) c.with_turn-2.ensures.shows ∙ ap (λ (h : Hop). h.fault) c.new-2.ensures.shows);
         refused_is = λ over. not_both _ over (ap (λ (h : History). (shows h).closed) c.in-Ok.ensures.begun);
       } ∣₁;
     }
@@ -71,7 +72,7 @@ returns-clause-since g c = λ first ahead since beside came.
     let line = ap (λ z. wire_of z.service) c.in-Ok.ensures.ends ∙ (ap (λ z. wire_of z) c.service_end.ensures ∙ line_is c.into_plan-side.result.1 c.args.beginning.way.service (ap is_some c.into_plan-side.ensures.side ∙ (may.line ∙ c.is_some-is_connected.ensures))) in
     since_begun g.W.SourceWire.Wire g.W.ServiceWire.Wire g.W.NextWire.Wire (text_of c.args.beginning.offer.side) read ahead since beside _ _ _ c.in-Ok.tx.ends.service _ _ _ _
     (c.in-Ok.ensures.stands (record { bytes = read; ended = false }) (text_of c.args.beginning.offer.side) (begins (seen plan []) refl refl).0 (nothing_on (text_of c.args.beginning.offer.side) plan c.service_end.result unused)
-    (ap (λ (h : Hop). gift_of h.stage) c.new.ensures.shows) c.new.ensures.aside (ap (λ (h : Hop). gift_of h.stage) c.new-2.ensures.shows) c.new-2.ensures.aside)
+    (ap (λ (h : Hop). gift_of h.stage) c.with_turn.ensures.shows ∙ ap (λ (h : Hop). gift_of h.stage) c.new.ensures.shows) (c.with_turn.ensures.aside [] c.new.ensures.aside) (ap (λ (h : Hop). gift_of h.stage) c.with_turn-2.ensures.shows ∙ ap (λ (h : Hop). gift_of h.stage) c.new-2.ensures.shows) (c.with_turn-2.ensures.aside [] c.new-2.ensures.aside))
     refl came.wire_is (ap (λ z. z.source_wire) c.in-Ok.ensures.ends) line (ap (λ z. z.next_wire) c.in-Ok.ensures.ends)
 
 pub returns-clause-stands : goal.returns-clause-stands
@@ -87,5 +88,5 @@ returns-clause-stands g c =
     (unused_on plan c.into_plan-side.result.1 c.args.beginning.way.service c.into_plan-side.ensures.binds)) in (
       read,
       c.in-Ok.ensures.stands (record { bytes = read; ended = false }) (text_of c.args.beginning.offer.side) (begins (seen plan []) refl refl).0 (nothing_on (text_of c.args.beginning.offer.side) plan c.service_end.result unused)
-          (ap (λ (h : Hop). gift_of h.stage) c.new.ensures.shows) c.new.ensures.aside (ap (λ (h : Hop). gift_of h.stage) c.new-2.ensures.shows) c.new-2.ensures.aside,
+          (ap (λ (h : Hop). gift_of h.stage) c.with_turn.ensures.shows ∙ ap (λ (h : Hop). gift_of h.stage) c.new.ensures.shows) (c.with_turn.ensures.aside [] c.new.ensures.aside) (ap (λ (h : Hop). gift_of h.stage) c.with_turn-2.ensures.shows ∙ ap (λ (h : Hop). gift_of h.stage) c.new-2.ensures.shows) (c.with_turn-2.ensures.aside [] c.new-2.ensures.aside),
     )

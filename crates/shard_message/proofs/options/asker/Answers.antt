@@ -9,7 +9,8 @@ use Rattle.shard_message.specs.Planning.{service_of}
 use Rattle.shard_message.proofs.options.asker.Goals as goal
 
 -- who asks this service asks that of the point
-of_point : {S E : Type 0} (waiting : S → List ℕ) (config_is : Config → Type 0) (config : Config) → config_is config → (point : Point) (service : ServicePoint)
+of_point : {S E : Type 0} (waiting : S → List ℕ) (config_is : Config → Type 0) (config : Config) → config_is config
+    → (point : Point) (service : ServicePoint)
     → service_of config point ≡ Some service → (made : Result S E)
     → IfOk made (λ side. waiting side ≡ options_request (string_bytes service.host) (v4_port service.address) (string_bytes service.path))
     → IfOk made (λ side. IsAsking config_is point (waiting side))

@@ -12,7 +12,8 @@ of_found : {A : Type 0} → (F : A → Type 0) → (found : Option A) → (x : A
 of_found F found x e holds = subst (λ z. IfSome z F) (sym e) holds
 
 -- a plan is kept of a message that was lent as these
-kept_of : (by : Grounds) → (m lent again : Arrival) → (planned : Box Planned Global) → (kept : Option (Box Planned Global)) → (marks : Marks)
+kept_of : (by : Grounds) → (m lent again : Arrival) → (planned : Box Planned Global) → (kept : Option (Box Planned Global))
+    → (marks : Marks)
     → lent ≡ m → again ≡ m → IsPlan by lent planned.value → kept ≡ Some planned
     → marks.offered ≡ is_some planned.value.offer.side → marks.waits ≡ waits (heads_of again)
     → marks.repeatable ≡ repeats (heads_of again) → IsKept by m kept marks

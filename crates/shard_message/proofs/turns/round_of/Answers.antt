@@ -12,7 +12,8 @@ not_broken rounds.Waiting n = refl
 not_broken (rounds.Moved framing) n = refl
 
 -- without a broken connection nothing changes
-line_stays : {S : Type 0} (opened : S → Type 0) (round : Round) (was given : Option S) → (round ≡ rounds.Broken → ⊥) → IsLineAfter opened round was given was given
+line_stays : {S : Type 0} (opened : S → Type 0) (round : Round) (was given : Option S) → (round ≡ rounds.Broken → ⊥)
+    → IsLineAfter opened round was given was given
 line_stays opened rounds.Broken was given n = absurd (n refl)
 line_stays opened rounds.Over was given n = (refl, (None, refl))
 line_stays opened rounds.Waiting was given n = (refl, refl)

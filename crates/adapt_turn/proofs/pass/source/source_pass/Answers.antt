@@ -5,7 +5,6 @@ use Rattle.trace_core.specs.declared.history.Cause.{Cause}
 use Rattle.trace_core.specs.declared.history.Cause.TheVariants as causes
 use Rattle.trace_core.specs.History.{History}
 use Rattle.trace_core.specs.Turns.{after_all}
-use Rattle.plan_rules.specs.declared.room.TheConstants.{TURN_BYTES}
 use Rattle.adapt_hold.specs.Holding.{shows}
 use Rattle.adapt_turn.specs.declared.pass.PassAnswer.{PassAnswer}
 use Rattle.adapt_turn.specs.declared.turn.Side.TheVariants.{Source}
@@ -31,7 +30,7 @@ returns-then-agrees_with-clause-passes g c =
       still = reported_still d.reports;
       waits = reported_waits d.reports;
       framed = d.framed;
-      paced = reported_received tied d.reports _ d.few (original_few (shows h.history) h.claim h.limits.window);
+      paced = reported_received tied d.reports _ d.few (original_few (shows h.history) h.claim h.limits.window h.limits.turn);
       took = reported_took Source of_source tied d.reports;
       active = λ w. reported_acts Source of_source tied d.reports w whole;
       blames = λ cause e. (λ a. reported_blames d.reports cause e, λ no. absurd (no yes));
@@ -65,7 +64,7 @@ returns-else-agrees_with-clause-passes g c =
       still = λ e. absurd (waits e);
       waits = λ e. absurd (waits e);
       framed = λ e. absurd (waits e);
-      paced = fail_received h k causes.Source TURN_BYTES tied c.requires.running is;
+      paced = fail_received h k causes.Source h.limits.turn tied c.requires.running is;
       took = took_fail Source h k causes.Source c.requires.running is;
       active = λ w. untouched_or _ _ (fail_advances Source h k causes.Source c.requires.running is);
       blames = λ cause e. (λ a. absurd (no a), λ n. (let d : Some causes.Source ≡ Some cause = failed ∙ e in cc));

@@ -1,7 +1,6 @@
 use Rattle.adapt_turn.specs.Stands.{SideViews}
 use Rattle.adapt_turn.proofs.Together.{views_by, others_by, fail_goes, goes_then}
 use Rattle.std.proofs.Common.{◌∙◌}
-use Rattle.plan_rules.specs.declared.room.TheConstants.{TURN_BYTES}
 use Rattle.adapt_turn.proofs.Paced.{fail_received, fail_adapted}
 use Rattle.adapt_turn.proofs.tx.Tx.fail_by.Goals as goal
 
@@ -18,6 +17,6 @@ returns-clause-goes g c =
 pub returns-clause-paced : goal.returns-clause-paced
 returns-clause-paced g c =
     let e = c.refuse.ensures.hold ∙ c.fail.ensures.moved in (
-      fail_received c.args.self.now.hold _ c.args.cause TURN_BYTES c.state-state.ensures.tied c.requires.running e,
-      fail_adapted c.args.self.now.hold _ c.args.cause TURN_BYTES c.state-state.ensures.tied c.requires.running e,
+      fail_received c.args.self.now.hold _ c.args.cause c.args.self.now.hold.limits.turn c.state-state.ensures.tied c.requires.running e,
+      fail_adapted c.args.self.now.hold _ c.args.cause c.args.self.now.hold.limits.turn c.state-state.ensures.tied c.requires.running e,
     )

@@ -60,8 +60,8 @@ returns-clause-answers g c = by_answer c.after_pass.result _
           c.pass-passed.ensures.served c.after_pass.ensures.kept.1 c.after_pass.ensures.kept.2 c.after_pass.ensures.kept.3 (sym (c.after_pass.ensures.said.waiting w).1 ∙ c.since-moved.ensures);
       refusal = λ k. absurd (false≢true (sym (sym c.is_closed.ensures ∙ c.if-is_closed.false) ∙ k));
       side = λ k. for_side c.args.side _ _ _
-          (λ s. record { waited = waits_kept (λ z. g.E.Reader.Source.rests (original_room (shows c.args.self.now.hold.history) c.args.self.now.hold.claim c.args.self.now.hold.limits.window) z) g.E.SourceWire.Wire.past _ _ c.pass-passed.new.self.ends.source c.after_pass.new.self.ends.source c.pass-passed.new.self.ends.source_wire c.after_pass.new.self.ends.source_wire c.after_pass.ensures.kept.0 c.after_pass.ensures.kept.1 ((c.pass-passed.ensures.source s).waits (c.after_pass.ensures.said.waiting w).0); framed = subst (λ z. g.E.Reader.Source.is_framed (original_room (shows c.args.self.now.hold.history) c.args.self.now.hold.claim c.args.self.now.hold.limits.window) z) (sym c.after_pass.ensures.kept.0) ((c.pass-passed.ensures.source s).framed (c.after_pass.ensures.said.waiting w).0) })
-          (λ s. record { waited = both_kept (λ l. g.E.Client.Service.rests_writing (shows c.args.self.now.hold.history) l.side) (λ l. g.E.Client.Service.rests_reading (shows c.args.self.now.hold.history) (adapted_room (shows c.args.self.now.hold.history) c.args.self.now.hold.limits.window) l.side) (λ l p. MatchOption l.wire ⊥ (λ w. g.E.ServiceWire.Wire.past w p)) _ c.pass-passed.new.self.ends.service c.after_pass.new.self.ends.service c.after_pass.ensures.kept.2 ((line_told (c.pass-passed.ensures.service s)).waits (c.after_pass.ensures.said.waiting w).0); framed = subst (λ z. MatchOption z ⊤ (λ l. MatchOption l.wire ⊤ (λ w. g.E.Client.Service.is_framed (adapted_room (shows c.args.self.now.hold.history) c.args.self.now.hold.limits.window) l.side))) (sym c.after_pass.ensures.kept.2) ((line_told (c.pass-passed.ensures.service s)).framed (c.after_pass.ensures.said.waiting w).0) })
+          (λ s. record { waited = waits_kept (λ z. g.E.Reader.Source.rests (original_room (shows c.args.self.now.hold.history) c.args.self.now.hold.claim c.args.self.now.hold.limits.window c.args.self.now.hold.limits.turn) z) g.E.SourceWire.Wire.past _ _ c.pass-passed.new.self.ends.source c.after_pass.new.self.ends.source c.pass-passed.new.self.ends.source_wire c.after_pass.new.self.ends.source_wire c.after_pass.ensures.kept.0 c.after_pass.ensures.kept.1 ((c.pass-passed.ensures.source s).waits (c.after_pass.ensures.said.waiting w).0); framed = subst (λ z. g.E.Reader.Source.is_framed (original_room (shows c.args.self.now.hold.history) c.args.self.now.hold.claim c.args.self.now.hold.limits.window c.args.self.now.hold.limits.turn) z) (sym c.after_pass.ensures.kept.0) ((c.pass-passed.ensures.source s).framed (c.after_pass.ensures.said.waiting w).0) })
+          (λ s. record { waited = both_kept (λ l. g.E.Client.Service.rests_writing (shows c.args.self.now.hold.history) l.side) (λ l. g.E.Client.Service.rests_reading (shows c.args.self.now.hold.history) (adapted_room (shows c.args.self.now.hold.history) c.args.self.now.hold.limits.window c.args.self.now.hold.limits.turn) l.side) (λ l p. MatchOption l.wire ⊥ (λ w. g.E.ServiceWire.Wire.past w p)) _ c.pass-passed.new.self.ends.service c.after_pass.new.self.ends.service c.after_pass.ensures.kept.2 ((line_told (c.pass-passed.ensures.service s)).waits (c.after_pass.ensures.said.waiting w).0); framed = subst (λ z. MatchOption z ⊤ (λ l. MatchOption l.wire ⊤ (λ w. g.E.Client.Service.is_framed (adapted_room (shows c.args.self.now.hold.history) c.args.self.now.hold.limits.window c.args.self.now.hold.limits.turn) l.side))) (sym c.after_pass.ensures.kept.2) ((line_told (c.pass-passed.ensures.service s)).framed (c.after_pass.ensures.said.waiting w).0) })
           (λ s. elim ((c.pass-passed.ensures.next s).waits (c.after_pass.ensures.said.waiting w).0) [
             | inl u ↦ inl u
             | inr v ↦ inr (record {

@@ -41,10 +41,11 @@ returns-in-Some-Fault-clause-turn g c =
     let we = ap (λ (h : Hop). h.writer) c.self.view_is in
     let fe = ap (λ (h : Hop). h.framing) c.self.view_is in
     let se = ap (λ (h : Hop). h.stage) c.self.view_is in
+    let ue = ap (λ (h : Hop). h.turn) c.self.view_is in
     let te = ap (λ (h : Hop). h.touched) c.self.view_is in
     let answer : wrote.answer ≡ Some put.Fault = search rules in
     let still = still_fault wrote.answer wrote.sent wrote.ended answer o.still in
-    turned x tape next c.args.self.now _ in'.writer in'.framing in'.stage _ _ (Err Device) wrote.answer wrote.sent wrote.ended false we fe se
+    turned x tape next c.args.self.now _ in'.writer in'.framing in'.stage in'.turn _ _ (Err Device) wrote.answer wrote.sent wrote.ended false we fe se ue
     (sound c.args.state.now.plan c.args.state.now.events c.trace.ensures.legal) c.requires c.in-Some-decide.ensures.next o.wire o.silent o.asks o.moves
     (settles_still x next c.args.self.now _ wrote.sent wrote.ended (delta_of text wrote.answer) still (no_delta_fault wrote.answer text answer) fe se te)
     (none_still wrote.sent wrote.ended still) (λ no. inl (refl, answer))
@@ -61,11 +62,12 @@ returns-in-Some-Wait-clause-turn g c =
     let we = ap (λ (h : Hop). h.writer) c.self.view_is in
     let fe = ap (λ (h : Hop). h.framing) c.self.view_is in
     let se = ap (λ (h : Hop). h.stage) c.self.view_is in
+    let ue = ap (λ (h : Hop). h.turn) c.self.view_is in
     let te = ap (λ (h : Hop). h.touched) c.self.view_is in
     let answer : wrote.answer ≡ Some put.Wait = search rules in
     let still = still_wait wrote.answer wrote.sent wrote.ended answer o.still in
     turned_drop_text x tape c.args.self.now _ c.drop_text.new.self _ _ (Ok c.turn_of.result) c.drop_text.ensures.still
-    (turned x tape next c.args.self.now _ in'.writer in'.framing in'.stage _ _ (Ok c.turn_of.result) wrote.answer wrote.sent wrote.ended false we fe se
+    (turned x tape next c.args.self.now _ in'.writer in'.framing in'.stage in'.turn _ _ (Ok c.turn_of.result) wrote.answer wrote.sent wrote.ended false we fe se ue
     (sound c.args.state.now.plan c.args.state.now.events c.trace.ensures.legal) c.requires c.in-Some-decide.ensures.next o.wire o.silent o.asks o.moves
     (settles_still x next c.args.self.now _ wrote.sent wrote.ended (delta_of text wrote.answer) still (no_delta_wait wrote.answer text answer) fe se te)
     (c.turn_of.ensures.events ∙ none_still wrote.sent wrote.ended still)
@@ -86,12 +88,13 @@ returns-in-Some-Took-clause-turn g c =
     let we = ap (λ (h : Hop). h.writer) c.self.view_is in
     let fe = ap (λ (h : Hop). h.framing) c.self.view_is in
     let se = ap (λ (h : Hop). h.stage) c.self.view_is in
+    let ue = ap (λ (h : Hop). h.turn) c.self.view_is in
     let answer : wrote.answer ≡ Some (put.Took c.in-Some-Took.field-0-0) = search rules in
     turned_drop_text x tape c.args.self.now c.count_written-done.new.self c.drop_text-in-Some-Took.new.self _ _ (Ok turn.result) c.drop_text-in-Some-Took.ensures.still
-    (turned x tape next c.args.self.now c.count_written-done.new.self in'.writer in'.framing in'.stage _ _ (Ok turn.result) wrote.answer wrote.sent wrote.ended done we fe se
+    (turned x tape next c.args.self.now c.count_written-done.new.self in'.writer in'.framing in'.stage in'.turn _ _ (Ok turn.result) wrote.answer wrote.sent wrote.ended done we fe se ue
     (sound c.args.state.now.plan c.args.state.now.events c.trace.ensures.legal) c.requires c.in-Some-decide.ensures.next o.wire o.silent o.asks
     (subst (λ (v : Writer). Moves tape next in'.writer wrote.sent wrote.ended (delta_of text wrote.answer) v) (sym (ap (λ (h : Hop). h.writer) e.stage)) o.moves)
-    (settles_by x next c.args.self.now c.count_written-done.new.self c.write-wrote.new.self in'.framing in'.stage true in'.fault wrote.sent wrote.sent wrote.ended done c.sendable-may.result.done (delta_of text wrote.answer)
+    (settles_by x next c.args.self.now c.count_written-done.new.self c.write-wrote.new.self in'.framing in'.stage true in'.fault in'.turn wrote.sent wrote.sent wrote.ended done c.sendable-may.result.done (delta_of text wrote.answer)
     e.stage fe se (λ u. cc) (λ u. inr (took_some text wrote.answer c.in-Some-Took.field-0-0 answer o.wire.fits)) e.done c.sendable-may.ensures.done.0 (λ z. z))
     turn.ensures.events (λ no. fits_took x c.count_written-done.new.self wrote.answer c.in-Some-Took.field-0-0 turn.result answer (λ h. (turn.ensures.waits h).1)))
 
@@ -111,19 +114,20 @@ returns-in-None-answer-clause-turn g c =
     let we = ap (λ (h : Hop). h.writer) c.self.view_is in
     let fe = ap (λ (h : Hop). h.framing) c.self.view_is in
     let se = ap (λ (h : Hop). h.stage) c.self.view_is in
+    let ue = ap (λ (h : Hop). h.turn) c.self.view_is in
     let te = ap (λ (h : Hop). h.touched) c.self.view_is in
     let answer : wrote.answer ≡ None = c.in-None-answer.is in
     let idle = o.idle answer in
     let s = sound c.args.state.now.plan c.args.state.now.events c.trace.ensures.legal in
     let may = c.sendable-may.ensures.done in
     turned_drop_text x tape c.args.self.now settle.new.self c.drop_text-in-None-answer.new.self _ _ (Ok turn.result) c.drop_text-in-None-answer.ensures.still
-    (turned x tape next c.args.self.now settle.new.self in'.writer in'.framing in'.stage _ _ (Ok turn.result) wrote.answer wrote.sent wrote.ended done we fe se
+    (turned x tape next c.args.self.now settle.new.self in'.writer in'.framing in'.stage in'.turn _ _ (Ok turn.result) wrote.answer wrote.sent wrote.ended done we fe se ue
     s c.requires c.in-Some-decide.ensures.next o.wire o.silent o.asks
     (subst (λ (v : Writer). Moves tape next in'.writer wrote.sent wrote.ended (delta_of text wrote.answer) v) (sym (ap (λ (h : Hop). h.writer) e.stage)) o.moves)
-    (settles_by x next c.args.self.now settle.new.self c.write-wrote.new.self in'.framing in'.stage in'.touched in'.fault wrote.sent 0 wrote.ended done c.sendable-may.result.done (delta_of text wrote.answer)
+    (settles_by x next c.args.self.now settle.new.self c.write-wrote.new.self in'.framing in'.stage in'.touched in'.fault in'.turn wrote.sent 0 wrote.ended done c.sendable-may.result.done (delta_of text wrote.answer)
     e.stage fe se (λ u. (sym te ∙ u, no_delta_none wrote.answer text answer, idle.none_sent)) (λ u. inl (sym te ∙ u)) e.done may.0 (λ z. idle.none_sent))
     (turn.ensures.events ∙ idle_events next in'.writer wrote.sent wrote.ended done idle)
-    (λ no. fits_none x c.args.self.now settle.new.self next wrote.answer wrote.sent wrote.ended done turn.result answer s (decides_at x c.args.self.now in'.writer in'.framing in'.stage next we fe se c.in-Some-decide.ensures.next)
+    (λ no. fits_none x c.args.self.now settle.new.self next wrote.answer wrote.sent wrote.ended done turn.result answer s (decides_at x c.args.self.now in'.writer in'.framing in'.stage in'.turn next we fe se ue c.in-Some-decide.ensures.next)
     (subst (λ (v : Writer). IsIdle v next wrote.sent wrote.ended) we idle) turn.ensures.events
     (λ d. e.ended d (o.out answer)) (λ d w still_open a. e.may d (o.out answer) (ap is_whole se ∙ w) refl (may.1 (still_open, a)))
     (λ h. (turn.ensures.waits h).0) (λ h. turn.ensures.goes h refl)

@@ -1,9 +1,9 @@
-use Rattle.std.proofs.Common.{rules, ◌≡◌, subst, refl, List, ℕ}
+use Rattle.std.proofs.Common.{rules, arith, ◌≡◌, subst, refl, List, ℕ}
 use Rattle.icap_head.specs.Heads.{response_parts, HasResponse}
 use Rattle.icap_client.specs.declared.options.OptionsStage.TheVariants.{Head}
 use Rattle.adapt_sides.specs.declared.fault.ClientFault.TheVariants as faults
 use Rattle.icap_client.proofs.Heads.{ok_map}
-use Rattle.icap_client.proofs.Skipping.{frames_bare, frames_then, refuses_here, refuses_then, head_stands, err_map, both, holds_start}
+use Rattle.icap_client.proofs.Skipping.{frames_bare, frames_then, refuses_here, refuses_then, head_stands, err_map, holds_start}
 use Rattle.icap_client.proofs.options.OptionsSide.frame_head.Goals as goal
 
 pub returns-then-not-body-clause-frames : goal.returns-then-not-body-clause-frames
@@ -41,4 +41,4 @@ refuse_head-requires-clause-stands c =
     head_stands c.in-Err.fault c.args.self.now.raw c.as_slice.result.now raw_is (λ k. (k.0, k.1, k.2, tt)) c.in-Err.ensures.err
 
 pub invariant_of-self-2 : goal.invariant_of-self-2
-invariant_of-self-2 c = both c.self.invariant.0 (holds_start c.in-Ok.head.value c.new-start.result c.new-start.ensures)
+invariant_of-self-2 c = (c.self.invariant.0, holds_start c.in-Ok.head.value c.new-start.result c.new-start.ensures, omega (arith, c.pass.ensures.fewer, c.self.invariant.2))

@@ -5,8 +5,8 @@ use Rattle.adapt_sides.specs.declared.filling.Filled.TheVariants as filled
 use Rattle.icap_client.proofs.Asked.{ask_short, ask_on, asks_bytes, asks_wait, asks_ended, asks_failed, asks_full}
 use Rattle.icap_client.proofs.options.OptionsSide.read_on.Goals as goal
 
-pub fill-requires : goal.fill-requires
-fill-requires g c = subst (λ (s : Asker). length s.raw < 16384) (sym c.self.view_is) (ask_short c.args.self.now.stage c.args.self.now.raw c.requires.asks)
+pub fill-requires-clause-short : goal.fill-requires-clause-short
+fill-requires-clause-short g c = subst (λ (s : Asker). length s.raw < 16384) (sym c.self.view_is) (ask_short c.args.self.now.stage c.args.self.now.raw c.requires.asks)
 
 pub frame-requires : goal.frame-requires
 frame-requires g c = λ o. ask_on c.args.self.now.stage c.args.self.now.raw c.requires.asks (sym (ap (λ (s : Asker). s.stage) c.self.view_is) ∙ o)

@@ -16,7 +16,7 @@ pass-requires-clause-front c = λ e.
 pub returns-in-None-clause-waits : goal.returns-in-None-clause-waits
 returns-in-None-clause-waits c =
     let front : IsHeadFront c.args.self.now.raw = has_to_wait Replies c.args.self.now.raw 0 (more_stands c.args.fault c.args.self.now.raw c.in-None.ensures.none c.requires.stands) in
-    let raw : c.pass.new.self.bytes ≡ c.args.self.now.raw = c.pass.ensures ∙ ap (λ (s : Asker). s.raw) c.self.view_is in
+    let raw : c.pass.new.self.bytes ≡ c.args.self.now.raw = c.pass.ensures.bytes ∙ ap (λ (s : Asker). s.raw) c.self.view_is in
     subst (λ (s : OptionsStage). HasToAsk s c.pass.new.self.bytes) (sym (ap (λ (s : Asker). s.stage) c.self.view_is ∙ c.requires.stage))
     (subst IsHeadFront (sym raw) front)
 

@@ -19,5 +19,5 @@ returns-clause-ok c =
     c.new.ensures
     (refl, refl, refl, refl, refl, refl, refl, refl)
     (refl, refl, refl, refl, refl, refl, refl)
-    (refl, refl, refl, refl, refl, refl, refl, refl, refl)
+    (refl, refl, refl, refl, refl, refl, refl, refl, refl, refl)
     (refl, refl, refl, refl)

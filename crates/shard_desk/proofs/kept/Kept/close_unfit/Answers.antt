@@ -7,11 +7,12 @@ pub loop-passed-preserved : goal.loop-passed-preserved
 loop-passed-preserved g c =
     let count = c.len-count.result in
     let passed = c.loop-passed.passed in
+    let kept = c.args.self.now.all in
     let stays : g.row.C.Denot → Type 0 = λ idle. IsFit g.C.Rests.since g.C.Rests.quiet c.args.at.now c.args.seconds idle ⊎ g.C.Rests.unsure c.args.at.turn idle in
     let goes : g.row.C.Denot → Type 0 = IsUnfit g.C.Rests.since g.C.Rests.loud c.args.at.now c.args.seconds in
     record {
-      walked = subst (λ (n : ℕ). Walked stays goes c.args.self.now.all.items c.sift.new.all.items n) (sym (index_after count passed))
-          (sifts_on stays goes c.args.self.now.all.items c.loop-passed.self.all.items c.sift.new.all.items (count - passed) (count - 1 - passed)
+      walked = subst (λ (n : ℕ). Walked stays goes kept.items c.sift.new.all.items n) (sym (index_after count passed))
+          (sifts_on stays goes kept.items c.loop-passed.self.all.items c.sift.new.all.items (count - passed) (count - 1 - passed)
           c.loop-passed.invariant.walked (one_less count passed c.loop-passed-test.true)
           (subst (λ (n : ℕ). count - 1 - passed < n) c.loop-passed.invariant.counted (below count passed c.loop-passed-test.true))
           c.sift.ensures.sifted);
