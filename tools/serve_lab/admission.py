@@ -3,7 +3,8 @@ import socket
 import threading
 
 from serve_lab.cases import IDLE, at_once, case, comes, get, refusal, same
-from serve_lab.loopback import Closed, User, body_of
+from serve_lab.descriptors import connections_of
+from serve_lab.loopback import KEPT, PATIENCE, Closed, User, body_of
 from serve_lab.operators import stats
 
 
@@ -53,11 +54,17 @@ def nobody_and_everybody_may_use_it(bench):
 
 @case
 def connections_from_elsewhere_cost_others_nothing(bench):
-    """With two seats and descriptors for few users, those from elsewhere take neither."""
+    """With two seats and descriptors for few users, those from elsewhere take neither. Each descriptor is explained once those that are being
+    closed are gone: there are two seconds for that."""
     origin = bench.origin()
     proxy = bench.proxy(origin, 'rows = 2\nshards = 1\nusers = ["127.0.0.1"]\n', descriptors=64)
     stays = User(proxy.port)
+    kept = {"user": 1, "origin": 1} if KEPT else {"user": 1}
+
+    def is_alone():
+        return connections_of(proxy, {origin.port: "origin"}) == kept
     same("before", stays.ask(get("/bytes/5")).body, body_of(5))
+    comes("one connection alone", is_alone, PATIENCE / 10)
     before = proxy.descriptors()
 
     def one(number):
@@ -69,6 +76,7 @@ def connections_from_elsewhere_cost_others_nothing(bench):
     same("meanwhile", stays.ask(get("/bytes/7")).body, body_of(7))
     found = stats(proxy)
     same("counted", (found["adaptproxy_users_refused_total"], found["adaptproxy_users"]), (400, 1))
+    comes("one connection alone again", is_alone, PATIENCE / 10)
     same("descriptors", proxy.descriptors(), before)
     stays.close()
     same("audit", proxy.stop(), IDLE)

@@ -6,10 +6,10 @@ from serve_lab.cases import IDLE, SIZES, at_once, case, get, post, post_chunked,
 from serve_lab.loopback import User, ask, body_of, fields_of
 
 
-def all_bodies(bench, services, changed=bytes, sizes=SIZES):
+def all_bodies(bench, services, changed=bytes, sizes=SIZES, keys=""):
     """Answers of each size and framing, and uploads, come through as `changed` says."""
     origin = bench.origin()
-    proxy = bench.proxy(origin, "", services)
+    proxy = bench.proxy(origin, keys, services)
     for size in sizes:
         for kind in ("bytes", "chunked", "close"):
             answer = ask(proxy.port, get("/%s/%d" % (kind, size)))
@@ -54,6 +54,18 @@ def bodies_through_upper(bench):
 def bodies_through_a_service_without_previews(bench):
     service = bench.icap()
     all_bodies(bench, [("reqmod", service.port, "/reqmod/x"), ("respmod", service.port, "/respmod/x")])
+
+
+@case
+def bodies_by_larger_turns(bench):
+    """Bodies that end where a turn does, or near it, and ones of several turns."""
+    port = bench.icapd()
+    for turn, window in ((16384, 32768), (65536, 65536)):
+        keys = "turn = %d\nwindow = %d" % (turn, window)
+        sizes = [edge + near for edge in (4096, turn, 2 * turn) for near in (-1, 0, 1)] + [0, 1, 1_000_000]
+        all_bodies(bench, [], sizes=sizes, keys=keys)
+        all_bodies(bench, [("reqmod", port, "/reqmod/upper"), ("respmod", port, "/respmod/upper")], bytes.upper, sizes, keys)
+        all_bodies(bench, [("reqmod", port, "/reqmod/pass"), ("respmod", port, "/respmod/pass")], sizes=sizes, keys=keys)
 
 
 @case

@@ -216,6 +216,16 @@ class Oversleeping:
         return self.most
 
 
+def called_at_once(what, usual, tried, rounds=4):
+    """Each of the two answers how many seconds somebody waited who is to be called at once, and they go by turns. One whom nobody calls is
+    found as the next second of its loop's clock begins, when all exchanges are driven. What is tried next begins just after that, so it
+    waits for most of a second, whenever the first one began. What the machine adds, the usual waits have too."""
+    waits = [(tried(), usual()) for _ in range(rounds)]
+    longest, beside = [max(column) for column in zip(*waits)]
+    print("      %s: called after %.3f s at most, usually %.3f" % (what, longest, beside))
+    same("%s: at once, %.3f s" % (what, longest), longest < 0.5 + 2 * beside, True)
+
+
 def statuses_of(proxy, users, paths):
     """The statuses that these users get at once, each for all paths on one connection."""
     found = []

@@ -230,28 +230,40 @@ def waits_beside(proxy, user, ends):
     return waits
 
 
+def parts_of_a_resize(proxy, user, size):
+    """What part of the time in which the capacity goes over to this size the longest request lasts for: meanwhile, and in as much time
+    after it."""
+    answers = []
+    asker = threading.Thread(target=lambda: answers.append(proxy.say("capacity %d" % size, patience=10 * PATIENCE)))
+    begun = time.time()
+    asker.start()
+    longest = max(waits_beside(proxy, user, lambda: not asker.is_alive()))
+    passed = time.time() - begun
+    same("answer", answers, ["ok"])
+    until = time.time() + passed
+    return longest / passed, max(waits_beside(proxy, user, lambda: time.time() > until)) / passed
+
+
 @case
 def capacity_keeps_nobody_waiting(bench):
     """While a capacity goes up by a GiB, and down again, no request lasts for more than a small part of that time. A machine with much
-    else to do may let one wait for its processor, so it is tried until that doesn't happen. Where the pages were made in one piece,
-    one request would wait for all of it each time."""
+    else to do may let one wait for its processor: as long as the longest does in as much time without a change. Each is tried until it does
+    well. Were all pages to go in one step, a request would wait for about half of that time: none may for more than a quarter."""
     origin = bench.origin()
     proxy = bench.proxy(origin, "shards = 1")
-    user, parts = User(proxy.port), []
-    while len(parts) < 12 and min(parts, default=1) > 0.1:
-        worst = 0
-        for size in (1 << 30, 1 << 24):
-            answers = []
-            asker = threading.Thread(target=lambda: answers.append(proxy.say("capacity %d" % size, patience=10 * PATIENCE)))
-            begun = time.time()
-            asker.start()
-            waits = waits_beside(proxy, user, lambda: not asker.is_alive())
-            passed = time.time() - begun
-            same("answer", answers, ["ok"])
-            worst = max(worst, max(waits) / passed)
-        parts.append(worst)
-    print("      the longest request beside a GiB that came or went, in %d tries: %.3f of that time" % (len(parts), min(parts)))
-    same("the longest request", min(parts) <= 0.1, True)
+    user, tries, parts = User(proxy.port), 0, {"up": (1, 0), "down": (1, 0)}
+
+    def does_well(way):
+        part, usual = parts[way]
+        return part <= min(0.25, 0.1 + usual)
+    while tries < 12 and not (does_well("up") and does_well("down")):
+        tries += 1
+        for way, size in (("up", 1 << 30), ("down", 1 << 24)):
+            found = parts_of_a_resize(proxy, user, size)
+            parts[way] = parts[way] if does_well(way) else found
+    shown = ["%s %.3f of that time, and usually %.3f" % (way, *pair) for way, pair in parts.items()]
+    print("      the longest request beside a GiB, in %d tries: %s" % (tries, "; ".join(shown)))
+    same("the longest request: " + "; ".join(shown), (does_well("up"), does_well("down")), (True, True))
     same("a new user", ask(proxy.port, get("/bytes/4")).body, b"the ")
     same("odd", proxy.say("capacity %d" % (4096 * 77), "book"), ["ok", "rows 0 held 0 claimed 0 capacity 315392"])
     same("audit", proxy.stop(), IDLE)

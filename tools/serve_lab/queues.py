@@ -4,7 +4,7 @@ import socket
 import threading
 import time
 
-from serve_lab.cases import ICAPD, IDLE, at_once, case, get, is_refused, post, refusal, same, settled, statuses_of
+from serve_lab.cases import ICAPD, IDLE, at_once, called_at_once, case, comes, get, is_refused, post, refusal, same, settled, statuses_of
 from serve_lab.loopback import PATIENCE, Icap, Program, Reader, Server, User, ask, body_of, free_port
 
 
@@ -173,6 +173,108 @@ def users_that_close_leave_the_queue(bench):
         same("what the origin was asked", len(origin.heads), 5 if point == "reqmod" else 9)
         same("book", settled(proxy)[:24], "rows 0 held 0 claimed 0 ")
         same("audit", proxy.stop(), IDLE)
+
+
+def wait_beside_one_that_ends(proxy, service, ends_first):
+    """A user has the only connection to a service, which says nothing to it, and ends its bytes: before one of another thread begins to wait
+    for the connection, or then. How long that one waits."""
+    first, count = User(proxy.port), len(service.requests)
+    first.send(get("/bytes/3"))
+    comes("a message at the service", lambda: len(service.requests) > count)
+    # Users are handed to the threads in turn.
+    second = User(proxy.port)
+    if ends_first:
+        first.sock.shutdown(socket.SHUT_WR)
+        # Until its thread has heard of it.
+        time.sleep(0.1)
+        begun = time.time()
+        second.send(get("/bytes/4"))
+    else:
+        second.send(get("/bytes/4"))
+        wait_for(proxy, 1)
+        begun = time.time()
+        first.sock.shutdown(socket.SHUT_WR)
+    same("the second", second.answer().body, body_of(4))
+    late = time.time() - begun
+    same("the first", first.is_ended(), True)
+    first.close()
+    second.close()
+    same("book", settled(proxy)[:24], "rows 0 held 0 claimed 0 ")
+    return late
+
+
+@case
+def connections_to_a_service_are_taken_from_users_that_have_ended_in_another_thread(bench):
+    """Also where their bytes had ended before somebody began to wait: its thread has others look then."""
+    def reply(conn, reader, head, count):
+        if count % 2 == 0:
+            return service.no_modification(conn, reader, head, count)
+        Icap.rest(reader, head)
+        reader.to_end()
+        return False
+    service = bench.icap(reply, [b"Max-Connections: 1"])
+    proxy = bench.proxy(bench.origin(), "shards = 2\nwait = 8", [("respmod", service.port, "/respmod/x", 1)])
+    for thread in ("one thread", "the other one"):
+        called_at_once("a user of %s has ended" % thread, lambda: wait_beside_one_that_ends(proxy, service, False),
+                       lambda: wait_beside_one_that_ends(proxy, service, True))
+        # One more, so that the next is the other thread's.
+        User(proxy.port).close()
+    same("audit", proxy.stop(), IDLE)
+
+
+def two_wait_beside_two_that_end(proxy, service, ends_first):
+    """Two users of one thread have all connections to a service, which says nothing to them, and end their bytes: before two of the other
+    thread begin to wait at once, or then. How long the later of these waits."""
+    users = [User(proxy.port) for _ in range(6)]
+    # Users are handed to the threads in turn.
+    ended, waiting, others = (users[0], users[2]), (users[1], users[3]), (users[4], users[5])
+    for user in ended:
+        count = len(service.requests)
+        user.send(get("/bytes/3"))
+        comes("a message at the service", lambda: len(service.requests) > count)
+    if not ends_first:
+        for user in waiting:
+            user.send(get("/bytes/4"))
+        wait_for(proxy, 2)
+    begun = time.time()
+    for user in ended:
+        user.sock.shutdown(socket.SHUT_WR)
+    if ends_first:
+        # Until their thread has heard of it.
+        time.sleep(0.1)
+        begun = time.time()
+        for user in waiting:
+            user.send(get("/bytes/4"))
+    for user in waiting:
+        same("who waits", user.answer().body, body_of(4))
+    late = time.time() - begun
+    for user in ended:
+        same("who has ended", user.is_ended(), True)
+    for user in ended + waiting + others:
+        user.close()
+    same("book", settled(proxy)[:24], "rows 0 held 0 claimed 0 ")
+    return late
+
+
+@case
+def connections_to_a_service_are_taken_from_several_users_that_have_ended(bench):
+    """Each of those who wait gets one, also where the first has taken hers before the thread with such users has looked for the second."""
+    def reply(conn, reader, head, count):
+        if count % 4 == 3:
+            # The first of the two that wait has her connection until the second has one too.
+            end, seen = time.time() + PATIENCE, len(service.requests)
+            while len(service.requests) == seen and time.time() < end:
+                time.sleep(0.005)
+        if count % 4 in (3, 0):
+            return service.no_modification(conn, reader, head, count)
+        Icap.rest(reader, head)
+        reader.to_end()
+        return False
+    service = bench.icap(reply, [b"Max-Connections: 2"])
+    proxy = bench.proxy(bench.origin(), "shards = 2\nwait = 8", [("respmod", service.port, "/respmod/x", 2)])
+    called_at_once("two that wait", lambda: two_wait_beside_two_that_end(proxy, service, False),
+                   lambda: two_wait_beside_two_that_end(proxy, service, True))
+    same("audit", proxy.stop(), IDLE)
 
 
 @case

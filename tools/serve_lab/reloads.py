@@ -9,11 +9,12 @@ import threading
 import time
 
 from serve_lab.admission import serves
-from serve_lab.cases import ADAPTPROXY, IDLE, at_once, case, comes, get, is_refused, post, same
+from serve_lab.cases import ADAPTPROXY, IDLE, at_once, called_at_once, case, comes, get, is_refused, post, same, settled
 from serve_lab.host_files import Where, found_at, key
 from serve_lab.loopback import KEPT, PATIENCE, TOP, Icap, Origin, User, ask, body_of, fields_of, free_port, write
 from serve_lab.operators import Log, stats
 from serve_lab.parents import to
+from serve_lab.queues import wait_for
 
 
 class Later(Origin):
@@ -176,6 +177,76 @@ def a_reload_says_how_long_messages_wait(bench):
     same("audit", proxy.stop(), IDLE)
 
 
+class Halves(Origin):
+    """An origin whose answer to `/halves/N` comes in two, the second half once it is released."""
+
+    def respond(self, conn, method, words, body):
+        if words[0] != "halves":
+            super().respond(conn, method, words, body)
+            return
+        text = body_of(int(words[1]))
+        conn.sendall(b"HTTP/1.1 200 OK\r\nContent-Length: %d\r\n\r\n" % len(text) + text[:len(text) // 2])
+        self.release.wait(PATIENCE)
+        conn.sendall(text[len(text) // 2:])
+
+
+class Handed:
+    """A service of one connection, which answers every other message, from the first on, once it is `free`."""
+
+    def __init__(self, bench, shards):
+        self.free, self.origin, self.text = threading.Event(), bench.keep(Halves()), "shards = %d\nwait = %%d\ndeadline = %%d\n" % shards
+        self.service = bench.icap(self.reply, [b"Max-Connections: 1", b"Preview: 0", b"Transfer-Preview: *"])
+        self.proxy = by_file(bench, self.origin, self.text % (8, 60), services=[("respmod", self.service.port, "/respmod", 1)])
+
+    def reply(self, conn, reader, head, count):
+        Icap.rest(reader, head)
+        if count % 2:
+            self.free.wait(PATIENCE)
+            self.free.clear()
+        conn.sendall(Icap.NO_MODIFICATION)
+
+    def reload(self, wait, deadline):
+        same("reload", self.proxy.reload(self.text % (wait, deadline)), "ok")
+
+    def late(self, before, after, path="/bytes/10"):
+        """How long somebody waits on once the connection is free that a first user has, where `wait` goes over to another number meanwhile."""
+        first, second, count = User(self.proxy.port), User(self.proxy.port), len(self.service.requests)
+        self.reload(before, 60)
+        first.send(get(path))
+        comes("a message at the service", lambda: len(self.service.requests) > count)
+        if not before:
+            self.reload(after, 50)
+        second.send(get("/bytes/4"))
+        wait_for(self.proxy, 1)
+        if before:
+            self.reload(after, 50)
+        if not after:
+            is_refused("a new one", self.proxy.port, get("/bytes/5"), 503)
+        begun = time.time()
+        self.free.set()
+        same("the second", second.answer().body, body_of(4))
+        late = time.time() - begun
+        self.origin.release.set()
+        same("the first", first.answer().body, body_of(10))
+        self.origin.release.clear()
+        first.close()
+        second.close()
+        same("book", settled(self.proxy)[:24], "rows 0 held 0 claimed 0 ")
+        return late
+
+
+@case
+def a_reload_loses_nobody_who_waits(bench):
+    """Who waits for a connection is called once it is free, also by one that goes by `wait = 0`: since the message is over only after the
+    reload, or since it goes on in an exchange that began before."""
+    for shards in (1, 2):
+        handed = Handed(bench, shards)
+        for before, after, path in ((8, 0, "/bytes/10"), (0, 8, "/halves/10")):
+            what = "shards = %d, wait = %d and then %d" % (shards, before, after)
+            called_at_once(what, lambda: handed.late(8, 8), lambda: handed.late(before, after, path))
+        same("audit", handed.proxy.stop(), IDLE)
+
+
 @case
 def a_reload_changes_the_capacity(bench):
     """Where more is reserved it is refused, and nothing else of the new configuration is taken."""
@@ -269,8 +340,8 @@ def a_key_that_needs_a_start_is_named(bench):
     proxy = by_file(bench, origin, logged=False)
     address = '"127.0.0.1:%d"' % free_port()
     numbers = [("shards", 3), ("rows", 99), ("journal", 99), ("preview_limit", 9), ("allow_limit", 9), ("window", 4096), ("user_connections", 99),
-               ("keep_origins", 9), ("origin_idle", 9), ("service_idle", 9), ("options_ttl", 9), ("head_deadline", 9), ("connect_deadline", 9),
-               ("service_failures", 9), ("service_pause", 9)]
+               ("keep_origins", 9), ("origin_idle", 9), ("turn", 8192), ("service_idle", 9), ("options_ttl", 9), ("head_deadline", 9),
+               ("connect_deadline", 9), ("service_failures", 9), ("service_pause", 9)]
     words = [("retry", "false"), ("log_query", "false"), ("metrics", address), ("carry", '["X-A"]'), ("proxy_protocol", "true"), ("dial", '"late"')]
     rows = [(name, "%s = %s\n" % (name, value), "", ()) for name, value in numbers + words if not (KEPT and name == "keep_origins")]
     rows += [("reqmod", "", "", [("reqmod", service.port, "/x")]), ("respmod", "", "", [("respmod", service.port, "/x")]),

@@ -17,6 +17,7 @@ def configurations_are_refused_in_order(bench):
             (least + "rows = 4097", "config rows", 2), (least + "journal = 0", "config journal", 2),
             (least + "deadline = 3601", "config deadline", 2), (least + "preview_limit = 65537", "config preview_limit", 2),
             (least + "allow_limit = 1048577", "config allow_limit", 2), (least + "window = 0", "config window", 2),
+            (least + "turn = 4097", "config turn", 2), (least + "window = 8191\nturn = 8192", "config turn", 2),
             (least + "retry = 1", "config retry", 2), (least + 'hosts = 1', "config hosts", 2),
             (least + '[hosts]\n"a" = "b"', "config hosts.a", 2), (least + "[reqmod]", "config reqmod.host", 2),
             (least + '[respmod]\nhost = "127.0.0.1"\npath = "x"', "config respmod.path", 2),
