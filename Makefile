@@ -35,7 +35,7 @@ try-scale: build ## three proxies behind HAProxy and two services behind it: eac
 try-serve: build ## tries `adaptproxy serve` over loopback: with users, origins and services that misbehave
 	@tools/try_serve
 
-bench-serve: build ## the table of speed beside Squid, c-icap, nginx and the floor, in ten minutes, where squid, wrk, nginx, c-icap, strace and gcc are installed
+bench-serve: build ## the table of speed beside Squid, c-icap, nginx and the floor, in thirteen minutes, where squid, wrk, nginx, c-icap, strace and gcc are installed
 	@tools/prove_programs layer_bench
 	@tools/bench_serve
 
@@ -56,7 +56,7 @@ ci: ## the merge gate: every proof, the must-fail edits, the tests, the programs
 	@tools/check_layout
 	@tools/check_citations
 	@tools/check_kit
-	@! command -v patch > /dev/null || patch --dry-run --silent --strip 1 < tools/undriven.patch
+	@! command -v patch > /dev/null || patch --dry-run --fuzz=0 --silent --strip 1 < tools/undriven.patch
 	rt ci
 
 gate-cost: ## the gate's minutes of processor time by crate, as last measured; ANEW=1 runs the whole gate from nothing, and measures it
