@@ -21,7 +21,7 @@ pub data Deed : Type 0 where
   Drove : ℕ → Driven → Deed
   -- the exchange under this key was ended, since another one wants what it has
   GaveWay : ℕ → Deed
-  -- a queue was asked for the exchange that is first in it
+  -- a queue was asked for the exchange that gets a turn: the first one in it, or one that gives way to who waits in it
   Asked : ℕ → Option ℕ → Deed
   -- a line of the administrator was answered
   Answered : Request → Deed

@@ -175,7 +175,8 @@ pub record NotesFirst (events : List Event) (deeds : List Deed) : Type 0 where
   pub only : AreNotes notes
   pub each : All (λ event. IsNoted event notes) events
 
--- the queue was asked, and the exchange that is first in it gets a turn after that, if it is of this loop
+-- the queue was asked, and the exchange that it names gets a turn after that, if it names one of this loop: the first one in it, or one
+-- that gives way to who waits in it
 abbrev pub IsAsked : ℕ → List Deed → ReadyList → Type 0
 IsAsked queue deeds ready = Stands (Asked queue None) deeds ⊎ ((key : ℕ) × IsDue key (Asked queue (Some key)) deeds ready)
 
@@ -202,7 +203,7 @@ pub record Serves {K : Type 0} (w : Work K) (old new : EventLoop K) (events : Li
   pub first : NotesFirst events deeds
   -- each event is served
   pub served : All (λ event. IsServed event deeds new.ready) events
-  -- where one of them says that the loop was woken, each queue is asked
+  -- where one of them says that the loop was woken, each queue is asked, and who it names gets a turn
   pub asked : IsWoken events → (queue : ℕ) → queue < w.queues old.work → IsAsked queue deeds new.ready
 
 -- the second of the loop's clock

@@ -149,8 +149,8 @@ pub trait Work {
     fn queues(&self) -> usize
         ensures { result ≡ queues self.now };
 
-    /// The key of the exchange that is first in a queue, where it is one of this thread's: it is driven once the loop was
-    /// woken.
+    /// The key of the exchange that gets a turn for a queue once the loop was woken: the one that is first in it, where that is one of
+    /// this thread's; else one of this thread's that gives way, since somebody waits in the queue for what it has. Its turn ends it.
     fn first_of<R: Wait>(&mut self, rt: &R, queue: usize) -> Option<usize>
         ensures past { Adds (past self.old) (past self.new) (Asked queue result) }
         ensures still { (k : ℕ) → part self.new k ≡ part self.old k }

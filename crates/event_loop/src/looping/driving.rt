@@ -58,7 +58,7 @@ impl<K: Work> EventLoop<K> {
         Ok(())
     }
 
-    /// Drives those that are first in a queue: what they wait for may have come back.
+    /// Drives those that the queues name: what the first in one waits for may have come back, or one has to give way to it.
     pub(super) fn drive_first<R: Wait + Dial + Clock>(&mut self, rt: &R) -> io::Result<()>
         ensures { Did K.Work self.old self.new (λ deeds. OnOk result ((queue : ℕ)
             → queue < K.queues self.old.work → IsAsked queue deeds self.new.ready)) }

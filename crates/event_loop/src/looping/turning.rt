@@ -53,7 +53,7 @@ impl<K: Work> EventLoop<K> {
         }
     }
 
-    /// Drives those that are first in a queue, where the loop was woken.
+    /// Drives those that the queues name, where the loop was woken.
     fn wake_up<R: Wait + Dial + Clock>(&mut self, rt: &R, woken: bool) -> io::Result<()>
         ensures { Did K.Work self.old self.new (λ deeds. OnOk result (woken ≡ true → (queue : ℕ)
             → queue < K.queues self.old.work → IsAsked queue deeds self.new.ready)) }
