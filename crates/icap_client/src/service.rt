@@ -14,18 +14,17 @@ ghost use Rattle.icap_client.specs.Said.{infection_in, tag_in, virus_in};
 ghost use Rattle.icap_client.specs.Laws.{first_reader};
 ghost use Rattle.icap_client.specs.Reading.{ReadTurn};
 ghost use Rattle.icap_client.specs.Events.{after_all, MayCome};
-ghost use Rattle.icap_client.specs.Sending.{KeepsUnsent, NothingDue, count_of, sending_events, DropsText, KeepsOrDrops, KeepsNoText};
+ghost use Rattle.icap_client.specs.Sending.{KeepsUnsent, NothingDue, DropsText, KeepsOrDrops, KeepsNoText};
 ghost use Rattle.icap_client.specs.RequestHead.{request_head};
 ghost use Rattle.icap_client.specs.Turns.{ServiceSent, ServiceHeard, is_whole_request, is_reusable, is_answered, WriteTurn, Sends, Hears, RestsReading, HasFramed, events_of, is_flushed};
 
 use crate::answered::is_answered;
-use crate::due::{decide, has_last_stop};
+use crate::due::{decide, has_last_stop, turn_of};
 use crate::request::request_head;
 use crate::said::Found;
 use crate::side::ReplySide;
 use crate::stage::Stage;
-use adapt_sides::{ClientFault, Turn, push_event};
-use arrayvec::ArrayVec;
+use adapt_sides::{ClientFault, Turn};
 use chunk_writer::{ChunkWriter, USUAL_CHUNK, Wrote};
 use encapsulated::Layout;
 use span_tape::SpanTape;
@@ -380,22 +379,4 @@ fn flushed(writer: &ChunkWriter) -> bool
     ensures { result ≡ is_flushed writer.now }
 {
     writer.is_out()
-}
-
-/// The turn in which the wire took so many bytes of the body, or nothing at all, and the sending has ended or not.
-fn turn_of(sent: Option<u64>, ended: bool) -> Turn
-    ensures events { result.events.items ≡ sending_events (count_of sent) ended }
-    ensures waits { result.waiting ≡ true → (result.events.items ≡ []) × (is_some sent ≡ false) }
-    ensures goes { result.waiting ≡ false → (is_some sent ≡ false) → result.events.items ≡ [] → ⊥ }
-{
-    let mut events = ArrayVec::new();
-    let count = sent.unwrap_or(0);
-    if count > 0 {
-        push_event(&mut events, Event::Svc(count));
-    }
-    if ended {
-        push_event(&mut events, Event::Stop);
-    }
-    let waiting = sent.is_none() && !ended;
-    Turn { events, waiting }
 }
