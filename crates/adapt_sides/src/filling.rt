@@ -37,11 +37,12 @@ pub fn body_read(room: usize) -> usize
     room.max(MAX_READ)
 }
 
-/// Reads once, at most `most` bytes, and appends to the raw bytes. These are never more than a head may have, or than one read
-/// where that is more.
-pub fn fill<W: Wire>(raw: &mut RawBytes, wire: &mut W, most: usize) -> Filled
+/// Reads once, at most `most` bytes, and no more than the buffer holds, and appends to the raw bytes. These are never more than a head may
+/// have, or than one read where that is more.
+pub fn fill<W: Wire>(raw: &mut RawBytes, wire: &mut W, most: usize, buffer: &mut [u8]) -> Filled
     requires short { length raw.old.items < MAX_HEAD }
     requires some { 1 ≤ most }
+    requires room { 0 < length buffer.old }
     ensures filled { IsFilled (W.past wire.old) (W.past wire.new) raw.old.items raw.new.items result }
     ensures fits { length raw.new.items ≤ max MAX_HEAD (min most MAX_FILL) }
     ensures few { length raw.new.items ≤ length raw.old.items + most }
@@ -49,35 +50,14 @@ pub fn fill<W: Wire>(raw: &mut RawBytes, wire: &mut W, most: usize) -> Filled
     if !wire.may_give() {
         return Filled::Wait;
     }
-    let most = most.min(MAX_FILL);
+    let most = most.min(MAX_FILL).min(buffer.len());
     let most = (MAX_HEAD.max(most) - raw.len()).min(most);
     if raw.reserve(most).is_err() {
         return Filled::NoMemory;
     }
-    if most <= MAX_READ {
-        fill_by::<MAX_READ, W>(raw, wire, most)
-    } else if most <= MAX_HEAD {
-        fill_by::<MAX_HEAD, W>(raw, wire, most)
-    } else {
-        fill_by::<MAX_FILL, W>(raw, wire, most)
-    }
-}
-
-/// Reads once, at most `most` bytes, into room on the stack for `N`, and appends to the raw bytes, which have room for them. It is never
-/// inlined, so that a read of few bytes doesn't pay for the room of many.
-#[inline(never)]
-fn fill_by<const N: usize, W: Wire>(raw: &mut RawBytes, wire: &mut W, most: usize) -> Filled
-    requires some { 1 ≤ most }
-    requires fits { most ≤ N }
-    requires size { N ≤ MAX_FILL }
-    requires spare { most ≤ raw.old.spare }
-    ensures filled { IsFilled (W.past wire.old) (W.past wire.new) raw.old.items raw.new.items result }
-    ensures few { length raw.new.items ≤ length raw.old.items + most }
-{
-    let mut buf = [0; N];
-    match wire.try_read(&mut buf[..most]) {
+    match wire.try_read(&mut buffer[..most]) {
         Got::Bytes(n) => {
-            raw.extend_reserved(&buf[..n]);
+            raw.extend_reserved(&buffer[..n]);
             Filled::Bytes
         }
         Got::Ended => Filled::Ended,

@@ -14,6 +14,7 @@ ghost use Rattle.http_side.specs.Refusals.{is_own_status};
 ghost use Rattle.adapt_sides.specs.Turns.Gift.{nothing, message, refusal};
 
 use crate::fault::RelayFault;
+use crate::scratch::WIRE_ROOM;
 use crate::turn::Turn;
 use span_tape::SpanTape;
 use trace_core::State;
@@ -89,12 +90,13 @@ pub trait Hop {
         ensures framing { body_framing self.new ≡ body_framing self.old }
         ensures fault { fault self.new ≡ wire_fault (fault self.old) };
 
-    /// Writes what is due of the message or of the refusal.
+    /// Writes what is due of the message or of the refusal, composed in the buffer.
     fn write_turn<W: Wire>(
         &mut self,
         state: &State,
         tape: &SpanTape,
         wire: &mut W,
+        buffer: &mut [u8; WIRE_ROOM],
     ) -> Result<Turn, RelayFault>
         requires { KeepsUndelivered (shows state.now) tape.now }
         ensures gift { gift self.new ≡ gift self.old }

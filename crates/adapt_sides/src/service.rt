@@ -14,6 +14,7 @@ ghost use Rattle.adapt_sides.specs.declared.fault.ClientFault.TheVariants.{Devic
 ghost use Rattle.adapt_sides.specs.Turns.{Sends, Hears, IsExplained};
 
 use crate::fault::ClientFault;
+use crate::scratch::WIRE_ROOM;
 use crate::turn::Turn;
 use span_tape::SpanTape;
 use trace_core::State;
@@ -63,12 +64,13 @@ pub trait Service {
     fn is_reusable(&self) -> bool
         ensures { result ≡ reusable self.now };
 
-    /// Writes what is due of the request.
+    /// Writes what is due of the request, composed in the buffer.
     fn write_turn<W: Wire>(
         &mut self,
         state: &State,
         tape: &SpanTape,
         wire: &mut W,
+        buffer: &mut [u8; WIRE_ROOM],
     ) -> Result<Turn, ClientFault>
         requires { KeepsUnsent (shows state.now) tape.now }
         ensures heard { (x : Seen) (adapted read : List ℕ) → has_heard x adapted read self.old → has_heard x adapted read self.new }
@@ -80,12 +82,13 @@ pub trait Service {
             (W.past wire.old) (W.past wire.new) result }
         ensures reason { IsExplained (fault self.old) (λ fault. fault ≡ Device) result };
 
-    /// Reads what the wire gives. Adapted body bytes go to the beginning of the buffer; the sum of Ad is their number.
+    /// Reads what the wire gives, by way of the buffer. Adapted body bytes go to the beginning of `out`; the sum of Ad is their number.
     fn read_turn<W: Wire>(
         &mut self,
         state: &State,
         wire: &mut W,
         out: &mut [u8],
+        buffer: &mut [u8; WIRE_ROOM],
     ) -> Result<Turn, ClientFault>
         ensures keeps { length out.new ≡ length out.old }
         ensures sent { (heads came taken : List ℕ) → has_sent heads (shows state.now) came taken self.old

@@ -11,6 +11,7 @@ ghost use Rattle.adapt_sides.specs.declared.fault.RelayFault.{RelayFault as Faul
 ghost use Rattle.adapt_sides.specs.Turns.{Given, ReadsBody, IsExplained};
 
 use crate::fault::RelayFault;
+use crate::scratch::WIRE_ROOM;
 use crate::turn::Turn;
 use trace_core::{Plan, State};
 use wire_kit::Wire;
@@ -58,9 +59,14 @@ pub trait Source {
         ensures yes { result ≡ true → agrees (shows state.now) self.now }
         ensures no { result ≡ false → agrees (shows state.now) self.now → ⊥ };
 
-    /// Reads what the wire gives. The body bytes go to the beginning of the buffer; the sum of In is their number. With an empty
-    /// buffer it asks no wire, and still answers an End that is due. A body whose framing gives no end has ended once the wire has.
-    fn read_turn<W: Wire>(&mut self, wire: &mut W, out: &mut [u8]) -> Result<Turn, RelayFault>
+    /// Reads what the wire gives, by way of the buffer. The body bytes go to the beginning of `out`; the sum of In is their number. With
+    /// an empty `out` it asks no wire, and still answers an End that is due. A body whose framing gives no end has ended once the wire has.
+    fn read_turn<W: Wire>(
+        &mut self,
+        wire: &mut W,
+        out: &mut [u8],
+        buffer: &mut [u8; WIRE_ROOM],
+    ) -> Result<Turn, RelayFault>
         ensures keeps { length out.new ≡ length out.old }
         ensures head { head self.new ≡ head self.old }
         ensures turn { ReadsBody (λ x body read. has_read x body read self.old) (λ x body read. has_read x body read self.new)

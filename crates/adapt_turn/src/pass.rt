@@ -15,14 +15,6 @@ use span_bank::{Bank, Ledgers};
 use std::sync::Wait;
 use trace_core::Cause;
 
-/// The sizes of the buffer that a turn reads a body into: the smallest one that has its room. They are the fewest bytes that a turn
-/// may be allowed, the most, and a number between.
-pub(crate) const SMALL_ROOM: usize = 4096;
-
-pub(crate) const MIDDLE_ROOM: usize = 16_384;
-
-pub(crate) const LARGE_ROOM: usize = 65_536;
-
 /// What a pass did.
 #[derive(Clone, Copy)]
 pub struct PassAnswer {

@@ -8,5 +8,6 @@ mod head;
 mod next;
 mod writer;
 
+pub use draft::WRITE_ROOM;
 pub use next::{Ending, MAX_CHUNK, Next, USUAL_CHUNK};
 pub use writer::{ChunkWriter, Wrote};

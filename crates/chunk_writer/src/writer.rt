@@ -34,7 +34,7 @@ pub struct Wrote {
 /// let next = Next { chunked: true, from: 0, count: 0, end: Ending::LastChunk(false) };
 /// let writes = vec![in alloc; WriteAnswer::Took(64)]?;
 /// let mut wire = MemoryWire::new(alloc, Vec::new(alloc), Vec::new(alloc), writes)?;
-/// let wrote = writer.write(&next, &SpanTape::new(), &mut wire);
+/// let wrote = writer.write(&next, &SpanTape::new(), &mut wire, &mut [0; WRITE_ROOM]);
 /// assert!(rt; wrote.ended && writer.is_out());
 /// assert_eq!(rt; wire.taken(), b"HTTP/1.1 200 OK\r\n\r\n0\r\n\r\n".as_slice());
 /// ```

@@ -2,7 +2,7 @@
 
 use crate::hop::HopWriter;
 use crate::side::{SourceHead, SourceSide};
-use adapt_sides::{Hop, RelayFault, Source, Turn};
+use adapt_sides::{Hop, RelayFault, Source, Turn, WIRE_ROOM};
 use http_side::Framing;
 use span_tape::SpanTape;
 use trace_core::{Plan, State};
@@ -52,8 +52,13 @@ impl Source for SourceSide {
         SourceSide::agrees_with(self, state)
     }
 
-    fn read_turn<W: Wire>(&mut self, wire: &mut W, out: &mut [u8]) -> Result<Turn, RelayFault> {
-        SourceSide::read_turn(self, wire, out)
+    fn read_turn<W: Wire>(
+        &mut self,
+        wire: &mut W,
+        out: &mut [u8],
+        buffer: &mut [u8; WIRE_ROOM],
+    ) -> Result<Turn, RelayFault> {
+        SourceSide::read_turn(self, wire, out, buffer)
     }
 }
 
@@ -134,7 +139,8 @@ impl Hop for HopWriter {
         state: &State,
         tape: &SpanTape,
         wire: &mut W,
+        buffer: &mut [u8; WIRE_ROOM],
     ) -> Result<Turn, RelayFault> {
-        HopWriter::write_turn(self, state, tape, wire)
+        HopWriter::write_turn(self, state, tape, wire, buffer)
     }
 }

@@ -13,7 +13,7 @@ ghost use Rattle.adapt_sides.specs.Tapes.{IsUndelivered};
 ghost use Rattle.http_relay.specs.Writing.{WriteTurn};
 
 use crate::due::{decide, turn_of};
-use adapt_sides::{RelayFault, Turn};
+use adapt_sides::{RelayFault, Turn, WIRE_ROOM};
 use chunk_writer::{ChunkWriter, USUAL_CHUNK};
 use http_side::{Framing, own_refusal};
 use span_tape::SpanTape;
@@ -189,6 +189,7 @@ impl HopWriter {
         state: &State,
         tape: &SpanTape,
         wire: &mut W,
+        buffer: &mut [u8; WIRE_ROOM],
     ) -> Result<Turn, RelayFault>
         requires { KeepsUndelivered (shows state.now) tape.now }
         ensures turn { WriteTurn (shows state.now) tape.now self.old self.new (W.past wire.old) (W.past wire.new) result }
@@ -214,7 +215,7 @@ impl HopWriter {
                 return Err(RelayFault::Length);
             }
         };
-        let wrote = self.writer.write(&next, tape, wire);
+        let wrote = self.writer.write(&next, tape, wire, buffer);
         match wrote.answer {
             Some(Put::Fault) => {
                 self.fault = Some(RelayFault::Device);

@@ -1,25 +1,19 @@
 //! The source's side: a message's head, and its body, over a wire.
 
-ghost use Rattle.std.specs.Prelude.{◌≡◌, ◌<◌, ◌≤◌, [], ◌++◌, length, max, take, IfOk, IfSome, IfErr, OnOk, OnErr, None, true, false, List, ℕ, ◌↔◌, IsTrue, option_copied};
+ghost use Rattle.std.specs.Prelude.{◌≡◌, [], ◌++◌, length, IfOk, IfSome, None, true, false, List, ℕ, ◌↔◌, IsTrue, option_copied};
 ghost use Rattle.trace_core.specs.History.{seen, shows};
-ghost use Rattle.trace_core.specs.Turns.{in_sum};
-ghost use Rattle.adapt_sides.specs.declared.filling.TheConstants.{MAX_READ};
-ghost use Rattle.http_side.specs.Body.{is_over};
-ghost use Rattle.http_relay.specs.Source.{Agrees, MustWait, Refuses, TellsEnd};
-ghost use Rattle.adapt_sides.specs.Turns.{ReadsBody};
+ghost use Rattle.http_relay.specs.Source.{Agrees};
 ghost use Rattle.http_relay.specs.Judging.{IsLooking};
-ghost use Rattle.http_relay.specs.Reading.{AtHead, ComesAgain, GivesBack, request_of, response_of, SideRead, SideReads, Rests, HasFramed, IsOver, ReadTurn};
+ghost use Rattle.http_relay.specs.Reading.{AtHead, ComesAgain, GivesBack, request_of, response_of};
 ghost use Rattle.trace_core.specs.declared.history.Seen.{Seen};
-ghost use Rattle.wire_kit.specs.Past.{Past};
 
 use crate::source_body::SourceBody;
-use adapt_sides::{Filled, RawBytes, RelayFault, Turn, body_read, fill};
-use arrayvec::ArrayVec;
+use adapt_sides::{RawBytes, RelayFault};
 use http_side::{Framing, HttpFault, HttpRequest, HttpResponse};
 use std::alloc::{AllocError, Global};
-use trace_core::{Event, Plan, State};
-use wire_kit::Wire;
+use trace_core::{Plan, State};
 
+mod body;
 mod head;
 
 pub use head::{Asks, HeadProgress, MAX_INTERIMS, SourceHead};
@@ -27,14 +21,15 @@ pub use head::{Asks, HeadProgress, MAX_INTERIMS, SourceHead};
 /// A message's source: it reads the head, then the body, over a wire, by turns of one read at most.
 ///
 /// ```
+/// let mut scratch = Scratch::zeroed();
 /// let mut source = SourceSide::request(alloc);
 /// let text = b"POST http://h/ HTTP/1.1\r\nHost: h\r\nContent-Length: 2\r\n\r\nhi";
 /// let reads = vec![in alloc; ReadAnswer::Bytes(64)]?;
 /// let mut wire = MemoryWire::new(alloc, text.to_vec(alloc)?, reads, Vec::new(alloc))?;
-/// assert_eq!(rt; source.head_turn(&mut wire), Ok(HeadProgress::Taken));
+/// assert_eq!(rt; source.head_turn(&mut wire, &mut scratch.wire), Ok(HeadProgress::Taken));
 /// assert_eq!(rt; source.framing(), Framing::Length(2));
 /// let mut out = [0; 8];
-/// let turn = source.read_turn(&mut wire, &mut out)?;
+/// let turn = source.read_turn(&mut wire, &mut out, &mut scratch.wire)?;
 /// assert_eq!(rt; turn.events.as_slice(), [Event::In(2), Event::End].as_slice());
 /// assert!(rt; source.ended());
 /// ```
@@ -64,129 +59,6 @@ fn joined(alloc: Global, first: &[u8], second: &[u8]) -> Result<RawBytes, AllocE
 }
 
 impl SourceSide {
-    /// Frames what can be framed of the raw bytes of the body.
-    fn frame_raw(&mut self, out: &mut [u8]) -> Result<ArrayVec<Event, 4>, RelayFault>
-        ensures room { IfOk result (λ events. in_sum events.items ≤ length out.old) }
-        ensures reads { IfOk result (λ events. SideReads self.old self.new events.items [] (take (in_sum events.items) out.new) false) }
-        ensures ends { OnOk result (TellsEnd self.old.body self.new.body) }
-        ensures waits { IfOk result (λ events. events.items ≡ [] → MustWait self.new.body self.new.raw.items (length out.old)) }
-        ensures refuses { IfErr result (λ fault. Refuses fault self.old.body self.old.raw.items) }
-        ensures err { OnErr result (self.new ≡ self.old) }
-        ensures kept { length self.new.raw.items ≤ length self.old.raw.items }
-        ensures fault { self.new.fault ≡ self.old.fault }
-        ensures head { self.new.head ≡ self.old.head }
-    {
-        match self.body.frame(self.raw.as_slice(), out) {
-            Ok(framed) => {
-                self.raw.advance(framed.used);
-                Ok(framed.events)
-            }
-            Err(fault) => Err(fault),
-        }
-    }
-
-    /// Reads the wire once, and frames what came.
-    fn read_wire<W: Wire>(&mut self, wire: &mut W, out: &mut [u8]) -> Result<Turn, RelayFault>
-        requires empty { self.old.raw.items ≡ [] }
-        requires going_on { self.old.body.ended ≡ false }
-        requires not_over { is_over self.old.body.reader ≡ false }
-        requires some_room { 0 < length out.old }
-        ensures turn { ReadTurn (length out.old) self.old self.new (W.past wire.old) (W.past wire.new) out.new result }
-        ensures kept { length self.new.raw.items ≤ max MAX_READ (length out.old) }
-        ensures fault { self.new.fault ≡ self.old.fault }
-        ensures head { self.new.head ≡ self.old.head }
-    {
-        match fill(&mut self.raw, wire, body_read(out.len())) {
-            Filled::Bytes => match self.frame_raw(out) {
-                Ok(events) => Ok(Turn {
-                    events,
-                    waiting: false,
-                }),
-                Err(fault) => Err(fault),
-            },
-            Filled::Wait => Ok(Turn {
-                events: ArrayVec::new(),
-                waiting: true,
-            }),
-            Filled::Ended => match self.body.close() {
-                Ok(events) => Ok(Turn {
-                    events,
-                    waiting: false,
-                }),
-                Err(fault) => Err(fault),
-            },
-            Filled::Failed => Err(RelayFault::Device),
-            Filled::NoMemory => Err(RelayFault::NoMemory),
-        }
-    }
-
-    /// Frames the raw bytes, and reads the wire once where nothing of them can be framed and there is room.
-    fn frame_or_read<W: Wire>(&mut self, wire: &mut W, out: &mut [u8]) -> Result<Turn, RelayFault>
-        ensures turn { ReadTurn (length out.old) self.old self.new (W.past wire.old) (W.past wire.new) out.new result }
-        ensures kept { length self.old.raw.items < length self.new.raw.items → length self.new.raw.items ≤ max MAX_READ (length out.old) }
-        ensures fault { self.new.fault ≡ self.old.fault }
-        ensures head { self.new.head ≡ self.old.head }
-    {
-        let events = match self.frame_raw(out) {
-            Ok(events) => events,
-            Err(fault) => return Err(fault),
-        };
-        if !events.as_slice().is_empty() {
-            return Ok(Turn {
-                events,
-                waiting: false,
-            });
-        }
-        if self.body.has_ended() || out.is_empty() {
-            return Ok(Turn {
-                events,
-                waiting: true,
-            });
-        }
-        self.read_wire(wire, out)
-    }
-
-    /// Runs [`SourceSide::frame_or_read`], and then keeps no empty room.
-    fn turn_once<W: Wire>(&mut self, wire: &mut W, out: &mut [u8]) -> Result<Turn, RelayFault>
-        ensures turn { ReadTurn (length out.old) self.old self.new (W.past wire.old) (W.past wire.new) out.new result }
-        ensures kept { length self.old.raw.items < length self.new.raw.items → length self.new.raw.items ≤ max MAX_READ (length out.old) }
-        ensures fault { self.new.fault ≡ self.old.fault }
-        ensures head { self.new.head ≡ self.old.head }
-        ensures empty { self.new.raw.items ≡ [] → self.new.raw.spare ≡ 0 }
-    {
-        let result = self.frame_or_read(wire, out);
-        self.free_memory();
-        result
-    }
-
-    /// Reads the message's body. The raw bytes come first; the wire is read once at most, if none of them can be framed and
-    /// there is room. The bytes of the body go to the beginning of `out`; the events give their number, and the caller steps them.
-    /// The turn reports the body's end once its framing gives it, even without room, or once the connection was closed in this turn.
-    ///
-    /// A fault stays: every later turn answers it again.
-    pub fn read_turn<W: Wire>(&mut self, wire: &mut W, out: &mut [u8]) -> Result<Turn, RelayFault>
-        ensures source { ReadsBody (λ x body read. SideRead x body read.bytes read.ended self.old) (λ x body read. SideRead x body read.bytes read.ended self.new)
-            (λ x. Agrees x self.old.body) (λ x. Agrees x self.new.body) self.old.fault self.new.fault (Rests (length out.old) self.new) (HasFramed (length out.old) self.new) (IsOver self.new) (W.past wire.old) (W.past wire.new) out.new result }
-        ensures turn { self.old.fault ≡ None → ReadTurn (length out.old) self.old self.new (W.past wire.old) (W.past wire.new) out.new result }
-        ensures head { self.new.head ≡ self.old.head }
-
-        // Raw bytes that are kept after a turn are those of before, or of one read, of as many as the turn has room for, or [`MAX_READ`]
-        // where that is more; no empty room is kept.
-        ensures kept { length self.old.raw.items < length self.new.raw.items → length self.new.raw.items ≤ max MAX_READ (length out.old) }
-        ensures empty { self.old.fault ≡ None → self.new.raw.items ≡ [] → self.new.raw.spare ≡ 0 }
-    {
-        if let Some(fault) = self.fault {
-            return Err(fault);
-        }
-        match self.turn_once(wire, out) {
-            Ok(turn) => Ok(turn),
-            Err(fault) => {
-                self.fault = Some(fault);
-                Err(fault)
-            }
-        }
-    }
-
     /// A source of requests, before the first byte.
     pub fn request(alloc: Global) -> SourceSide
         ensures begins { AtHead [] result }

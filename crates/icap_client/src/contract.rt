@@ -8,7 +8,7 @@ ghost use Rattle.icap_client.specs.OthersHeard.{unheard_none, rests_where};
 ghost use Rattle.icap_client.specs.Marks.{service_others, service_keeps};
 
 use crate::service::ServiceSide;
-use adapt_sides::{ClientFault, Service, Turn};
+use adapt_sides::{ClientFault, Service, Turn, WIRE_ROOM};
 use span_tape::SpanTape;
 use trace_core::State;
 use wire_kit::Wire;
@@ -67,8 +67,9 @@ impl Service for ServiceSide {
         state: &State,
         tape: &SpanTape,
         wire: &mut W,
+        buffer: &mut [u8; WIRE_ROOM],
     ) -> Result<Turn, ClientFault> {
-        ServiceSide::write_turn(self, state, tape, wire)
+        ServiceSide::write_turn(self, state, tape, wire, buffer)
     }
 
     fn read_turn<W: Wire>(
@@ -76,8 +77,9 @@ impl Service for ServiceSide {
         state: &State,
         wire: &mut W,
         out: &mut [u8],
+        buffer: &mut [u8; WIRE_ROOM],
     ) -> Result<Turn, ClientFault> {
-        ServiceSide::read_turn(self, state, wire, out)
+        ServiceSide::read_turn(self, state, wire, out, buffer)
     }
 
     fn restart(&mut self) {

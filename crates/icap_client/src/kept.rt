@@ -106,12 +106,13 @@ impl Kept {
     }
 
     /// Reads once, at most `most` bytes, and appends what came.
-    pub(crate) fn fill<W: Wire>(&mut self, wire: &mut W, most: usize) -> Filled
+    pub(crate) fn fill<W: Wire>(&mut self, wire: &mut W, most: usize, buffer: &mut [u8]) -> Filled
         requires short { length self.old.bytes < MAX_HEAD }
         requires some { 1 ≤ most }
+        requires room { 0 < length buffer.old }
         ensures filled { IsFilled (W.past wire.old) (W.past wire.new) self.old.bytes self.new.bytes result }
         ensures few { length self.new.bytes ≤ max MAX_HEAD most }
     {
-        fill(&mut self.bytes, wire, most)
+        fill(&mut self.bytes, wire, most, buffer)
     }
 }

@@ -12,8 +12,9 @@ ghost use Rattle.icap_client.specs.Hearing.{ReadsOn};
 ghost use Rattle.icap_client.specs.Asking.{HasOptionsBody};
 ghost use Rattle.wire_kit.specs.Past.{Past};
 
+mod framing;
+
 use crate::body::read_run;
-use crate::events::refusal;
 use crate::kept::Kept;
 use crate::lists::has_body;
 use crate::request::options_request;
@@ -21,7 +22,7 @@ use adapt_bytes::{Method, behind};
 use adapt_sides::{ClientFault, Filled, MAX_READ};
 use encapsulated::{Direction, read};
 use icap_chunks::{ChunkFault, ChunkReader};
-use icap_head::{Fields, HeadFault, IcapResponse, read_response};
+use icap_head::{Fields, IcapResponse};
 use std::alloc::{AllocError, Global};
 use std::marker::Model;
 use wire_kit::{Put, Wire};
@@ -64,8 +65,7 @@ impl Model for OptionsSide {
 
 impl OptionsSide {
     ghost use Rattle.icap_head.specs.Heads.{response_parts};
-    ghost use Rattle.icap_head.specs.Heads.{RefusesResponse};
-    ghost use Rattle.icap_client.specs.Asking.{options_request, LetsRoomGo, Frames, HasAnyHead, RefusesOptionsHead, RefusesRaw, HasToAsk, Asks};
+    ghost use Rattle.icap_client.specs.Asking.{options_request, LetsRoomGo, HasToAsk, Asks};
 
     /// A request to the service at this host, port and path. `NoMemory` if its text finds no memory.
     #[tactic(auto, using(crate::proofs::Skipping::some_text))]
@@ -158,106 +158,19 @@ impl OptionsSide {
         }
     }
 
-    /// Frames the raw bytes in the body: they are dropped.
-    fn frame_body(&mut self, chunks: ChunkReader) -> Result<Option<IcapResponse>, ClientFault>
-        requires { self.old.stage ≡ OptionsStage.Body chunks }
-        ensures frames { IfOk result (λ found. Frames self.old self.new (option_map response_parts found)) }
-        ensures waits { IfOk result (λ found. IfNone found (HasToAsk self.new.stage self.new.raw)) }
-        ensures fault { self.new.fault ≡ self.old.fault }
-        ensures waiting { self.new.waiting ≡ self.old.waiting }
-        ensures refuses { IfErr result (λ fault. RefusesRaw fault self.old) }
-    {
-        let mut next = chunks;
-        match skip_body(&mut next, self.raw.as_slice()) {
-            Ok(skipped) => {
-                self.raw.pass(skipped.used, false);
-                if skipped.ended {
-                    self.stage = OptionsStage::Over;
-                    Ok(self.response.take())
-                } else {
-                    self.stage = OptionsStage::Body(next);
-                    Ok(None)
-                }
-            }
-            Err(_) => Err(ClientFault::Chunk),
-        }
-    }
-
-    /// Refuses the head for this fault, or marks that the raw bytes were judged to be a prefix of one.
-    #[tactic(auto, using(crate::proofs::Skipping::frames_kept))]
-    fn refuse_head(&mut self, fault: HeadFault) -> Result<Option<IcapResponse>, ClientFault>
-        requires stage { self.old.stage ≡ OptionsStage.Head }
-        requires stands { ((fault ≡ HeadFault.NoMemory) × HasAnyHead self.old.raw) ⊎ RefusesResponse fault self.old.raw }
-        ensures frames { IfOk result (λ found. Frames self.old self.new (option_map response_parts found)) }
-        ensures waits { IfOk result (λ found. IfNone found (HasToAsk self.new.stage self.new.raw)) }
-        ensures fault { self.new.fault ≡ self.old.fault }
-        ensures waiting { self.new.waiting ≡ self.old.waiting }
-        ensures refuses { IfErr result (λ fault. RefusesOptionsHead fault self.old.raw) }
-    {
-        match refusal(fault) {
-            Some(found) => Err(found),
-            None => {
-                self.raw.pass(0, true);
-                Ok(None)
-            }
-        }
-    }
-
-    /// Frames the raw bytes, of which the head comes first. It is judged once a line has ended, or if there is no more room.
-    #[tactic(auto, using(crate::proofs::Skipping::frames_same, crate::proofs::Skipping::holds_start))]
-    fn frame_head(&mut self) -> Result<Option<IcapResponse>, ClientFault>
-        requires { self.old.stage ≡ OptionsStage.Head }
-        ensures frames { IfOk result (λ found. Frames self.old self.new (option_map response_parts found)) }
-        ensures waits { IfOk result (λ found. IfNone found (HasToAsk self.new.stage self.new.raw)) }
-        ensures fault { self.new.fault ≡ self.old.fault }
-        ensures waiting { self.new.waiting ≡ self.old.waiting }
-        ensures refuses { IfErr result (λ fault. RefusesRaw fault self.old) }
-    {
-        if self.raw.is_front() {
-            return Ok(None);
-        }
-        let head = match read_response(self.alloc, self.raw.as_slice()) {
-            Ok(head) => head,
-            Err(fault) => return self.refuse_head(fault),
-        };
-        let Some(body) = body_of(&head.value.fields) else {
-            return Err(ClientFault::Layout);
-        };
-        self.raw.pass(head.length, false);
-        if !body {
-            self.stage = OptionsStage::Over;
-            return Ok(Some(head.value));
-        }
-        let start = ChunkReader::new();
-        self.stage = OptionsStage::Body(start);
-        self.response = Some(head.value);
-        self.frame_body(start)
-    }
-
-    /// Frames the raw bytes.
-    fn frame(&mut self) -> Result<Option<IcapResponse>, ClientFault>
-        requires { self.old.stage ≡ OptionsStage.Over → ⊥ }
-        ensures frames { IfOk result (λ found. Frames self.old self.new (option_map response_parts found)) }
-        ensures waits { IfOk result (λ found. IfNone found (HasToAsk self.new.stage self.new.raw)) }
-        ensures fault { self.new.fault ≡ self.old.fault }
-        ensures waiting { self.new.waiting ≡ self.old.waiting }
-        ensures refuses { IfErr result (λ fault. RefusesRaw fault self.old) }
-    {
-        match self.stage {
-            OptionsStage::Head => self.frame_head(),
-            OptionsStage::Body(chunks) => self.frame_body(chunks),
-            OptionsStage::Over => Ok(None),
-        }
-    }
-
     /// Reads once, if more bytes are wanted, and frames what came.
-    fn read_on<W: Wire>(&mut self, wire: &mut W) -> Result<Option<IcapResponse>, ClientFault>
+    fn read_on<W: Wire>(
+        &mut self,
+        wire: &mut W,
+        buffer: &mut [u8],
+    ) -> Result<Option<IcapResponse>, ClientFault>
         requires asks { HasToAsk self.old.stage self.old.raw }
         requires out { self.old.waiting ≡ [] }
+        requires room { 0 < length buffer.old }
         ensures asks { Asks self.old self.new (W.past wire.old) (W.past wire.new) result }
         ensures fault { self.new.fault ≡ self.old.fault }
     {
-        match self.raw.fill(wire, MAX_READ) {
+        match self.raw.fill(wire, MAX_READ, buffer) {
             Filled::Bytes => {}
             Filled::Wait => return Ok(None),
             Filled::Ended => return Err(ClientFault::Closed),
@@ -268,7 +181,12 @@ impl OptionsSide {
     }
 
     /// One step of [`OptionsSide::turn`].
-    fn write_or_read<W: Wire>(&mut self, wire: &mut W) -> Result<Option<IcapResponse>, ClientFault>
+    fn write_or_read<W: Wire>(
+        &mut self,
+        wire: &mut W,
+        buffer: &mut [u8],
+    ) -> Result<Option<IcapResponse>, ClientFault>
+        requires { 0 < length buffer.old }
         ensures asks { Asks self.old self.new (W.past wire.old) (W.past wire.new) result }
         ensures fault { self.new.fault ≡ self.old.fault }
     {
@@ -280,7 +198,7 @@ impl OptionsSide {
         }
         match self.frame() {
             Ok(Some(head)) => Ok(Some(head)),
-            Ok(None) => self.read_on(wire),
+            Ok(None) => self.read_on(wire, buffer),
             Err(fault) => Err(fault),
         }
     }
@@ -293,12 +211,17 @@ impl OptionsSide {
     }
 
     /// Runs [`OptionsSide::write_or_read`], and then keeps no empty room.
-    fn turn_once<W: Wire>(&mut self, wire: &mut W) -> Result<Option<IcapResponse>, ClientFault>
+    fn turn_once<W: Wire>(
+        &mut self,
+        wire: &mut W,
+        buffer: &mut [u8],
+    ) -> Result<Option<IcapResponse>, ClientFault>
+        requires { 0 < length buffer.old }
         ensures asks { Asks self.old self.new (W.past wire.old) (W.past wire.new) result }
         ensures fault { self.new.fault ≡ self.old.fault }
         ensures empty { self.new.raw ≡ [] → self.new.room ≡ 0 }
     {
-        let result = self.write_or_read(wire);
+        let result = self.write_or_read(wire, buffer);
         self.free_memory();
         result
     }
@@ -307,7 +230,13 @@ impl OptionsSide {
     /// was read and dropped. After that it answers `None`, and leaves the wire alone.
     ///
     /// A fault stays: every later turn answers it again.
-    pub fn turn<W: Wire>(&mut self, wire: &mut W) -> Result<Option<IcapResponse>, ClientFault>
+    pub fn turn<W: Wire>(
+        &mut self,
+        wire: &mut W,
+        buffer: &mut [u8],
+    ) -> Result<Option<IcapResponse>, ClientFault>
+        requires { 0 < length buffer.old }
+
         // One write or one read at most; what goes out is the request's text, and what is answered is what was read.
         ensures asks { self.old.fault ≡ None → Asks self.old self.new (W.past wire.old) (W.past wire.new) result }
 
@@ -323,7 +252,7 @@ impl OptionsSide {
         if let Some(fault) = self.fault {
             return Err(fault);
         }
-        match self.turn_once(wire) {
+        match self.turn_once(wire, buffer) {
             Ok(found) => Ok(found),
             Err(fault) => {
                 self.fault = Some(fault);

@@ -24,7 +24,7 @@ use crate::request::request_head;
 use crate::said::Found;
 use crate::side::ReplySide;
 use crate::stage::Stage;
-use adapt_sides::{ClientFault, Turn};
+use adapt_sides::{ClientFault, Turn, WIRE_ROOM};
 use chunk_writer::{ChunkWriter, USUAL_CHUNK, Wrote};
 use encapsulated::Layout;
 use span_tape::SpanTape;
@@ -42,6 +42,7 @@ fn write_once<W: Wire>(
     state: &State,
     tape: &SpanTape,
     wire: &mut W,
+    buffer: &mut [u8; WIRE_ROOM],
 ) -> Result<Turn, ClientFault>
     requires tape { KeepsUnsent (shows state.now) tape.now }
     requires some { 1 ≤ most }
@@ -51,7 +52,7 @@ fn write_once<W: Wire>(
 {
     let _ = state.trace();
     let next = decide(state, writer, most);
-    let wrote = writer.write(&next, tape, wire);
+    let wrote = writer.write(&next, tape, wire, buffer);
     let seen = state.seen();
     *last_stop = has_last_stop(&seen, wrote.ended, next.from + next.count);
     match wrote.answer {
@@ -71,7 +72,7 @@ fn write_once<W: Wire>(
 /// let mut side = ServiceSide::new(alloc, &plan, None, &[], b"s", 1344, b"/scan", head, &[])?;
 /// let writes = vec![in alloc; WriteAnswer::Took(6)]?;
 /// let mut wire = MemoryWire::new(alloc, Vec::new(alloc), Vec::new(alloc), writes)?;
-/// let turn = side.write_turn(&state, &SpanTape::new(), &mut wire)?;
+/// let turn = side.write_turn(&state, &SpanTape::new(), &mut wire, &mut [0; WIRE_ROOM])?;
 /// assert!(rt; turn.events.as_slice().is_empty());
 /// assert_eq!(rt; wire.taken(), b"REQMOD".as_slice());
 /// assert!(rt; !side.is_flushed() && !side.is_reusable());
@@ -280,6 +281,7 @@ impl ServiceSide {
         state: &State,
         tape: &SpanTape,
         wire: &mut W,
+        buffer: &mut [u8; WIRE_ROOM],
     ) -> Result<Turn, ClientFault>
         requires { KeepsUnsent (shows state.now) tape.now }
         ensures reader { self.new.replies.reader ≡ self.old.replies.reader }
@@ -315,6 +317,7 @@ impl ServiceSide {
             state,
             tape,
             wire,
+            buffer,
         ) {
             Ok(turn) => {
                 self.drop_text(state.may(Event::Retry));
@@ -334,6 +337,7 @@ impl ServiceSide {
         state: &State,
         wire: &mut W,
         out: &mut [u8],
+        buffer: &mut [u8; WIRE_ROOM],
     ) -> Result<Turn, ClientFault>
         ensures writer { DropsText self.old.writer self.new.writer }
         ensures last_stop { self.new.last_stop ≡ self.old.last_stop }
@@ -363,7 +367,7 @@ impl ServiceSide {
         ensures gone { IfOk result (λ _. (MayCome (shows state.now) Event.Retry → ⊥) → KeepsNoText self.new.writer) }
     {
         let all_sent = flushed(&self.writer);
-        match self.replies.read_turn(state, all_sent, wire, out) {
+        match self.replies.read_turn(state, all_sent, wire, out, buffer) {
             Ok(turn) => {
                 self.answered = is_answered(&state.seen(), turn.events.as_slice());
                 self.drop_text(state.may(Event::Retry));

@@ -21,7 +21,7 @@ use crate::kept::Kept;
 use crate::reader::ReplyReader;
 use crate::said::Found;
 use crate::stage::Stage;
-use adapt_sides::{ClientFault, Filled, MAX_READ, Turn, body_read};
+use adapt_sides::{ClientFault, Filled, MAX_READ, Turn, WIRE_ROOM, body_read};
 use arrayvec::ArrayVec;
 use encapsulated::Layout;
 use std::alloc::{AllocError, Global};
@@ -225,6 +225,7 @@ impl ReplySide {
         state: &State,
         wire: &mut W,
         out: &mut [u8],
+        buffer: &mut [u8; WIRE_ROOM],
     ) -> Result<Turn, ClientFault>
         requires short { length self.old.raw < MAX_HEAD }
         requires waits { HasToWait self.old.reader.stage self.old.raw (length out.old) }
@@ -236,7 +237,7 @@ impl ReplySide {
         ensures head { KeepsHead (shows state.now) self.old.reader self.new.reader }
         ensures few { length self.new.raw ≤ MAX_HEAD }
     {
-        match self.raw.fill(wire, MAX_READ) {
+        match self.raw.fill(wire, MAX_READ, &mut buffer[..]) {
             Filled::Bytes => {}
             Filled::Wait => {
                 return Ok(Turn {
@@ -260,6 +261,7 @@ impl ReplySide {
         state: &State,
         wire: &mut W,
         out: &mut [u8],
+        buffer: &mut [u8; WIRE_ROOM],
     ) -> Result<Turn, ClientFault>
         requires short { length self.old.raw < MAX_HEAD }
         requires waits { HasToWait self.old.reader.stage self.old.raw (length out.old) }
@@ -271,7 +273,7 @@ impl ReplySide {
         ensures head { KeepsHead (shows state.now) self.old.reader self.new.reader }
         ensures few { length self.new.raw ≤ max MAX_HEAD (length out.old) }
     {
-        match self.raw.fill(wire, body_read(out.len())) {
+        match self.raw.fill(wire, body_read(out.len()), &mut buffer[..]) {
             Filled::Bytes => match self.frame_raw(state, out) {
                 Ok(events) => Ok(Turn {
                     events,
@@ -296,6 +298,7 @@ impl ReplySide {
         all_sent: bool,
         wire: &mut W,
         out: &mut [u8],
+        buffer: &mut [u8; WIRE_ROOM],
     ) -> Result<Turn, ClientFault>
         ensures turn { ReadTurn (shows state.now) all_sent (length out.old) self.old self.new (W.past wire.old) (W.past wire.new) out.new result }
         ensures fault { self.new.fault ≡ self.old.fault }
@@ -319,12 +322,12 @@ impl ReplySide {
             });
         }
         if state.seen().heard {
-            return self.read_wire(state, wire, out);
+            return self.read_wire(state, wire, out, buffer);
         }
         if !state.may(Event::Heard) {
             return Err(ClientFault::NotLegal);
         }
-        self.read_first(state, wire, out)
+        self.read_first(state, wire, out, buffer)
     }
 
     /// Gives back the room for raw bytes, if there is no such byte.
@@ -341,6 +344,7 @@ impl ReplySide {
         all_sent: bool,
         wire: &mut W,
         out: &mut [u8],
+        buffer: &mut [u8; WIRE_ROOM],
     ) -> Result<Turn, ClientFault>
         ensures turn { ReadTurn (shows state.now) all_sent (length out.old) self.old self.new (W.past wire.old) (W.past wire.new) out.new result }
         ensures fault { self.new.fault ≡ self.old.fault }
@@ -348,7 +352,7 @@ impl ReplySide {
         ensures few { length self.old.raw < length self.new.raw → length self.new.raw ≤ max MAX_HEAD (length out.old) }
         ensures empty { self.new.raw ≡ [] → self.new.room ≡ 0 }
     {
-        let result = self.frame_or_read(state, all_sent, wire, out);
+        let result = self.frame_or_read(state, all_sent, wire, out, buffer);
         self.free_memory();
         result
     }
@@ -364,6 +368,7 @@ impl ReplySide {
         all_sent: bool,
         wire: &mut W,
         out: &mut [u8],
+        buffer: &mut [u8; WIRE_ROOM],
     ) -> Result<Turn, ClientFault>
         ensures turn { self.old.fault ≡ None → ReadTurn (shows state.now) all_sent (length out.old) self.old self.new (W.past wire.old) (W.past wire.new) out.new result }
 
@@ -382,7 +387,7 @@ impl ReplySide {
         if let Some(fault) = self.fault {
             return Err(fault);
         }
-        match self.turn_once(state, all_sent, wire, out) {
+        match self.turn_once(state, all_sent, wire, out, buffer) {
             Ok(turn) => Ok(turn),
             Err(fault) => {
                 self.fault = Some(fault);

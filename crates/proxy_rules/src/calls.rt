@@ -5,6 +5,7 @@ ghost use Rattle.proxy_rules.specs.Calls.{AreLines, IsFresh, IsLine};
 
 use crate::own_ends::{OwnEnds, Wires};
 use crate::running::{Lasting, Running};
+use adapt_sides::Scratch;
 use adapt_turn::{FreedConnection, Side, Tx};
 use span_bank::{Bank, Ledgers};
 use std::sync::Wait;
@@ -73,12 +74,18 @@ impl<B: Ledgers, W: Wires> Running<B, W> {
     }
 
     /// One call. The connection that it brings is taken.
-    pub fn call(&mut self, rt: &impl Wait, bank: &Bank<B>, call: &mut Call<W::ServiceWire>)
+    pub fn call(
+        &mut self,
+        rt: &impl Wait,
+        bank: &Bank<B>,
+        scratch: &mut Scratch,
+        call: &mut Call<W::ServiceWire>,
+    )
         ensures renews { ⟦<Tx<B, OwnEnds<W>> as Lasting<W>>⟧.renews (λ old new. IsLine old call.old new) self.old.tx self.new.tx }
     {
         match call {
             Call::Turn(side, now) => {
-                self.turn(rt, bank, *side, *now);
+                self.turn(rt, bank, scratch, *side, *now);
             }
             Call::Halt => self.halt(rt, bank),
             Call::Retry(fresh) => self.renew(rt, bank, fresh.take()),
@@ -89,14 +96,20 @@ impl<B: Ledgers, W: Wires> Running<B, W> {
     }
 
     /// Calls in their order.
-    pub fn call_all(&mut self, rt: &impl Wait, bank: &Bank<B>, calls: &mut [Call<W::ServiceWire>])
+    pub fn call_all(
+        &mut self,
+        rt: &impl Wait,
+        bank: &Bank<B>,
+        scratch: &mut Scratch,
+        calls: &mut [Call<W::ServiceWire>],
+    )
         ensures renews { ⟦<Tx<B, OwnEnds<W>> as Lasting<W>>⟧.renews (λ old new. AreLines old calls.old new) self.old.tx self.new.tx }
     {
         match calls {
             [] => {}
             [call, later @ ..] => {
-                self.call(rt, bank, call);
-                self.call_all(rt, bank, later);
+                self.call(rt, bank, scratch, call);
+                self.call_all(rt, bank, scratch, later);
             }
         }
     }

@@ -1,6 +1,6 @@
 //! A message whose head is read before its transaction: a user's request, or an origin's response to one.
 
-ghost use Rattle.std.specs.Prelude.{◌≡◌, ◌↔◌, ◌++◌, List, ℕ, [], true, false, None, Some, Ok, IfSome, IsSome, option_copied};
+ghost use Rattle.std.specs.Prelude.{◌≡◌, ◌↔◌, ◌<◌, ◌++◌, length, List, ℕ, [], true, false, None, Some, Ok, IfSome, IsSome, option_copied};
 ghost use Rattle.trace_core.specs.History.{seen};
 ghost use Rattle.http_relay.specs.Source.{Agrees};
 ghost use Rattle.http_relay.specs.Reading.{ComesAgain, HeadTurn, request_of, response_of};
@@ -151,7 +151,12 @@ impl Incoming {
     }
 
     /// Reads the message's head: Taken once it was read. One read of the wire at most, and one interim response. A fault stays.
-    pub fn head_turn<W: Wire>(&mut self, wire: &mut W) -> Result<HeadProgress, RelayFault>
+    pub fn head_turn<W: Wire>(
+        &mut self,
+        wire: &mut W,
+        buffer: &mut [u8],
+    ) -> Result<HeadProgress, RelayFault>
+        requires room { 0 < length buffer.old }
         ensures turn { self.old.side.fault ≡ None → self.old.side.head ≡ SourceHead.Unread → HeadTurn self.old.side self.new.side (W.past wire.old) (W.past wire.new) result }
         ensures more { result ≡ Ok HeadProgress.More → (self.old.side.fault ≡ None) × (self.old.side.head ≡ SourceHead.Unread) }
         ensures came { (first : W) (ahead since beside : List ℕ) → Came W.Wire first ahead since beside self.old.side wire.old
@@ -159,7 +164,7 @@ impl Incoming {
         ensures user { self.new.user ≡ self.old.user }
         ensures carried { self.new.carried ≡ self.old.carried }
     {
-        self.side.head_turn(wire)
+        self.side.head_turn(wire, buffer)
     }
 
     /// The head of the user's own request, once it was read.

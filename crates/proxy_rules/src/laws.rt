@@ -42,7 +42,7 @@ use crate::incoming::Incoming;
 use crate::own_ends::{OwnEnds, Wires};
 use crate::running::{Accounting, Running};
 use crate::starting::{Beginning, begin};
-use adapt_sides::{Service, Source};
+use adapt_sides::{Scratch, Service, Source};
 use adapt_turn::{Answering, MakesHead, Refusing, Side, Standing, Tx};
 use http_relay::{HopWriter, SourceSide};
 use icap_client::ServiceSide;
@@ -105,6 +105,7 @@ pub fn from_the_beginning_the_wires_take_one_message<B: Ledgers, W: Wires>(
     alloc: Global,
     bank: &Bank<B>,
     beginning: Beginning<B, W>,
+    scratch: &mut Scratch,
     turns: &[(Side, u64)],
 ) -> Result<Running<B, W>, Beginning<B, W>>
     requires empty { (beginning.stake.held ≡ 0) × (beginning.stake.pages ≡ 0) }
@@ -122,7 +123,7 @@ pub fn from_the_beginning_the_wires_take_one_message<B: Ledgers, W: Wires>(
 {
     match begin(alloc, beginning) {
         Ok(mut running) => {
-            running.take_turns(rt, bank, turns);
+            running.take_turns(rt, bank, scratch, turns);
             the_wires_take_one_message(&running.tx);
             Ok(running)
         }
@@ -163,6 +164,7 @@ pub fn over_all_calls_the_wires_take_one_message<B: Ledgers, W: Wires>(
     alloc: Global,
     bank: &Bank<B>,
     beginning: Beginning<B, W>,
+    scratch: &mut Scratch,
     calls: &mut [Call<W::ServiceWire>],
 ) -> Result<Running<B, W>, Beginning<B, W>>
     requires empty { (beginning.stake.held ≡ 0) × (beginning.stake.pages ≡ 0) }
@@ -176,7 +178,7 @@ pub fn over_all_calls_the_wires_take_one_message<B: Ledgers, W: Wires>(
 {
     match begin(alloc, beginning) {
         Ok(mut running) => {
-            running.call_all(rt, bank, calls);
+            running.call_all(rt, bank, scratch, calls);
             the_wires_take_one_message(&running.tx);
             Ok(running)
         }

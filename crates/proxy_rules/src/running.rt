@@ -18,6 +18,7 @@ ghost use Rattle.proxy_rules.specs.Wires.{WiresTook};
 
 use crate::own_ends::{OwnEnds, OwnTx, Wires};
 use adapt_hold::Hold;
+use adapt_sides::Scratch;
 use adapt_turn::{
     Answering, FreedConnection, Going, Outcome, Refusing, Side, Standing, TurnAnswer, Tx,
 };
@@ -31,9 +32,10 @@ use wire_kit::Wire;
 /// user's writer has the refusal of the cause, or a byte has gone out to the user.
 ///
 /// ```
+/// let mut scratch = Scratch::zeroed();
 /// // A body of six bytes comes; its preview is offered, and the service answers 204.
-/// assert_eq!(rt; running.turn(rt, &bank, Side::Source, 101), TurnAnswer::Moved(6));
-/// running.drive(rt, &bank, &[Side::Service, Side::Service, Side::NextHop]);
+/// assert_eq!(rt; running.turn(rt, &bank, &mut scratch, Side::Source, 101), TurnAnswer::Moved(6));
+/// running.drive(rt, &bank, &mut scratch, &[Side::Service, Side::Service, Side::NextHop]);
 /// assert_eq!(rt; running.outcome(), Some(Outcome::Done));
 /// assert!(rt; running.seen().no_mod);
 /// ```
@@ -77,7 +79,14 @@ impl<B: Ledgers, W: Wires> Lasting<W> for Tx<B, OwnEnds<W>> {
 
 impl<B: Ledgers, W: Wires> Running<B, W> {
     /// One turn of one side, at a moment in seconds.
-    pub fn turn(&mut self, rt: &impl Wait, bank: &Bank<B>, side: Side, now: u64) -> TurnAnswer
+    pub fn turn(
+        &mut self,
+        rt: &impl Wait,
+        bank: &Bank<B>,
+        scratch: &mut Scratch,
+        side: Side,
+        now: u64,
+    ) -> TurnAnswer
         ensures goes { ⟦<Tx<B, OwnEnds<W>> as Going>⟧.goes self.old.tx self.new.tx }
         ensures lasts { ⟦<Tx<B, OwnEnds<W>> as Lasting<W>>⟧.lasts (λ s. s) self.old.tx self.new.tx }
         ensures answers { ⟦<Tx<B, OwnEnds<W>> as Answering>⟧.answers self.old.tx side self.new.tx result }
@@ -89,11 +98,17 @@ impl<B: Ledgers, W: Wires> Running<B, W> {
         ensures finishes { (shows self.old.tx.hold.history).closed ≡ true → (self.old.tx.refusing ≡ false) ⊎ ⟦<Tx<B, OwnEnds<W>> as Refusing>⟧.refusal_is_over self.old.tx
             → result ≡ TurnAnswer.Finished self.old.tx.outcome }
     {
-        self.tx.turn(rt, bank, side, now)
+        self.tx.turn(rt, bank, scratch, side, now)
     }
 
     /// Turns in order, each of a side at a moment in seconds.
-    pub fn take_turns(&mut self, rt: &impl Wait, bank: &Bank<B>, turns: &[(Side, u64)])
+    pub fn take_turns(
+        &mut self,
+        rt: &impl Wait,
+        bank: &Bank<B>,
+        scratch: &mut Scratch,
+        turns: &[(Side, u64)],
+    )
         ensures goes { ⟦<Tx<B, OwnEnds<W>> as Going>⟧.goes self.old.tx self.new.tx }
         ensures lasts { ⟦<Tx<B, OwnEnds<W>> as Lasting<W>>⟧.lasts (λ s. s) self.old.tx self.new.tx }
         ensures turns { TakesTurns (λ old side now new. (said : AnyAnswer) × ⟦<Tx<B, OwnEnds<W>> as Answering>⟧.answers old side new said
@@ -103,18 +118,24 @@ impl<B: Ledgers, W: Wires> Running<B, W> {
         match turns {
             [] => {}
             [turn, later @ ..] => {
-                self.turn(rt, bank, turn.0, turn.1);
-                self.take_turns(rt, bank, later);
+                self.turn(rt, bank, scratch, turn.0, turn.1);
+                self.take_turns(rt, bank, scratch, later);
             }
         }
     }
 
     /// Turns by a schedule, each at the moment of the last moved byte.
-    pub fn drive(&mut self, rt: &impl Wait, bank: &Bank<B>, schedule: &[Side])
+    pub fn drive(
+        &mut self,
+        rt: &impl Wait,
+        bank: &Bank<B>,
+        scratch: &mut Scratch,
+        schedule: &[Side],
+    )
         ensures goes { ⟦<Tx<B, OwnEnds<W>> as Going>⟧.goes self.old.tx self.new.tx }
         ensures lasts { ⟦<Tx<B, OwnEnds<W>> as Lasting<W>>⟧.lasts (λ s. s) self.old.tx self.new.tx }
     {
-        self.tx.drive(rt, bank, schedule);
+        self.tx.drive(rt, bank, scratch, schedule);
     }
 
     /// Fails it because the proxy stops, where it isn't closed.

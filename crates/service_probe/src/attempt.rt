@@ -10,6 +10,7 @@ use crate::stage::{Left, end, judged, move_on, set_out};
 use crate::tap::Tap;
 use crate::text_stream::{TextWire, wire_of};
 use crate::verdict::left_over;
+use adapt_sides::Scratch;
 use plan_rules::Pace;
 use proxy_config::ServicePoint;
 use proxy_rules::{Incoming, Offer, Running, Way, Wires, limits_of};
@@ -63,12 +64,13 @@ pub fn micros_since<R: Clock>(rt: &R, start: Instant) -> u64 {
 fn play<B: Ledgers, R: Wait + Clock, W: Wires>(
     bench: &Bench<'_, B, R>,
     running: &mut Running<B, W>,
+    scratch: &mut Scratch,
     line: &mut Line,
     start: Instant,
 ) -> io::Result<()> {
     for _ in 0..u64::MAX {
         let now = start.elapsed(bench.rt)?.as_secs();
-        if move_on(bench.rt, bench.bank, running, now) {
+        if move_on(bench.rt, bench.bank, running, scratch, now) {
             break;
         }
         line.wait()?;
@@ -82,6 +84,7 @@ fn run<B: Ledgers, R: Wait + Clock, W: Wires<ServiceWire = Tap<ServiceWire>>>(
     offer: Box<Offer>,
     message: Box<Incoming>,
     way: Way<W>,
+    scratch: &mut Scratch,
     line: &mut Line,
 ) -> io::Result<Option<(Left<ServiceWire>, u64)>> {
     let (rt, alloc, bank) = (bench.rt, bench.alloc, bench.bank);
@@ -92,7 +95,7 @@ fn run<B: Ledgers, R: Wait + Clock, W: Wires<ServiceWire = Tap<ServiceWire>>>(
         return Ok(None);
     };
     let mut running = running;
-    let played = play(bench, &mut running, line, start);
+    let played = play(bench, &mut running, scratch, line, start);
     let micros = micros_since(rt, start);
     match (played, judged(alloc, end(rt, bank, running))?) {
         (Ok(()), Some(left)) => Ok(Some((left, micros))),
@@ -139,6 +142,7 @@ fn way_of(alloc: Global, source: TextWire, tap: Tap<ServiceWire>) -> Result<Way<
 fn send<B: Ledgers, R: Wait + Clock>(
     bench: &Bench<'_, B, R>,
     prepared: Prepared,
+    scratch: &mut Scratch,
     connection: &mut Connection,
 ) -> io::Result<Attempt> {
     let alloc = bench.alloc;
@@ -152,7 +156,7 @@ fn send<B: Ledgers, R: Wait + Clock>(
         source,
     } = prepared;
     let way = way_of(alloc, source, tap)?;
-    match run(bench, offer, message, way, &mut connection.line)? {
+    match run(bench, offer, message, way, scratch, &mut connection.line)? {
         Some((left, micros)) => Ok(conclude(alloc, left, micros, connection)),
         None => Ok(failed(alloc, Fault::System)),
     }
@@ -166,14 +170,15 @@ pub fn try_sample<B: Ledgers, R: Wait + Net + Dial + Clock>(
     lane: &mut Lane,
 ) -> io::Result<Attempt> {
     let alloc = bench.alloc;
-    let Some(prepared) = prepare(alloc, service, trial)? else {
+    let mut scratch = Scratch::new(alloc)?;
+    let Some(prepared) = prepare(alloc, service, trial, &mut scratch.wire)? else {
         return Ok(failed(alloc, Fault::System));
     };
     let Some(connection) = connection_of(bench, service, lane.take()) else {
         return Ok(failed(alloc, Fault::Refused));
     };
     let mut connection = connection;
-    let attempt = send(bench, prepared, &mut connection)?;
+    let attempt = send(bench, prepared, &mut scratch, &mut connection)?;
     if attempt.serves {
         lane.keep(connection);
     }

@@ -9,6 +9,7 @@ use crate::line::{Connection, Line};
 use crate::tap::Tap;
 use crate::text::put_value;
 use adapt_bytes::has_item;
+use adapt_sides::{Scratch, WIRE_ROOM};
 use icap_client::OptionsSide;
 use icap_head::{Fields, IcapResponse};
 use options_book::{Record, read_record};
@@ -71,13 +72,14 @@ fn hear<R: Clock>(
     rt: &R,
     side: &mut OptionsSide,
     tap: &mut Tap<ServiceWire>,
+    buffer: &mut [u8; WIRE_ROOM],
     line: &mut Line,
     seconds: u64,
 ) -> io::Result<Heard> {
     let mut moved = Instant::now(rt)?;
     for _ in 0..u64::MAX {
         let before = tap.counts();
-        match side.turn(tap) {
+        match side.turn(tap, &mut buffer[..]) {
             Ok(Some(answer)) => return Ok(Heard::Answer(answer)),
             Err(fault) => return Ok(Heard::Fault(Fault::of_side(fault))),
             Ok(None) if tap.counts() != before => moved = Instant::now(rt)?,
@@ -160,6 +162,7 @@ fn ask_over<B: Ledgers, R: Clock>(
 ) -> io::Result<Told> {
     let (rt, alloc) = (bench.rt, bench.alloc);
     let mut side = ask_options(alloc, service)?;
+    let mut scratch = Scratch::new(alloc)?;
     let Some(tap) = &mut connection.wire else {
         return Ok(untold(failed(alloc, Fault::System)));
     };
@@ -168,6 +171,7 @@ fn ask_over<B: Ledgers, R: Clock>(
         rt,
         &mut side,
         tap,
+        &mut scratch.wire,
         &mut connection.line,
         bench.config.deadline,
     );

@@ -3,6 +3,7 @@
 use crate::message::{REQUEST, message_of};
 use crate::samples::Trial;
 use crate::text_stream::{TextWire, wire_of};
+use adapt_sides::WIRE_ROOM;
 use http_relay::{HeadProgress, SourceSide};
 use http_side::{Encapsulated, Message, encapsulated_head};
 use proxy_config::ServicePoint;
@@ -25,9 +26,9 @@ pub struct Prepared {
 }
 
 /// Reads a message's head. False where there is none.
-fn reads_head(message: &mut Incoming, wire: &mut impl Wire) -> bool {
+fn reads_head(message: &mut Incoming, wire: &mut impl Wire, buffer: &mut [u8; WIRE_ROOM]) -> bool {
     for _ in 0..HEAD_TURNS {
-        match message.head_turn(wire) {
+        match message.head_turn(wire, &mut buffer[..]) {
             Ok(HeadProgress::Taken) => return true,
             Ok(_) => {}
             Err(_) => return false,
@@ -37,19 +38,23 @@ fn reads_head(message: &mut Incoming, wire: &mut impl Wire) -> bool {
 }
 
 /// The user's side of an answer, whose request was read to its end.
-fn user_side(alloc: Global) -> Result<SourceSide, AllocError> {
+fn user_side(alloc: Global, buffer: &mut [u8; WIRE_ROOM]) -> Result<SourceSide, AllocError> {
     let mut wire = wire_of(alloc, REQUEST.to_vec(alloc)?)?;
     let mut side = SourceSide::request(alloc);
-    let _ = side.head_turn(&mut wire);
-    let _ = side.read_turn(&mut wire, &mut []);
+    let _ = side.head_turn(&mut wire, &mut buffer[..]);
+    let _ = side.read_turn(&mut wire, &mut [], buffer);
     Ok(side)
 }
 
 /// A message of a point, before its first byte.
-fn before(alloc: Global, point: Point) -> Result<Incoming, AllocError> {
+fn before(
+    alloc: Global,
+    point: Point,
+    buffer: &mut [u8; WIRE_ROOM],
+) -> Result<Incoming, AllocError> {
     match point {
         Point::Reqmod => Ok(Incoming::request(alloc)),
-        Point::Respmod => Ok(Incoming::response(alloc, user_side(alloc)?, Vec::new(alloc))),
+        Point::Respmod => Ok(Incoming::response(alloc, user_side(alloc, buffer)?, Vec::new(alloc))),
     }
 }
 
@@ -90,12 +95,13 @@ pub fn prepare(
     alloc: Global,
     service: &ServicePoint,
     trial: &Trial,
+    buffer: &mut [u8; WIRE_ROOM],
 ) -> Result<Option<Prepared>, AllocError> {
     let point = trial.plan.point;
     let text = message_of(alloc, point, trial.sample, trial.size)?;
     let mut source = wire_of(alloc, text)?;
-    let mut message = before(alloc, point)?;
-    if !reads_head(&mut message, &mut source) {
+    let mut message = before(alloc, point, buffer)?;
+    if !reads_head(&mut message, &mut source, buffer) {
         return Ok(None);
     }
     let Some(offer) = offer_of(alloc, service, trial.plan, &message)? else {

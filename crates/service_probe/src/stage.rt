@@ -8,6 +8,7 @@ ghost use Rattle.plan_rules.specs.Claims.{claim_of};
 use crate::finding::Came;
 use crate::tap::Tap;
 use crate::verdict::{Heard, judge};
+use adapt_sides::Scratch;
 use adapt_turn::{EndTypes, Ends, Outcome, ServiceEnd, Side, TurnAnswer, Tx, TxParts};
 use http_side::{OriginUse, OriginWay};
 use plan_rules::{Limits, Pace, claim};
@@ -112,12 +113,13 @@ pub fn move_on<B: Ledgers, W: Wires>(
     rt: &impl Wait,
     bank: &Bank<B>,
     running: &mut Running<B, W>,
+    scratch: &mut Scratch,
     now: u64,
 ) -> bool {
     for _ in 0..u64::MAX {
         let mut moved = false;
         for side in [Side::Source, Side::Service, Side::NextHop] {
-            if running.turn(rt, bank, side, now) != TurnAnswer::Waiting {
+            if running.turn(rt, bank, scratch, side, now) != TurnAnswer::Waiting {
                 moved = true;
             }
             if running.outcome().is_some() || running.is_broken() {

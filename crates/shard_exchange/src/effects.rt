@@ -27,7 +27,7 @@ ghost use Rattle.shard_exchange.specs.declared.answers.Unplanned.{Unplanned as A
 use crate::answers::{Lingered, Marks, Round, Started, Unplanned, Withdrawal};
 use crate::ends::{End, EndedBy, Report};
 use crate::holder::Holder;
-use adapt_sides::{ClientFault, Said};
+use adapt_sides::{ClientFault, Said, Scratch};
 use exchange_core::{Course, Dialing, Exchange};
 use exchange_report::Reason;
 use icap_head::IcapResponse;
@@ -199,7 +199,14 @@ pub trait Effects<P>: Holder {
         ensures gone { result ≡ Started.NoUser → Keeps (Self.hand self.old) (Self.hand self.new) };
 
     /// A round of turns of the message's transaction.
-    fn round<R: Wait>(&mut self, rt: &R, at: &P, out: &mut Self::Outside, may_renew: bool) -> Round
+    fn round<R: Wait>(
+        &mut self,
+        rt: &R,
+        at: &P,
+        out: &mut Self::Outside,
+        scratch: &mut Scratch,
+        may_renew: bool,
+    ) -> Round
         requires { (Self.hand self.old).moving ≡ true }
         ensures kept { Keeps (Self.hand self.old) (Self.hand self.new) }
         ensures rounds { rounds self.old self.new out.old out.new at.now result }

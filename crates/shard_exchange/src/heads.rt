@@ -12,7 +12,7 @@ use crate::exchange::Exchange;
 use crate::holder::Holder;
 use crate::reason::{is_end_of_wire, origin_head_reason, user_head_reason};
 use crate::tasks::Step;
-use adapt_sides::RelayFault;
+use adapt_sides::{RelayFault, WIRE_ROOM};
 use exchange_core::Event;
 use exchange_report::Reason;
 
@@ -27,7 +27,12 @@ impl<H: Holder> Exchange<H> {
     ghost use Rattle.shard_exchange.specs.Steps.{Heeds};
 
     /// Reads the head of the next request.
-    pub(crate) fn read_request<P>(&mut self, at: &P, out: &mut H::Outside) -> Step
+    pub(crate) fn read_request<P>(
+        &mut self,
+        at: &P,
+        out: &mut H::Outside,
+        buffer: &mut [u8; WIRE_ROOM],
+    ) -> Step
     where
         H: Effects<P>,
         requires due { due_of self.old.course ≡ dues.ReadRequest }
@@ -36,7 +41,7 @@ impl<H: Holder> Exchange<H> {
         ensures heeds { Heeds (H.is_late out.new at.now) self.new.course result }
         ensures rests { result ≡ Step.Waits → H.reads self.old.holdings self.new.holdings (Some head_turns.Nothing) }
     {
-        let turn = self.holdings.read_request();
+        let turn = self.holdings.read_request(buffer);
         self.take_request_turn(at, out, turn)
     }
 
@@ -125,7 +130,12 @@ impl<H: Holder> Exchange<H> {
     }
 
     /// Reads the head of the origin's response. An interim response before it puts off no deadline.
-    pub(crate) fn read_response<P>(&mut self, at: &P, out: &mut H::Outside) -> Step
+    pub(crate) fn read_response<P>(
+        &mut self,
+        at: &P,
+        out: &mut H::Outside,
+        buffer: &mut [u8; WIRE_ROOM],
+    ) -> Step
     where
         H: Effects<P>,
         requires due { due_of self.old.course ≡ dues.ReadResponse }
@@ -134,7 +144,7 @@ impl<H: Holder> Exchange<H> {
         ensures heeds { Heeds (H.is_late out.new at.now) self.new.course result }
         ensures rests { result ≡ Step.Waits → H.hears self.old.holdings self.new.holdings (Some head_turns.Nothing) }
     {
-        let turn = self.holdings.read_response();
+        let turn = self.holdings.read_response(buffer);
         self.take_turn(at, out, turn)
     }
 

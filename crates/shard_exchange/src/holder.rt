@@ -12,7 +12,7 @@ ghost use Rattle.shard_exchange.specs.declared.answers.Withdrawal.{Withdrawal as
 ghost use Rattle.shard_exchange.specs.declared.ends.End.{End as AnyEnd};
 
 use crate::answers::{HeadTurn, OptionsTurn};
-use adapt_sides::Said;
+use adapt_sides::{Said, WIRE_ROOM};
 use exchange_core::Exchange;
 use http_side::HttpFault;
 
@@ -83,17 +83,17 @@ pub trait Holder: InHand {
         ensures { result ≡ (Self.hand self.now).moving };
 
     /// A turn at the head of the user's request. `None` where nobody reads it, or the user is gone.
-    fn read_request(&mut self) -> Option<HeadTurn>
+    fn read_request(&mut self, buffer: &mut [u8; WIRE_ROOM]) -> Option<HeadTurn>
         ensures reads { Self.reads self.old self.new result }
         ensures kept { Keeps (Self.hand self.old) (Self.hand self.new) };
 
     /// A turn at the head of the origin's response. `None` where nobody reads it, or there is no connection.
-    fn read_response(&mut self) -> Option<HeadTurn>
+    fn read_response(&mut self, buffer: &mut [u8; WIRE_ROOM]) -> Option<HeadTurn>
         ensures hears { Self.hears self.old self.new result }
         ensures kept { Keeps (Self.hand self.old) (Self.hand self.new) };
 
     /// A turn at asking the service for its options. `None` where nobody asks, or there is no connection for it.
-    fn hear(&mut self) -> Option<OptionsTurn>
+    fn hear(&mut self, buffer: &mut [u8; WIRE_ROOM]) -> Option<OptionsTurn>
         ensures nothing { result ≡ Some OptionsTurn.Nothing → hears_nothing self.old self.new }
         ensures kept { Keeps (Self.hand self.old) (Self.hand self.new) };
 

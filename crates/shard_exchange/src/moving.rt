@@ -9,6 +9,7 @@ use crate::ends::EndedBy;
 use crate::exchange::Exchange;
 use crate::holder::Holder;
 use crate::tasks::Step;
+use adapt_sides::Scratch;
 use exchange_core::Event;
 use exchange_report::Reason;
 use std::sync::Wait;
@@ -65,7 +66,13 @@ impl<H: Holder> Exchange<H> {
     }
 
     /// A round of turns of the message's transaction.
-    pub(crate) fn turn<P, R: Wait>(&mut self, rt: &R, at: &P, out: &mut H::Outside) -> Step
+    pub(crate) fn turn<P, R: Wait>(
+        &mut self,
+        rt: &R,
+        at: &P,
+        out: &mut H::Outside,
+        scratch: &mut Scratch,
+    ) -> Step
     where
         H: Effects<P>,
         requires due { due_of self.old.course ≡ dues.Turn }
@@ -78,7 +85,7 @@ impl<H: Holder> Exchange<H> {
         ensures rests { result ≡ Step.Waits → (turned : H) × (later : H.Outside) × H.rounds self.old.holdings turned out.old later at.now Round.Waiting
             × H.frees turned self.new.holdings None }
     {
-        match self.round(rt, at, out) {
+        match self.round(rt, at, out, scratch) {
             Round::Over => self.settle(rt, at, out, EndedBy::Itself),
             Round::Waiting if H::is_late(at, out) => self.settle(rt, at, out, EndedBy::Deadline),
             Round::Moved { framing } => {
@@ -95,7 +102,13 @@ impl<H: Holder> Exchange<H> {
     }
 
     /// Turns each side. Where the service's connection broke, the request begins anew on a fresh one, or fails without one.
-    fn round<P, R: Wait>(&mut self, rt: &R, at: &P, out: &mut H::Outside) -> Round
+    fn round<P, R: Wait>(
+        &mut self,
+        rt: &R,
+        at: &P,
+        out: &mut H::Outside,
+        scratch: &mut Scratch,
+    ) -> Round
     where
         H: Effects<P>,
         requires { is_moving self.old.course.phase ≡ true }
@@ -106,7 +119,7 @@ impl<H: Holder> Exchange<H> {
         ensures moves { is_moving self.new.course.phase ≡ true }
     {
         let may_renew = self.course.may(Event::Renewed);
-        let round = self.holdings.round(rt, at, out, may_renew);
+        let round = self.holdings.round(rt, at, out, scratch, may_renew);
         if round == Round::Broken {
             self.course.take(Event::Renewed);
         }

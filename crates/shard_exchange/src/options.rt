@@ -8,7 +8,7 @@ use crate::exchange::Exchange;
 use crate::holder::Holder;
 use crate::reason::options_reason;
 use crate::tasks::Step;
-use adapt_sides::ClientFault;
+use adapt_sides::{ClientFault, WIRE_ROOM};
 use exchange_core::Event;
 use exchange_report::Reason;
 use icap_head::IcapResponse;
@@ -43,7 +43,12 @@ impl<H: Holder> Exchange<H> {
     }
 
     /// Asks, and hears the answer.
-    pub(crate) fn hear<P>(&mut self, at: &P, out: &mut H::Outside) -> Step
+    pub(crate) fn hear<P>(
+        &mut self,
+        at: &P,
+        out: &mut H::Outside,
+        buffer: &mut [u8; WIRE_ROOM],
+    ) -> Step
     where
         H: Effects<P>,
         requires due { due_of self.old.course ≡ dues.Hear }
@@ -53,7 +58,7 @@ impl<H: Holder> Exchange<H> {
         ensures heeds { Heeds (H.is_late out.new at.now) self.new.course result }
         ensures rests { result ≡ Step.Waits → H.hears_nothing self.old.holdings self.new.holdings }
     {
-        match self.holdings.hear() {
+        match self.holdings.hear(buffer) {
             Some(OptionsTurn::More) => Step::On,
             Some(OptionsTurn::Nothing) => self.wait_or_refuse(at, out, Reason::ServiceDeadline),
             Some(OptionsTurn::Answer(answer)) => self.has_heard(at, out, &answer),

@@ -13,6 +13,7 @@ use crate::effects::Effects;
 use crate::exchange::Exchange;
 use crate::holder::Holder;
 use crate::tasks::{Step, Task};
+use adapt_sides::Scratch;
 use exchange_core::{Due, Phase};
 use std::sync::Wait;
 
@@ -26,7 +27,14 @@ impl<H: Holder> Exchange<H> {
     ghost use Rattle.shard_exchange.specs.Steps.{Heeds, IsDone, GoesOn};
 
     /// Does a task, and says how far that came. An exchange that only closes isn't stopped: it goes on with that.
-    pub fn act<P, R: Wait>(&mut self, rt: &R, at: &P, out: &mut H::Outside, task: Task) -> Step
+    pub fn act<P, R: Wait>(
+        &mut self,
+        rt: &R,
+        at: &P,
+        out: &mut H::Outside,
+        scratch: &mut Scratch,
+        task: Task,
+    ) -> Step
     where
         H: Effects<P>,
         // Each task takes the course along events that may come.
@@ -83,12 +91,18 @@ impl<H: Holder> Exchange<H> {
             Task::Halt if course.phase == Phase::Closing => Step::On,
             Task::Halt => self.halt(rt, at, out),
             Task::TakeLeave if is_stopped => self.take_leave(rt, at, out),
-            Task::Step | Task::TakeLeave => self.step(rt, at, out),
+            Task::Step | Task::TakeLeave => self.step(rt, at, out, scratch),
         }
     }
 
     /// Does what is due, and says how far that came.
-    fn step<P, R: Wait>(&mut self, rt: &R, at: &P, out: &mut H::Outside) -> Step
+    fn step<P, R: Wait>(
+        &mut self,
+        rt: &R,
+        at: &P,
+        out: &mut H::Outside,
+        scratch: &mut Scratch,
+    ) -> Step
     where
         H: Effects<P>,
         ensures goes { GoesOn self.old.course self.new.course }
@@ -128,7 +142,7 @@ impl<H: Holder> Exchange<H> {
             (H.has_page out.old at.now) (H.user_past self.old.holdings) (H.user_past self.new.holdings) (H.hand self.old.holdings) (H.hand self.new.holdings) (H.is_late out.old at.now)
             self.old.course self.new.course (due_of self.old.course) }
     {
-        let step = self.do_due(rt, at, out);
+        let step = self.do_due(rt, at, out, scratch);
         if self.course.course().is_over() {
             Step::Over
         } else {
@@ -137,7 +151,13 @@ impl<H: Holder> Exchange<H> {
     }
 
     /// Does what is due.
-    fn do_due<P, R: Wait>(&mut self, rt: &R, at: &P, out: &mut H::Outside) -> Step
+    fn do_due<P, R: Wait>(
+        &mut self,
+        rt: &R,
+        at: &P,
+        out: &mut H::Outside,
+        scratch: &mut Scratch,
+    ) -> Step
     where
         H: Effects<P>,
         ensures goes { GoesOn self.old.course self.new.course }
@@ -176,20 +196,20 @@ impl<H: Holder> Exchange<H> {
             self.old.course self.new.course (due_of self.old.course) }
     {
         match self.course.due() {
-            Due::ReadRequest => self.read_request(at, out),
+            Due::ReadRequest => self.read_request(at, out, &mut scratch.wire),
             Due::Plan => self.plan(at, out),
             Due::Lend => self.lend(at, out),
             Due::Await => self.wait_in_queue(at, out),
             Due::Ask => self.ask(at, out),
-            Due::Hear => self.hear(at, out),
+            Due::Hear => self.hear(at, out, &mut scratch.wire),
             Due::Reserve => self.reserve(rt, at, out),
             Due::TryTell => self.try_tell(),
             Due::Tell => self.tell(at, out),
             Due::Dial => self.dial(at, out),
             Due::Start => self.start(rt, at, out),
             Due::AskGate => self.ask_gate(rt, at, out),
-            Due::Turn => self.turn(rt, at, out),
-            Due::ReadResponse => self.read_response(at, out),
+            Due::Turn => self.turn(rt, at, out, scratch),
+            Due::ReadResponse => self.read_response(at, out, &mut scratch.wire),
             Due::GiveBack => self.give_back(at, out),
             Due::Release => self.release(rt, at, out),
             Due::HangUp => self.hang_up(at, out),

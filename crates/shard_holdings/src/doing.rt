@@ -17,7 +17,7 @@ ghost use Rattle.shard_message.specs.Taking.{taken_if};
 ghost use Rattle.shard_message.specs.Waits.{GivesNone};
 
 use crate::holdings::Holdings;
-use adapt_sides::{ClientFault, Said};
+use adapt_sides::{ClientFault, Said, Scratch};
 use exchange_core::{Course, Dialing, Exchange};
 use icap_head::IcapResponse;
 use service_lines::LendFault;
@@ -227,9 +227,16 @@ impl<P, O: Outside<P>> Effects<P> for Holdings<O> {
         }
     }
 
-    fn round<R: Wait>(&mut self, rt: &R, at: &P, out: &mut O, may_renew: bool) -> Round {
+    fn round<R: Wait>(
+        &mut self,
+        rt: &R,
+        at: &P,
+        out: &mut O,
+        scratch: &mut Scratch,
+        may_renew: bool,
+    ) -> Round {
         match &mut self.tx {
-            Some(tx) => tx.round(rt, at, out, &mut self.connection, may_renew),
+            Some(tx) => tx.round(rt, at, out, &mut self.connection, scratch, may_renew),
             None => unreachable!(),
         }
     }

@@ -16,7 +16,7 @@ ghost use Rattle.shard_holdings.specs.Message.{has_come};
 ghost use Rattle.shard_holdings.specs.Settled.{WithdrawsAs};
 
 use crate::holdings::Holdings;
-use adapt_sides::Said;
+use adapt_sides::{Said, WIRE_ROOM};
 use adapt_turn::FreedConnection;
 use exchange_core::Exchange;
 use http_side::HttpFault;
@@ -106,16 +106,16 @@ impl<O: Kinds> Holder for Holdings<O> {
         self.tx.is_some()
     }
 
-    fn read_request(&mut self) -> Option<HeadTurn> {
-        turn_on(&mut self.message, &mut self.user)
+    fn read_request(&mut self, buffer: &mut [u8; WIRE_ROOM]) -> Option<HeadTurn> {
+        turn_on(&mut self.message, &mut self.user, buffer)
     }
 
-    fn read_response(&mut self) -> Option<HeadTurn> {
-        turn_on(&mut self.message, &mut self.origin)
+    fn read_response(&mut self, buffer: &mut [u8; WIRE_ROOM]) -> Option<HeadTurn> {
+        turn_on(&mut self.message, &mut self.origin, buffer)
     }
 
-    fn hear(&mut self) -> Option<OptionsTurn> {
-        hear_on(&mut self.asking, &mut self.connection)
+    fn hear(&mut self, buffer: &mut [u8; WIRE_ROOM]) -> Option<OptionsTurn> {
+        hear_on(&mut self.asking, &mut self.connection, buffer)
     }
 
     fn tell(&mut self, _course: &Exchange) -> Said {

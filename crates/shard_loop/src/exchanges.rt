@@ -8,6 +8,7 @@ ghost use Rattle.exchange_core.specs.Dues.{is_over};
 ghost use Rattle.shard_exchange.specs.Hand.{IsEmpty};
 
 use crate::showing::show;
+use adapt_sides::Scratch;
 use event_loop::{Question, Sheet};
 use proxy_rules::Incoming;
 use shard_desk::{Desk, Exchanges, Purpose, Shares, Spot, turn_away};
@@ -63,13 +64,14 @@ fn act_on<P, O: Outside<P>, R: Wait>(
     rt: &R,
     at: &P,
     outside: &mut O,
+    scratch: &mut Box<Scratch>,
     exchange: &mut Exchange<Holdings<O>>,
     task: Task,
 ) -> Step
     ensures over { result ≡ Step.Over → is_over exchange.new.course ≡ true }
     ensures lost { task ≡ Task.Lose → is_over exchange.new.course ≡ true }
 {
-    exchange.act(rt, at, outside, task)
+    exchange.act(rt, at, outside, scratch, task)
 }
 
 /// The user's connection, where no byte of a request was read.
@@ -85,6 +87,8 @@ fn unheard<O: Kinds>(exchange: &Exchange<Holdings<O>>) -> Option<&O::User> {
 #[derive(Drop)]
 pub(crate) struct DeskExchanges<S> {
     desk: Desk<S>,
+    /// The buffers that the turns of this thread are lent.
+    scratch: Box<Scratch>,
 }
 
 impl<S: Shares + Drop> DeskExchanges<S> {
@@ -95,7 +99,8 @@ impl<S: Shares + Drop> DeskExchanges<S> {
         rows: usize,
     ) -> Result<DeskExchanges<S>, AllocError> {
         let desk = Desk::new(alloc, shared, rows)?;
-        Ok(DeskExchanges { desk })
+        let scratch = Scratch::new(alloc)?;
+        Ok(DeskExchanges { desk, scratch })
     }
 }
 
@@ -133,7 +138,7 @@ impl<S: Shares> Exchanges for DeskExchanges<S> {
         task: Task,
     ) -> Step {
         self.desk.take_up(at.rt, at.key);
-        act_on(at.rt, at, &mut self.desk, exchange, task)
+        act_on(at.rt, at, &mut self.desk, &mut self.scratch, exchange, task)
     }
 
     fn show<R: Clock>(

@@ -11,6 +11,7 @@ ghost use Rattle.shard_message.specs.Waits.{MovesNone};
 use crate::connection::{Connection, lay_wire};
 use crate::options::{begin_asking, hear_turn};
 use crate::outside::{Kinds, Outside};
+use adapt_sides::WIRE_ROOM;
 use icap_client::OptionsSide;
 use shard_exchange::{OptionsTurn, Reason, lend_reason};
 use std::boxed::Box;
@@ -21,6 +22,7 @@ use wire_kit::Wire;
 pub fn hear_on<O: Kinds>(
     asking: &mut Option<Box<OptionsSide>>,
     connection: &mut Option<Connection<O>>,
+    buffer: &mut [u8; WIRE_ROOM],
 ) -> Option<OptionsTurn>
     ensures there { is_some connection.new ≡ is_some connection.old }
     ensures waits { result ≡ Some OptionsTurn.Nothing → MovesNone (IsSomeAnd asking.old (λ side. side.value.stage ≡ Over))
@@ -28,7 +30,7 @@ pub fn hear_on<O: Kinds>(
 {
     match (asking, connection) {
         (Some(side), Some(connection)) => match &mut connection.wire {
-            Some(wire) => Some(hear_turn(side, wire)),
+            Some(wire) => Some(hear_turn(side, wire, &mut buffer[..])),
             None => None,
         },
         _ => None,

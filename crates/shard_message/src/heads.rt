@@ -1,10 +1,11 @@
 //! Heads of messages: the user's requests, and the origins' responses.
 
-ghost use Rattle.std.specs.Prelude.{◌≡◌, ◌++◌, ℕ, List, Some, IfSome, is_some};
+ghost use Rattle.std.specs.Prelude.{◌≡◌, ◌<◌, ◌++◌, ℕ, List, length, Some, IfSome, is_some};
 ghost use Rattle.proxy_rules.specs.Arrivals.{Came};
 ghost use Rattle.shard_exchange.specs.Saying.{past_of};
 ghost use Rattle.shard_message.specs.Waits.{GivesNone};
 
+use adapt_sides::WIRE_ROOM;
 use http_relay::HeadProgress;
 use http_side::HttpFault;
 use proxy_rules::Incoming;
@@ -25,13 +26,14 @@ fn part_of(message: &Incoming) -> HeadTurn
 }
 
 /// A turn at a message's head over this wire.
-fn head_turn<W: Wire>(message: &mut Incoming, wire: &mut W) -> HeadTurn
+fn head_turn<W: Wire>(message: &mut Incoming, wire: &mut W, buffer: &mut [u8]) -> HeadTurn
+    requires { 0 < length buffer.old }
     ensures came { (first : W) (ahead since beside : List ℕ) → Came W.Wire first ahead since beside message.old.side wire.old
         → (more : List ℕ) × Came W.Wire first ahead (since ++ more) beside message.new.side wire.new }
     ensures waits { result ≡ HeadTurn.Nothing → GivesNone (W.past wire.old) (W.past wire.new) }
 {
     let (before, _) = wire.counts();
-    match message.head_turn(wire) {
+    match message.head_turn(wire, buffer) {
         Ok(HeadProgress::Taken) => HeadTurn::Whole,
         Ok(HeadProgress::Interim) => HeadTurn::Interim,
         Ok(HeadProgress::More) if wire.counts().0 != before => part_of(message),
@@ -44,6 +46,7 @@ fn head_turn<W: Wire>(message: &mut Incoming, wire: &mut W) -> HeadTurn
 pub fn turn_on<W: Wire>(
     message: &mut Option<Box<Incoming>>,
     wire: &mut Option<W>,
+    buffer: &mut [u8; WIRE_ROOM],
 ) -> Option<HeadTurn>
     ensures there { is_some wire.new ≡ is_some wire.old }
 
@@ -53,7 +56,7 @@ pub fn turn_on<W: Wire>(
     ensures waits { result ≡ Some HeadTurn.Nothing → GivesNone (past_of W.past wire.old) (past_of W.past wire.new) }
 {
     match (message, wire) {
-        (Some(message), Some(wire)) => Some(head_turn(message, wire)),
+        (Some(message), Some(wire)) => Some(head_turn(message, wire, &mut buffer[..])),
         _ => None,
     }
 }

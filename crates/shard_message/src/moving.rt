@@ -23,6 +23,7 @@ use crate::slots::take_out;
 use crate::start::{Manner, set_out};
 use crate::taken::stake_of;
 use crate::turns::round_of;
+use adapt_sides::Scratch;
 use adapt_turn::FreedConnection;
 use exchange_core::Exchange;
 use proxy_rules::{Incoming, Running, Way};
@@ -260,6 +261,7 @@ impl<O: Kinds> Moving<O> {
         at: &P,
         out: &mut O,
         connection: &mut Option<Connection<O>>,
+        scratch: &mut Scratch,
         may_renew: bool,
     ) -> Round
     where
@@ -271,8 +273,8 @@ impl<O: Kinds> Moving<O> {
             → (line : Option O.Service) × (given : Option O.Service) × IsLineAfter (O.is_opened out.new at.now) result s.line s.given line given × ⟦<Self as Accounted<O>>⟧.since (record s { line = line; given = given }) self.new }
     {
         match self {
-            Moving::Request(tx) => round_of(rt, at, out, tx, connection, may_renew),
-            Moving::Response(tx) => round_of(rt, at, out, tx, connection, may_renew),
+            Moving::Request(tx) => round_of(rt, at, out, tx, connection, scratch, may_renew),
+            Moving::Response(tx) => round_of(rt, at, out, tx, connection, scratch, may_renew),
         }
     }
 

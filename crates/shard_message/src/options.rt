@@ -1,6 +1,6 @@
 //! Asking a service for its options.
 
-ghost use Rattle.std.specs.Prelude.{◌≡◌, IfOk, IfErr, IsSomeAnd, length, string_bytes, true, false};
+ghost use Rattle.std.specs.Prelude.{◌≡◌, ◌<◌, IfOk, IfErr, IsSomeAnd, length, string_bytes, true, false};
 ghost use Rattle.wire_kit.specs.Past.{Past};
 ghost use Rattle.std.specs.Net.Socket.{v4_port};
 ghost use Rattle.icap_client.specs.Asking.{options_request};
@@ -76,11 +76,12 @@ fn has_moved<W: Wire>(wire: &W, before: (u64, u64)) -> bool
 }
 
 /// A turn at asking over this wire.
-pub fn hear_turn<W: Wire>(side: &mut OptionsSide, wire: &mut W) -> OptionsTurn
+pub fn hear_turn<W: Wire>(side: &mut OptionsSide, wire: &mut W, buffer: &mut [u8]) -> OptionsTurn
+    requires { 0 < length buffer.old }
     ensures waits { result ≡ OptionsTurn.Nothing → MovesNone (side.old.stage ≡ Over) (W.past wire.old) (W.past wire.new) }
 {
     let before = wire.counts();
-    match side.turn(wire) {
+    match side.turn(wire, buffer) {
         Ok(Some(answer)) => OptionsTurn::Answer(answer),
         Ok(None) if has_moved(wire, before) => OptionsTurn::More,
         Ok(None) => OptionsTurn::Nothing,

@@ -9,6 +9,7 @@ ghost use Rattle.shard_message.specs.Rounds.{Adds, ComesTo, IsRenewed, IsRound, 
 
 use crate::connection::Connection;
 use crate::outside::Outside;
+use adapt_sides::Scratch;
 use adapt_turn::{Answering, Side, TurnAnswer, Tx};
 use proxy_rules::{Accounting, Lasting, OwnEnds, Running, Wires};
 use service_lines::LendFault;
@@ -73,6 +74,7 @@ fn turn_side<B: Ledgers, W: Wires, R: Wait>(
     rt: &R,
     bank: &Bank<B>,
     tx: &mut Running<B, W>,
+    scratch: &mut Scratch,
     side: Side,
     now: u64,
 ) -> Round
@@ -81,7 +83,7 @@ fn turn_side<B: Ledgers, W: Wires, R: Wait>(
     ensures lasts { ⟦<Tx<B, OwnEnds<W>> as Lasting<W>>⟧.lasts (λ s. s) tx.old.tx tx.new.tx }
 {
     let before = body_bytes(&tx.seen());
-    let turned = tx.turn(rt, bank, side, now);
+    let turned = tx.turn(rt, bank, scratch, side, now);
     if tx.outcome().is_some() {
         return Round::Over;
     }
@@ -125,6 +127,7 @@ fn turn_each<B: Ledgers, W: Wires, R: Wait>(
     rt: &R,
     bank: &Bank<B>,
     tx: &mut Running<B, W>,
+    scratch: &mut Scratch,
     sides: &[Side],
     now: u64,
 ) -> Round
@@ -135,11 +138,11 @@ fn turn_each<B: Ledgers, W: Wires, R: Wait>(
     match sides {
         [] => Round::Waiting,
         [side, later @ ..] => {
-            let turned = turn_side(rt, bank, tx, *side, now);
+            let turned = turn_side(rt, bank, tx, scratch, *side, now);
             if ends(turned) {
                 return turned;
             }
-            let rest = turn_each(rt, bank, tx, later, now);
+            let rest = turn_each(rt, bank, tx, scratch, later, now);
             joined(turned, rest)
         }
     }
@@ -200,6 +203,7 @@ pub(crate) fn round_of<P, O: Outside<P>, W: Wires<ServiceWire = O::Service>, R: 
     out: &mut O,
     tx: &mut Running<O::Ledgers, W>,
     connection: &mut Option<Connection<O>>,
+    scratch: &mut Scratch,
     may_renew: bool,
 ) -> Round
     ensures leased { is_some connection.new ≡ is_some connection.old }
@@ -209,7 +213,7 @@ pub(crate) fn round_of<P, O: Outside<P>, W: Wires<ServiceWire = O::Service>, R: 
 {
     let now = out.now(at);
     let sides = [Side::Source, Side::Service, Side::NextHop];
-    match turn_each(rt, out.bank(), tx, &sides, now) {
+    match turn_each(rt, out.bank(), tx, scratch, &sides, now) {
         Round::Broken => renew(rt, at, out, tx, connection, may_renew),
         round => round,
     }

@@ -39,7 +39,7 @@ fn read_again(message: Incoming) -> Option<Incoming>
     ensures came { (text : List ℕ) → HasCome text message.side → IfSome result (λ read. HasCome text read.side) }
 {
     let mut read = message;
-    match read.head_turn(&mut Silent) {
+    match read.head_turn(&mut Silent, &mut [0]) {
         Ok(HeadProgress::Taken) => Some(read),
         _ => None,
     }

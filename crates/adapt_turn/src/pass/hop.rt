@@ -15,7 +15,7 @@ use crate::ends::{EndTypes, ServiceEnd};
 use crate::head::MakesHead;
 use crate::pass::{PassAnswer, close, idle, went_on};
 use adapt_hold::{Hold, step_all};
-use adapt_sides::{Hop, RelayFault, Service, Source};
+use adapt_sides::{Hop, RelayFault, Service, Source, WIRE_ROOM};
 use span_bank::{Bank, Ledgers};
 use span_tape::SpanTape;
 use std::alloc::Global;
@@ -37,6 +37,7 @@ pub(crate) fn next_pass<B: Ledgers, E: EndTypes>(
     next_wire: &mut E::NextWire,
     back: &mut E::Writer,
     back_wire: &mut E::SourceWire,
+    buffer: &mut [u8; WIRE_ROOM],
 ) -> PassAnswer
     requires running { (shows hold.old.history).closed ≡ false }
     requires roomy { IsRoomy hold.old }
@@ -49,7 +50,7 @@ pub(crate) fn next_pass<B: Ledgers, E: EndTypes>(
         return idle();
     }
     match begin::<B, E>(alloc, hold, maker, source, service, next, back) {
-        Ok(()) => give_pass(rt, bank, hold, next, next_wire, back, back_wire),
+        Ok(()) => give_pass(rt, bank, hold, next, next_wire, back, back_wire, buffer),
         Err(cause) => close(rt, bank, hold, cause),
     }
 }
@@ -152,6 +153,7 @@ fn give_pass<B: Ledgers, K: Hop, A: Wire, C: Wire>(
     next_wire: &mut C,
     back: &mut K,
     back_wire: &mut A,
+    buffer: &mut [u8; WIRE_ROOM],
 ) -> PassAnswer
     requires running { (shows hold.old.history).closed ≡ false }
     requires chosen { IsChosen (shows hold.old.history) }
@@ -160,9 +162,9 @@ fn give_pass<B: Ledgers, K: Hop, A: Wire, C: Wire>(
     ensures roomy { IsRoomy hold.new }
 {
     if back.is_idle() {
-        give(rt, bank, hold, next, next_wire)
+        give(rt, bank, hold, next, next_wire, buffer)
     } else {
-        give(rt, bank, hold, back, back_wire)
+        give(rt, bank, hold, back, back_wire, buffer)
     }
 }
 
@@ -173,6 +175,7 @@ pub(crate) fn give<B: Ledgers, K: Hop, W: Wire>(
     hold: &mut Hold<B>,
     hop: &mut K,
     wire: &mut W,
+    buffer: &mut [u8; WIRE_ROOM],
 ) -> PassAnswer
     requires running { (shows hold.old.history).closed ≡ false }
     requires chosen { IsChosen (shows hold.old.history) }
@@ -187,7 +190,7 @@ pub(crate) fn give<B: Ledgers, K: Hop, W: Wire>(
 {
     let state = hold.state();
     let tape = tape_of(hold);
-    match hop.write_turn(state, tape, wire) {
+    match hop.write_turn(state, tape, wire, buffer) {
         Ok(turn) => {
             step_all(rt, bank, hold, turn.events.as_slice(), &[]);
             went_on(turn.waiting)

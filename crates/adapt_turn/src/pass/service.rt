@@ -1,7 +1,6 @@
 //! A pass of the service's side.
 
-ghost use Rattle.std.specs.Prelude.{◌≡◌, ◌≤◌, ℕ, true, false, List, Some, [], length, None};
-ghost use Rattle.adapt_turn.specs.declared.pass.TheConstants.{LARGE_ROOM};
+ghost use Rattle.std.specs.Prelude.{◌≡◌, ℕ, true, false, List, Some, [], length, None};
 ghost use Rattle.trace_core.specs.declared.history.Cause.{Cause};
 ghost use Rattle.trace_core.specs.declared.history.Seen.{Seen};
 ghost use Rattle.adapt_hold.specs.Holding.{shows, IsRoomy, IsTied, moved};
@@ -11,9 +10,9 @@ ghost use Rattle.trace_core.specs.declared.history.Event.TheVariants.{Fail};
 ghost use Rattle.adapt_sides.specs.declared.fault.ClientFault.TheVariants.{Device};
 
 use crate::ends::ServiceEnd;
-use crate::pass::{LARGE_ROOM, MIDDLE_ROOM, PassAnswer, SMALL_ROOM, close, idle, went_on};
+use crate::pass::{PassAnswer, close, idle, went_on};
 use adapt_hold::{Hold, step_all};
-use adapt_sides::{ClientFault, Service};
+use adapt_sides::{ClientFault, MAX_FILL, Scratch, Service, WIRE_ROOM};
 use span_bank::{Bank, Ledgers};
 use std::sync::Wait;
 use trace_core::{Cause, Event};
@@ -25,6 +24,7 @@ pub(crate) fn service_pass<B: Ledgers, V: Service, W: Wire>(
     bank: &Bank<B>,
     hold: &mut Hold<B>,
     service: &mut Option<ServiceEnd<V, W>>,
+    scratch: &mut Scratch,
     reused: bool,
 ) -> PassAnswer
     requires running { (shows hold.old.history).closed ≡ false }
@@ -34,7 +34,7 @@ pub(crate) fn service_pass<B: Ledgers, V: Service, W: Wire>(
 {
     match service {
         Some(line) => match &mut line.wire {
-            Some(wire) => held_pass(rt, bank, hold, &mut line.side, wire, reused),
+            Some(wire) => held_pass(rt, bank, hold, &mut line.side, wire, scratch, reused),
             None => idle(),
         },
         None => idle(),
@@ -48,6 +48,7 @@ fn held_pass<B: Ledgers, V: Service, W: Wire>(
     hold: &mut Hold<B>,
     service: &mut V,
     wire: &mut W,
+    scratch: &mut Scratch,
     reused: bool,
 ) -> PassAnswer
     requires running { (shows hold.old.history).closed ≡ false }
@@ -56,14 +57,23 @@ fn held_pass<B: Ledgers, V: Service, W: Wire>(
     ensures roomy { IsRoomy hold.new }
 {
     let _state = hold.state();
-    let sent = send(rt, bank, hold, service, wire, reused);
+    let sent = send(rt, bank, hold, service, wire, &mut scratch.wire, reused);
     if sent.broken {
         return sent;
     }
     if is_closed(hold) {
         return sent;
     }
-    let heard = hear(rt, bank, hold, service, wire, reused);
+    let heard = hear(
+        rt,
+        bank,
+        hold,
+        service,
+        wire,
+        &mut scratch.body,
+        &mut scratch.wire,
+        reused,
+    );
     PassAnswer {
         waiting: sent.waiting && heard.waiting,
         failed: heard.failed,
@@ -79,7 +89,7 @@ fn is_closed<B: Ledgers>(hold: &Hold<B>) -> bool
     hold.state().is_closed()
 }
 
-/// Reads what the service answered, into the smallest buffer that has the room.
+/// Reads what the service answered, into as much of the buffer as there is room for.
 #[tactic(auto, using(crate::proofs::Paced::service_fits))]
 fn hear<B: Ledgers, V: Service, W: Wire>(
     rt: &impl Wait,
@@ -87,6 +97,8 @@ fn hear<B: Ledgers, V: Service, W: Wire>(
     hold: &mut Hold<B>,
     service: &mut V,
     wire: &mut W,
+    body: &mut [u8; MAX_FILL],
+    buffer: &mut [u8; WIRE_ROOM],
     reused: bool,
 ) -> PassAnswer
     requires running { (shows hold.old.history).closed ≡ false }
@@ -103,43 +115,16 @@ fn hear<B: Ledgers, V: Service, W: Wire>(
 {
     let _state = hold.state();
     let room = hold.adapted_room() as usize;
-    if room <= SMALL_ROOM {
-        hear_by::<SMALL_ROOM, B, V, W>(rt, bank, hold, service, wire, room, reused)
-    } else if room <= MIDDLE_ROOM {
-        hear_by::<MIDDLE_ROOM, B, V, W>(rt, bank, hold, service, wire, room, reused)
-    } else {
-        hear_by::<LARGE_ROOM, B, V, W>(rt, bank, hold, service, wire, room, reused)
-    }
-}
-
-/// Reads into room on the stack for `N` bytes. It is never inlined, so that a turn of few bytes doesn't pay for the room of many.
-#[inline(never)]
-fn hear_by<const N: usize, B: Ledgers, V: Service, W: Wire>(
-    rt: &impl Wait,
-    bank: &Bank<B>,
-    hold: &mut Hold<B>,
-    service: &mut V,
-    wire: &mut W,
-    room: usize,
-    reused: bool,
-) -> PassAnswer
-    requires running { (shows hold.old.history).closed ≡ false }
-    requires roomy { IsRoomy hold.old }
-    requires room { room ≡ service_room hold.old }
-    requires fits { room ≤ N }
-    requires size { N ≤ LARGE_ROOM }
-    ensures reports { HearReported V.Service W.Wire (lending hold.old service.old wire.old) (lending hold.new service.new wire.new) result }
-    ensures reason { HasFaultReason (V.fault service.old) (V.fault service.new) (λ fault. V.has_reason fault (shows hold.old.history) service.new) }
-    ensures sent { (request came taken : List ℕ) → V.has_sent request (shows hold.old.history) came taken service.old → V.has_sent request (shows hold.old.history) came taken service.new }
-    ensures rests { (x : Seen) → V.rests_writing x service.old → V.rests_writing x service.new }
-    ensures head { (shows hold.old.history).modified ≡ true → V.adapted_head service.new ≡ V.adapted_head service.old }
-    ensures response { (shows hold.old.history).modified ≡ true → V.is_response service.new ≡ V.is_response service.old }
-    ensures roomy { IsRoomy hold.new }
-    ensures unbroken { (cause : Cause) → result.failed ≡ Some cause → Breaks hold.old.history reused (V.fault service.new) → ⊥ }
-    ensures breaks { result.broken ≡ true → Breaks hold.new.history reused (V.fault service.new) }
-{
-    let mut buf = [0; N];
-    take_service(rt, bank, hold, service, wire, &mut buf[..room], reused)
+    take_service(
+        rt,
+        bank,
+        hold,
+        service,
+        wire,
+        &mut body[..room],
+        buffer,
+        reused,
+    )
 }
 
 /// Writes what is due to the service.
@@ -149,6 +134,7 @@ pub(crate) fn send<B: Ledgers, V: Service, W: Wire>(
     hold: &mut Hold<B>,
     service: &mut V,
     wire: &mut W,
+    buffer: &mut [u8; WIRE_ROOM],
     reused: bool,
 ) -> PassAnswer
     requires running { (shows hold.old.history).closed ≡ false }
@@ -165,7 +151,7 @@ pub(crate) fn send<B: Ledgers, V: Service, W: Wire>(
 {
     let state = hold.state();
     let tape = hold.original();
-    match service.write_turn(state, tape, wire) {
+    match service.write_turn(state, tape, wire, buffer) {
         Ok(turn) => {
             step_all(rt, bank, hold, turn.events.as_slice(), &[]);
             went_on(turn.waiting)
@@ -182,6 +168,7 @@ pub(crate) fn take_service<B: Ledgers, V: Service, W: Wire>(
     service: &mut V,
     wire: &mut W,
     out: &mut [u8],
+    buffer: &mut [u8; WIRE_ROOM],
     reused: bool,
 ) -> PassAnswer
     requires running { (shows hold.old.history).closed ≡ false }
@@ -198,7 +185,7 @@ pub(crate) fn take_service<B: Ledgers, V: Service, W: Wire>(
     ensures breaks { result.broken ≡ true → Breaks hold.new.history reused (V.fault service.new) }
 {
     let state = hold.state();
-    match service.read_turn(state, wire, out) {
+    match service.read_turn(state, wire, out, buffer) {
         Ok(turn) => {
             step_all(rt, bank, hold, turn.events.as_slice(), out);
             went_on(turn.waiting)

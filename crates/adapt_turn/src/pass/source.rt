@@ -1,14 +1,13 @@
 //! A pass of the source's side.
 
-ghost use Rattle.std.specs.Prelude.{◌≡◌, ◌≤◌, false, length};
-ghost use Rattle.adapt_turn.specs.declared.pass.TheConstants.{LARGE_ROOM};
+ghost use Rattle.std.specs.Prelude.{◌≡◌, false, length};
 ghost use Rattle.adapt_hold.specs.Holding.{shows, IsRoomy};
 ghost use Rattle.adapt_turn.specs.Reports.{HasFaultReason, lending, SourceReported, source_room, source_cause};
 ghost use Rattle.adapt_turn.specs.Passes.{SourcePasses};
 
-use crate::pass::{LARGE_ROOM, MIDDLE_ROOM, PassAnswer, SMALL_ROOM, close, went_on};
+use crate::pass::{PassAnswer, close, went_on};
 use adapt_hold::{Hold, step_all};
-use adapt_sides::{RelayFault, Source};
+use adapt_sides::{MAX_FILL, RelayFault, Scratch, Source, WIRE_ROOM};
 use span_bank::{Bank, Ledgers};
 use std::sync::Wait;
 use trace_core::Cause;
@@ -21,6 +20,7 @@ pub(crate) fn source_pass<B: Ledgers, S: Source, A: Wire>(
     hold: &mut Hold<B>,
     source: &mut S,
     wire: &mut A,
+    scratch: &mut Scratch,
 ) -> PassAnswer
     requires running { (shows hold.old.history).closed ≡ false }
     requires roomy { IsRoomy hold.old }
@@ -29,13 +29,21 @@ pub(crate) fn source_pass<B: Ledgers, S: Source, A: Wire>(
 {
     let state = hold.state();
     if source.agrees_with(state) {
-        read_source(rt, bank, hold, source, wire)
+        read_source(
+            rt,
+            bank,
+            hold,
+            source,
+            wire,
+            &mut scratch.body,
+            &mut scratch.wire,
+        )
     } else {
         close(rt, bank, hold, Cause::Source)
     }
 }
 
-/// Reads of a source whose numbers are those of the history, into the smallest buffer that has the room.
+/// Reads of a source whose numbers are those of the history, into as much of the buffer as there is room for.
 #[tactic(auto, using(crate::proofs::Paced::source_fits))]
 fn read_source<B: Ledgers, S: Source, A: Wire>(
     rt: &impl Wait,
@@ -43,6 +51,8 @@ fn read_source<B: Ledgers, S: Source, A: Wire>(
     hold: &mut Hold<B>,
     source: &mut S,
     wire: &mut A,
+    body: &mut [u8; MAX_FILL],
+    buffer: &mut [u8; WIRE_ROOM],
 ) -> PassAnswer
     requires running { (shows hold.old.history).closed ≡ false }
     requires roomy { IsRoomy hold.old }
@@ -55,39 +65,7 @@ fn read_source<B: Ledgers, S: Source, A: Wire>(
 {
     let _state = hold.state();
     let room = hold.original_room() as usize;
-    if room <= SMALL_ROOM {
-        read_by::<SMALL_ROOM, B, S, A>(rt, bank, hold, source, wire, room)
-    } else if room <= MIDDLE_ROOM {
-        read_by::<MIDDLE_ROOM, B, S, A>(rt, bank, hold, source, wire, room)
-    } else {
-        read_by::<LARGE_ROOM, B, S, A>(rt, bank, hold, source, wire, room)
-    }
-}
-
-/// Reads into room on the stack for `N` bytes. It is never inlined, so that a turn of few bytes doesn't pay for the room of many.
-#[inline(never)]
-fn read_by<const N: usize, B: Ledgers, S: Source, A: Wire>(
-    rt: &impl Wait,
-    bank: &Bank<B>,
-    hold: &mut Hold<B>,
-    source: &mut S,
-    wire: &mut A,
-    room: usize,
-) -> PassAnswer
-    requires running { (shows hold.old.history).closed ≡ false }
-    requires roomy { IsRoomy hold.old }
-    requires agrees { S.agrees (shows hold.old.history) source.old }
-    requires room { room ≡ source_room hold.old }
-    requires fits { room ≤ N }
-    requires size { N ≤ LARGE_ROOM }
-    ensures reports { SourceReported S.Source A.Wire (lending hold.old source.old wire.old) (lending hold.new source.new wire.new) result }
-    ensures reason { HasFaultReason (S.fault source.old) (S.fault source.new) (λ fault. S.has_reason fault source.new) }
-    ensures head { S.head source.new ≡ S.head source.old }
-    ensures whole { result.broken ≡ false }
-    ensures roomy { IsRoomy hold.new }
-{
-    let mut buf = [0; N];
-    take_source(rt, bank, hold, source, wire, &mut buf[..room])
+    take_source(rt, bank, hold, source, wire, &mut body[..room], buffer)
 }
 
 /// Takes what the source gives, into a buffer of the room's length.
@@ -98,6 +76,7 @@ pub(crate) fn take_source<B: Ledgers, S: Source, A: Wire>(
     source: &mut S,
     wire: &mut A,
     out: &mut [u8],
+    buffer: &mut [u8; WIRE_ROOM],
 ) -> PassAnswer
     requires running { (shows hold.old.history).closed ≡ false }
     requires roomy { IsRoomy hold.old }
@@ -110,7 +89,7 @@ pub(crate) fn take_source<B: Ledgers, S: Source, A: Wire>(
     ensures roomy { IsRoomy hold.new }
 {
     let _state = hold.state();
-    match source.read_turn(wire, out) {
+    match source.read_turn(wire, out, buffer) {
         Ok(turn) => {
             step_all(rt, bank, hold, turn.events.as_slice(), out);
             went_on(turn.waiting)

@@ -13,7 +13,7 @@ use crate::pass::source::source_pass;
 use crate::pass::{PassAnswer, outcome_by};
 use crate::turn::Side;
 use crate::tx::{Going, Making, Tx};
-use adapt_sides::{Hop, Service, Source};
+use adapt_sides::{Hop, Scratch, Service, Source};
 use span_bank::{Bank, Ledgers};
 use std::sync::Wait;
 use wire_kit::Wire;
@@ -27,7 +27,13 @@ impl<B: Ledgers, E: EndTypes> Tx<B, E> {
     }
 
     /// A pass of one side.
-    pub(crate) fn pass(&mut self, rt: &impl Wait, bank: &Bank<B>, side: Side) -> PassAnswer
+    pub(crate) fn pass(
+        &mut self,
+        rt: &impl Wait,
+        bank: &Bank<B>,
+        scratch: &mut Scratch,
+        side: Side,
+    ) -> PassAnswer
         requires running { (shows self.old.hold.history).closed ≡ false }
         ensures goes { ⟦<Self as Going>⟧.goes self.old self.new }
         ensures any { AnyPasses E.Client.Service self.old.pace.reused (⟦<Self as Making>⟧.unmade self.old) side self.old.hold self.new.hold self.new.ends.service result }
@@ -50,6 +56,7 @@ impl<B: Ledgers, E: EndTypes> Tx<B, E> {
                     &mut self.hold,
                     &mut self.ends.source,
                     &mut self.ends.source_wire,
+                    scratch,
                 );
                 self.outcome = outcome_by(passed.failed);
                 passed
@@ -60,6 +67,7 @@ impl<B: Ledgers, E: EndTypes> Tx<B, E> {
                     bank,
                     &mut self.hold,
                     &mut self.ends.service,
+                    scratch,
                     self.pace.reused,
                 );
                 self.outcome = outcome_by(passed.failed);
@@ -78,6 +86,7 @@ impl<B: Ledgers, E: EndTypes> Tx<B, E> {
                     &mut self.ends.next_wire,
                     &mut self.ends.back,
                     &mut self.ends.source_wire,
+                    &mut scratch.wire,
                 );
                 self.outcome = outcome_by(passed.failed);
                 passed

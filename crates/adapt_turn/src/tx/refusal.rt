@@ -18,7 +18,7 @@ use crate::pass::hop::tape_of;
 use crate::turn::{Outcome, TurnAnswer};
 use crate::tx::{Going, Refusing, Tx};
 use adapt_hold::{Hold, fail};
-use adapt_sides::{Hop, Service, Source};
+use adapt_sides::{Hop, Service, Source, WIRE_ROOM};
 use span_bank::{Bank, Ledgers};
 use std::sync::Wait;
 use trace_core::{Cause, Point};
@@ -42,6 +42,7 @@ fn refusal_turn<B: Ledgers, K: Hop, C: Wire>(
     hold: &Hold<B>,
     hop: &mut K,
     wire: &mut C,
+    buffer: &mut [u8; WIRE_ROOM],
 ) -> Option<bool>
     requires message { K.gift hop.old ≡ message → ⊥ }
     requires fault { K.fault hop.old ≡ wire_fault (K.fault hop.old) }
@@ -61,7 +62,7 @@ fn refusal_turn<B: Ledgers, K: Hop, C: Wire>(
     }
     let state = hold.state();
     let tape = tape_of(hold);
-    match hop.write_turn(state, tape, wire) {
+    match hop.write_turn(state, tape, wire, buffer) {
         Ok(turn) => Some(turn.waiting),
         Err(_) => None,
     }
@@ -167,7 +168,7 @@ impl<B: Ledgers, E: EndTypes> Tx<B, E> {
     }
 
     /// Writes what is due of a refusal on the user's wire.
-    fn refusal(&mut self) -> Option<bool>
+    fn refusal(&mut self, buffer: &mut [u8; WIRE_ROOM]) -> Option<bool>
         requires due { self.old.refusing ≡ true }
         requires over { (shows self.old.hold.history).closed ≡ true }
         ensures goes { ⟦<Self as Going>⟧.goes self.old self.new }
@@ -186,17 +187,19 @@ impl<B: Ledgers, E: EndTypes> Tx<B, E> {
                 &self.hold,
                 &mut self.ends.back,
                 &mut self.ends.source_wire,
+                buffer,
             ),
             Point::Respmod => refusal_turn(
                 &self.hold,
                 &mut self.ends.next,
                 &mut self.ends.next_wire,
+                buffer,
             ),
         }
     }
 
     /// A turn of a closed transaction: it writes a refusal that is due.
-    pub(crate) fn closed_turn(&mut self) -> TurnAnswer
+    pub(crate) fn closed_turn(&mut self, buffer: &mut [u8; WIRE_ROOM]) -> TurnAnswer
         requires over { (shows self.old.hold.history).closed ≡ true }
         ensures goes { ⟦<Self as Going>⟧.goes self.old self.new }
         ensures pace { self.new.pace ≡ self.old.pace }
@@ -216,7 +219,7 @@ impl<B: Ledgers, E: EndTypes> Tx<B, E> {
             return TurnAnswer::Finished(self.outcome);
         }
         let before = self.counts();
-        let waits = self.refusal();
+        let waits = self.refusal(buffer);
         let moved = self.counts().since(before);
         match waits {
             Some(waiting) => {

@@ -17,7 +17,7 @@ use crate::ends::EndTypes;
 use crate::pass::PassAnswer;
 use crate::turn::{Outcome, Side, TurnAnswer};
 use crate::tx::{Answering, Going, Making, Refusing, Tx};
-use adapt_sides::{Hop, Service, Source};
+use adapt_sides::{Hop, Scratch, Service, Source};
 use span_bank::{Bank, Ledgers};
 use std::sync::Wait;
 use trace_core::Cause;
@@ -52,7 +52,14 @@ impl<B: Ledgers, E: EndTypes> Tx<B, E> {
     /// moving a byte. A turn that fails answers what its wires moved before; Finished comes
     /// with a later one, once a refusal that is due is out or its wire has failed. The records that its clauses cite are in specs/Turn
     /// and specs/TurnAnswers.
-    pub fn turn(&mut self, rt: &impl Wait, bank: &Bank<B>, side: Side, now: u64) -> TurnAnswer
+    pub fn turn(
+        &mut self,
+        rt: &impl Wait,
+        bank: &Bank<B>,
+        scratch: &mut Scratch,
+        side: Side,
+        now: u64,
+    ) -> TurnAnswer
         ensures goes { ⟦<Self as Going>⟧.goes self.old self.new }
         ensures answers { ⟦<Self as Answering>⟧.answers self.old side self.new result }
         ensures keeps { ⟦<Self as Answering>⟧.keeps self.old side self.new }
@@ -74,7 +81,7 @@ impl<B: Ledgers, E: EndTypes> Tx<B, E> {
             → E.Reader.is_over self.new.ends.source → (shows self.new.hold.history).ended ≡ true }
     {
         if self.is_closed() {
-            return self.closed_turn();
+            return self.closed_turn(&mut scratch.wire);
         }
         let before = self.counts();
         if self.pace.is_late(now) {
@@ -84,7 +91,7 @@ impl<B: Ledgers, E: EndTypes> Tx<B, E> {
         if matches!(side, Side::Service) && self.is_broken() {
             return TurnAnswer::Broken;
         }
-        let passed = self.pass(rt, bank, side);
+        let passed = self.pass(rt, bank, scratch, side);
         let moved = self.counts().since(before);
         self.after_pass(passed, moved, now)
     }
@@ -114,7 +121,13 @@ impl<B: Ledgers, E: EndTypes> Tx<B, E> {
 
     /// Turns by a schedule, each at the moment of the last moved byte, so that no deadline of at least a second passes. One of no
     /// second passes at once.
-    pub fn drive(&mut self, rt: &impl Wait, bank: &Bank<B>, schedule: &[Side])
+    pub fn drive(
+        &mut self,
+        rt: &impl Wait,
+        bank: &Bank<B>,
+        scratch: &mut Scratch,
+        schedule: &[Side],
+    )
         ensures goes { ⟦<Self as Going>⟧.goes self.old self.new }
         ensures timed { (self.new.pace.last_moved ≡ self.old.pace.last_moved) × (self.new.pace.deadline ≡ self.old.pace.deadline) }
         ensures turns { Drives (λ old side new. (turned : AnyAnswer) × ⟦<Self as Answering>⟧.answers old side new turned × ⟦<Self as Answering>⟧.keeps old side new
@@ -136,8 +149,8 @@ impl<B: Ledgers, E: EndTypes> Tx<B, E> {
             [] => {}
             [side, rest @ ..] => {
                 let now = self.pace.last_moved;
-                self.turn(rt, bank, *side, now);
-                self.drive(rt, bank, rest);
+                self.turn(rt, bank, scratch, *side, now);
+                self.drive(rt, bank, scratch, rest);
             }
         }
     }

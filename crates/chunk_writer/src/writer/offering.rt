@@ -4,11 +4,11 @@ ghost use Rattle.std.specs.Prelude.{◌≡◌, ◌+◌, ◌-◌, ◌<◌, ◌≤
 ghost use Rattle.wire_kit.specs.Past.{Offers, delta_of, part_taken};
 ghost use Rattle.chunk_writer.specs.Writer.{IsIdle, waiting, data_text, end_text, next_text, offered, MayGoOn};
 ghost use Rattle.chunk_writer.specs.Moves.{Moves, Passes, IsStill};
-ghost use Rattle.chunk_writer.specs.declared.draft.TheConstants.{LARGE, LONG_HEAD};
+ghost use Rattle.chunk_writer.specs.declared.draft.TheConstants.{LONG_HEAD, WRITE_ROOM};
 ghost use Rattle.chunk_writer.specs.declared.next.TheConstants.{MAX_CHUNK};
 
 use super::{ChunkWriter, Wrote};
-use crate::draft::{Draft, LARGE, LONG_HEAD, ROOM, SHORT};
+use crate::draft::{Draft, LONG_HEAD, WRITE_ROOM};
 use crate::next::Next;
 use span_tape::SpanTape;
 use wire_kit::{Put, Wire};
@@ -20,7 +20,7 @@ impl ChunkWriter {
         requires few { next.now.count ≤ MAX_CHUNK }
         requires fits { length self.now.head - self.now.head_out ≤ LONG_HEAD }
         ensures need { result ≡ length (waiting self.now) + next.now.count + 130 }
-        ensures room { result ≤ LARGE }
+        ensures room { result ≤ WRITE_ROOM }
     {
         let waiting = self.head.as_slice().len() - self.head_out
             + (self.framing.as_slice().len() - self.framing_out);
@@ -29,8 +29,8 @@ impl ChunkWriter {
 
     /// Composes what waits.
     #[tactic(auto, using(crate::proofs::Texts::length_waiting))]
-    fn put_waiting<const N: usize>(&self, draft: &mut Draft<N>)
-        requires room { length (waiting self.now) ≤ N }
+    fn put_waiting(&self, draft: &mut Draft<'_>)
+        requires room { length (waiting self.now) ≤ WRITE_ROOM }
         requires empty { draft.old ≡ [] }
         ensures { draft.new ≡ waiting self.now }
     {
@@ -39,16 +39,10 @@ impl ChunkWriter {
     }
 
     /// Composes the body bytes and what follows them.
-    fn put_data<const N: usize>(
-        &self,
-        left: u64,
-        next: &Next,
-        tape: &SpanTape,
-        draft: &mut Draft<N>,
-    )
+    fn put_data(&self, left: u64, next: &Next, tape: &SpanTape, draft: &mut Draft<'_>)
         requires next { MayGoOn self.now tape.now next.now }
         requires more { 0 < next.now.count }
-        requires room { length draft.old + next.now.count + 66 ≤ N }
+        requires room { length draft.old + next.now.count + 66 ≤ WRITE_ROOM }
         ensures { draft.new ≡ draft.old ++ data_text left tape.now next.now }
     {
         draft.put_places(tape, next.from, next.count as usize);
@@ -61,9 +55,9 @@ impl ChunkWriter {
     }
 
     /// Composes what comes next.
-    fn put_next<const N: usize>(&self, next: &Next, tape: &SpanTape, draft: &mut Draft<N>)
+    fn put_next(&self, next: &Next, tape: &SpanTape, draft: &mut Draft<'_>)
         requires next { MayGoOn self.now tape.now next.now }
-        requires room { length draft.old + next.now.count + 130 ≤ N }
+        requires room { length draft.old + next.now.count + 130 ≤ WRITE_ROOM }
         ensures { draft.new ≡ draft.old ++ next_text self.now.left tape.now next.now }
     {
         if next.count == 0 {
@@ -90,15 +84,15 @@ impl ChunkWriter {
     }
 
     /// Offers what waits and what comes next, in one write that is composed there.
-    fn offer<const N: usize, W: Wire>(
+    fn offer<W: Wire>(
         &mut self,
-        draft: &mut Draft<N>,
+        draft: &mut Draft<'_>,
         next: &Next,
         tape: &SpanTape,
         wire: &mut W,
     ) -> Wrote
         requires empty { draft.old ≡ [] }
-        requires room { length (waiting self.old) + next.now.count + 130 ≤ N }
+        requires room { length (waiting self.old) + next.now.count + 130 ≤ WRITE_ROOM }
         requires next { MayGoOn self.old tape.now next.now }
         ensures wire { Offers (W.past wire.old) (W.past wire.new) (waiting self.old ++ next_text self.old.left tape.now next.now) result.answer }
         ensures moves { Moves tape.now next.now self.old result.sent result.ended
@@ -140,28 +134,14 @@ impl ChunkWriter {
         }
     }
 
-    /// Offers what waits and what comes next, in one write of many body bytes. It is never inlined: its room is on the stack, and other
-    /// writes don't pay for it.
-    #[inline(never)]
-    fn write_many<W: Wire>(&mut self, next: &Next, tape: &SpanTape, wire: &mut W) -> Wrote
-        requires room { length (waiting self.old) + next.now.count + 130 ≤ LARGE }
-        requires next { MayGoOn self.old tape.now next.now }
-        ensures wire { Offers (W.past wire.old) (W.past wire.new) (waiting self.old ++ next_text self.old.left tape.now next.now) result.answer }
-        ensures moves { Moves tape.now next.now self.old result.sent result.ended
-            (delta_of (waiting self.old ++ next_text self.old.left tape.now next.now) result.answer) self.new }
-        ensures idle { result.answer ≡ None → IsIdle self.old next.now result.sent result.ended }
-        ensures out { result.answer ≡ None → waiting self.new ≡ [] }
-        ensures still { IsStill result.answer result.sent result.ended }
-        ensures silent { result.answer ≡ None → waiting self.old ++ next_text self.old.left tape.now next.now ≡ [] }
-        ensures asks { waiting self.old ++ next_text self.old.left tape.now next.now ≡ [] → result.answer ≡ None }
-    {
-        let mut draft = Draft::<LARGE>::new();
-        self.offer(&mut draft, next, tape, wire)
-    }
-
-    /// Offers what waits and what comes next, in one write. Most texts are short, and room for a longer one is made for those
-    /// alone that need it.
-    fn write_all<W: Wire>(&mut self, next: &Next, tape: &SpanTape, wire: &mut W) -> Wrote
+    /// Offers what waits and what comes next, in one write.
+    fn write_all<W: Wire>(
+        &mut self,
+        next: &Next,
+        tape: &SpanTape,
+        wire: &mut W,
+        buffer: &mut [u8; WRITE_ROOM],
+    ) -> Wrote
         requires fits { length self.old.head - self.old.head_out ≤ LONG_HEAD }
         requires next { MayGoOn self.old tape.now next.now }
         ensures wire { Offers (W.past wire.old) (W.past wire.new) (waiting self.old ++ next_text self.old.left tape.now next.now) result.answer }
@@ -173,16 +153,10 @@ impl ChunkWriter {
         ensures silent { result.answer ≡ None → waiting self.old ++ next_text self.old.left tape.now next.now ≡ [] }
         ensures asks { waiting self.old ++ next_text self.old.left tape.now next.now ≡ [] → result.answer ≡ None }
     {
-        let need = self.need(next);
-        if need <= SHORT {
-            let mut draft = Draft::<SHORT>::new();
-            self.offer(&mut draft, next, tape, wire)
-        } else if need <= ROOM {
-            let mut draft = Draft::<ROOM>::new();
-            self.offer(&mut draft, next, tape, wire)
-        } else {
-            self.write_many(next, tape, wire)
-        }
+        // For the proof alone: the buffer has the room.
+        let _ = self.need(next);
+        let mut draft = Draft::new(buffer);
+        self.offer(&mut draft, next, tape, wire)
     }
 
     /// Whether nothing waits, and no text comes next.
@@ -195,9 +169,15 @@ impl ChunkWriter {
     }
 
     /// Writes what is due, with one write at most: what waits, then the bytes that may come next, and after them the
-    /// body's end. Counts what the wire took of it.
+    /// body's end. It is composed in the buffer. Counts what the wire took of it.
     #[tactic(auto, using(crate::proofs::Moving::still_none))]
-    pub fn write<W: Wire>(&mut self, next: &Next, tape: &SpanTape, wire: &mut W) -> Wrote
+    pub fn write<W: Wire>(
+        &mut self,
+        next: &Next,
+        tape: &SpanTape,
+        wire: &mut W,
+        buffer: &mut [u8; WRITE_ROOM],
+    ) -> Wrote
         requires { MayGoOn self.old tape.now next.now }
         ensures wire { Offers (W.past wire.old) (W.past wire.new) (offered self.old tape.now next.now) result.answer }
         ensures moves { Moves tape.now next.now self.old result.sent result.ended
@@ -226,6 +206,6 @@ impl ChunkWriter {
                 ended: false,
             };
         }
-        self.write_all(next, tape, wire)
+        self.write_all(next, tape, wire, buffer)
     }
 }

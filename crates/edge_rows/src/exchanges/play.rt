@@ -4,6 +4,7 @@ ghost use Rattle.shard_exchange.specs.Hand.{IsFresh};
 
 use crate::exchanges::memory::Moment;
 use crate::stage::{Peer, Stage, first_word, name_of};
+use adapt_sides::Scratch;
 use exchange_core::Phase;
 use proxy_rules::Incoming;
 use shard_exchange::{Effects, Exchange, Holder, Step, Task};
@@ -44,7 +45,8 @@ impl<H: Effects<Moment>> Live for LiveExchange<H> {
     }
 
     fn act<R: Wait>(&mut self, rt: &R, at: Moment, task: Task) -> Step {
-        self.exchange.act(rt, &at, &mut self.memory, task)
+        self.exchange
+            .act(rt, &at, &mut self.memory, &mut Scratch::zeroed(), task)
     }
 
     fn drain(&mut self) {

@@ -1,5 +1,6 @@
 //! The heads with which messages go on, and whether the user's connection ends after them.
 use crate::rules::services::wire_of;
+use adapt_sides::{MAX_READ, WIRE_ROOM};
 use adapt_turn::Outcome;
 use http_relay::SourceSide;
 use http_side::{NextServer, OriginUse, OriginWay};
@@ -14,8 +15,8 @@ fn user_side(alloc: Global, text: &[u8]) -> Result<SourceSide, NoMemory> {
     let mut side = SourceSide::request(alloc);
     if !text.is_empty() {
         let mut wire = wire_of(alloc, text)?;
-        let _ = side.head_turn(&mut wire);
-        let _ = side.read_turn(&mut wire, &mut [0; 16]);
+        let _ = side.head_turn(&mut wire, &mut [0; MAX_READ]);
+        let _ = side.read_turn(&mut wire, &mut [0; 16], &mut [0; WIRE_ROOM]);
     }
     Ok(side)
 }
@@ -23,7 +24,7 @@ fn user_side(alloc: Global, text: &[u8]) -> Result<SourceSide, NoMemory> {
 /// The side of an origin with this response.
 fn origin_side(alloc: Global, text: &[u8]) -> Result<SourceSide, NoMemory> {
     let mut side = SourceSide::response(alloc, false);
-    let _ = side.head_turn(&mut wire_of(alloc, text)?);
+    let _ = side.head_turn(&mut wire_of(alloc, text)?, &mut [0; MAX_READ]);
     Ok(side)
 }
 

@@ -1,5 +1,6 @@
 //! Plans, and what is offered to a service.
 use crate::rules::services::{record_of, service_of, wire_of};
+use adapt_sides::WIRE_ROOM;
 use http_side::{HttpRequest, HttpResponse, read_request, read_response};
 use options_book::Record;
 use plan_rules::{Limits, Plan};
@@ -87,7 +88,12 @@ fn put_offer(alloc: Global, offer: Offer, out: &mut Vec<u8>) -> Result<(), NoMem
         return Ok(());
     };
     let mut wire = wire_of(alloc, b"")?;
-    let _ = side.write_turn(&State::begin(plan), &SpanTape::new(), &mut wire);
+    let _ = side.write_turn(
+        &State::begin(plan),
+        &SpanTape::new(),
+        &mut wire,
+        &mut [0; WIRE_ROOM],
+    );
     out.extend_from_slice(wire.taken())
 }
 

@@ -1,5 +1,6 @@
 //! What becomes of an origin's connection after an answer (RFC 9112, section 9.3), and which requests may be sent again (RFC 9110,
 //! section 9.2).
+use adapt_sides::{MAX_READ, WIRE_ROOM};
 use adapt_turn::Outcome;
 use http_relay::{HeadProgress, SourceSide};
 use http_side::read_request;
@@ -27,12 +28,12 @@ fn side_of(alloc: Global, text: &[u8], scene: Scene<'_>) -> Result<SourceSide, N
     let mut side = SourceSide::response(alloc, scene.has(b"to-head"));
     let mut wire = wire_of(alloc, text, scene.has(b"ends"))?;
     for _ in 0..TURNS {
-        if let Ok(HeadProgress::Taken) = side.head_turn(&mut wire) {
+        if let Ok(HeadProgress::Taken) = side.head_turn(&mut wire, &mut [0; MAX_READ]) {
             break;
         }
     }
     for _ in 0..TURNS {
-        let _ = side.read_turn(&mut wire, &mut [0; 64]);
+        let _ = side.read_turn(&mut wire, &mut [0; 64], &mut [0; WIRE_ROOM]);
     }
     Ok(side)
 }

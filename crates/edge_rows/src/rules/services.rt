@@ -1,4 +1,5 @@
 //! What is known of a service: its configuration, and the record of its options.
+use adapt_sides::MAX_READ;
 use icap_client::OptionsSide;
 use icap_head::{IcapResponse, read_response};
 use options_book::{Record, read_record};
@@ -64,7 +65,7 @@ pub trait Writes {
 
 impl Writes for OptionsSide {
     fn write<W: Wire>(&mut self, wire: &mut W) {
-        let _ = self.turn(wire);
+        let _ = self.turn(wire, &mut [0; MAX_READ]);
     }
 }
 

@@ -5,7 +5,7 @@ ghost use Rattle.icap_client.specs.Sending.{KeepsUnsent};
 
 use crate::engines::kept::Kept;
 use crate::engines::replies::{MAX_IDLE, ROOM, Told};
-use adapt_sides::{ClientFault, Turn};
+use adapt_sides::{ClientFault, Turn, WIRE_ROOM};
 use icap_client::ServiceSide;
 use span_tape::SpanTape;
 use std::alloc::Global;
@@ -43,11 +43,13 @@ struct Wired {
 
 impl PlayedService for Wired {
     fn write(&mut self, state: &State, tape: &SpanTape) -> Result<Turn, ClientFault> {
-        self.side.write_turn(state, tape, &mut self.first)
+        self.side
+            .write_turn(state, tape, &mut self.first, &mut [0; WIRE_ROOM])
     }
 
     fn read(&mut self, state: &State, out: &mut [u8]) -> Result<Turn, ClientFault> {
-        self.side.read_turn(state, &mut self.first, out)
+        self.side
+            .read_turn(state, &mut self.first, out, &mut [0; WIRE_ROOM])
     }
 
     fn restart(&mut self) {

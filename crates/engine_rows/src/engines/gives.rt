@@ -2,6 +2,7 @@
 
 use crate::engines::kept::Kept;
 use crate::engines::relays::{End, is_in_step, step};
+use adapt_sides::WIRE_ROOM;
 use http_relay::HopWriter;
 use http_side::Framing;
 use std::alloc::Global;
@@ -40,7 +41,7 @@ fn hop_of(alloc: Global, scene: Scene<'_>) -> Result<HopWriter, NoMemory> {
 /// A turn of the side.
 fn write(hop: &mut HopWriter, state: &mut State, kept: &mut Kept, wire: &mut MemoryWire) {
     if is_in_step(state, kept.tape())
-        && let Ok(turn) = hop.write_turn(state, kept.tape(), wire)
+        && let Ok(turn) = hop.write_turn(state, kept.tape(), wire, &mut [0; WIRE_ROOM])
     {
         let _ = step(state, &turn);
         kept.drop_to(state.seen().adapted_delivered);

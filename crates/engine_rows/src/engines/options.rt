@@ -1,7 +1,7 @@
 //! Asking a service for its options.
 
 use crate::engines::replies::MAX_IDLE;
-use adapt_sides::ClientFault;
+use adapt_sides::{ClientFault, MAX_READ};
 use icap_client::OptionsSide;
 use icap_head::IcapResponse;
 use std::alloc::Global;
@@ -55,7 +55,7 @@ fn put_asked(
     let mut idle: usize = 0;
     for _ in 0..scene.number_or(b"turns", values, 250) {
         let before = wire.counts();
-        match side.turn(wire) {
+        match side.turn(wire, &mut [0; MAX_READ]) {
             Ok(Some(head)) => answer = Some(head),
             Ok(None) => {}
             Err(found) => fault = Some(found),

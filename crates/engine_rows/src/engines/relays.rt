@@ -4,6 +4,7 @@ ghost use Rattle.trace_core.specs.History.{shows};
 ghost use Rattle.adapt_sides.specs.Tapes.{KeepsUndelivered};
 
 use crate::engines::kept::Kept;
+use adapt_sides::{MAX_READ, WIRE_ROOM};
 use http_relay::{HeadProgress, HopWriter, RelayFault, SourceSide, Turn};
 use http_side::{
     BodyKind, Forward, Framing, HttpFault, HttpRequest, Message, OriginUse, OriginWay,
@@ -130,9 +131,12 @@ impl Wired {
 impl Ends for Wired {
     fn read(&mut self, alloc: Global, out: &mut [u8]) -> Result<Option<Turn>, RelayFault> {
         if !self.hop.is_idle() {
-            return Ok(Some(self.source.read_turn(&mut self.from, out)?));
+            return Ok(Some(
+                self.source
+                    .read_turn(&mut self.from, out, &mut [0; WIRE_ROOM])?,
+            ));
         }
-        let came = self.source.head_turn(&mut self.from)?;
+        let came = self.source.head_turn(&mut self.from, &mut [0; MAX_READ])?;
         if came == HeadProgress::Taken && self.begin(alloc).is_err() {
             return Err(RelayFault::NoMemory);
         }
@@ -140,7 +144,8 @@ impl Ends for Wired {
     }
 
     fn write(&mut self, state: &State, tape: &SpanTape) -> Result<Turn, RelayFault> {
-        self.hop.write_turn(state, tape, &mut self.to)
+        self.hop
+            .write_turn(state, tape, &mut self.to, &mut [0; WIRE_ROOM])
     }
 
     fn go_on(&mut self, alloc: Global) {

@@ -1,6 +1,6 @@
 //! Replies of a service, and what its side reports of them.
 
-use adapt_sides::{ClientFault, Turn};
+use adapt_sides::{ClientFault, Turn, WIRE_ROOM};
 use icap_client::ReplySide;
 use std::alloc::Global;
 use test_rows::{
@@ -117,7 +117,13 @@ fn read(
     let mut idle: usize = 0;
     for turn in 0..turns {
         let mut out = [0; ROOM];
-        let found = side.read_turn(state, turn >= early, wire, &mut out[..room.min(ROOM)]);
+        let found = side.read_turn(
+            state,
+            turn >= early,
+            wire,
+            &mut out[..room.min(ROOM)],
+            &mut [0; WIRE_ROOM],
+        );
         if turn < early && matches!(&found, Ok(turn) if turn.waiting) {
             told.keep_waiting();
         }

@@ -7,6 +7,7 @@ ghost use Rattle.plan_rules.specs.Claims.{claim_of};
 use crate::stage::game::{Lines, Played, undo};
 use crate::stage::sides::{Sides, Subject, Wires, make_sides};
 use crate::stage::told::Counted;
+use adapt_sides::Scratch;
 use adapt_turn::Side;
 use http_side::{OriginUse, OriginWay};
 use plan_rules::{LEAST_TURN, Limits, Pace, claim};
@@ -153,7 +154,12 @@ fn start<'a, B: Ledgers, A: Wire + Drop, C: Wire + Drop, R: Wait>(
         origin: OriginWay::straight(OriginUse::Once),
     };
     let begun = laws::from_the_beginning_the_wires_take_one_message(
-        rt, alloc, bank, beginning, first,
+        rt,
+        alloc,
+        bank,
+        beginning,
+        &mut Scratch::zeroed(),
+        first,
     );
     match begun {
         Ok(running) => Some(Played {

@@ -3,6 +3,7 @@
 ghost use Rattle.std.specs.Prelude.{◌≡◌};
 
 use crate::stage::told::{Recorded, Told, record_of};
+use adapt_sides::Scratch;
 use adapt_turn::{EndTypes, Ends, FreedConnection, Outcome, ServiceEnd, Side, TurnAnswer, TxParts};
 use proxy_rules::{Beginning, Running, Wires};
 use span_bank::{Bank, Ledgers, Pages};
@@ -86,7 +87,8 @@ impl<'a, B: Ledgers, A: Wire + Drop + Recorded, C: Wire + Drop + Recorded, R: Wa
     }
 
     fn take_turns(&mut self, order: &[Side]) {
-        self.running.drive(self.rt, self.bank, order)
+        self.running
+            .drive(self.rt, self.bank, &mut Scratch::zeroed(), order)
     }
 
     fn stop(&mut self) {
@@ -126,7 +128,7 @@ fn take_turn<B: Ledgers, W: Wires, R: Wait>(
     side: Side,
     now: u64,
 ) -> TurnAnswer {
-    running.turn(rt, bank, side, now)
+    running.turn(rt, bank, &mut Scratch::zeroed(), side, now)
 }
 
 /// Begins anew on a fresh connection if the service's broke before a byte of a reply; without a fresh one it fails.

@@ -1,5 +1,6 @@
 //! The sides of a transaction, and its wires.
 
+use adapt_sides::{MAX_READ, WIRE_ROOM};
 use http_relay::{HeadProgress, RelayFault, SourceSide};
 use proxy_rules::{Incoming, Offer};
 use std::alloc::{AllocError, Global};
@@ -48,10 +49,10 @@ fn user_side(alloc: Global, request: &[u8]) -> Result<SourceSide, AllocError> {
     let reads = [ReadAnswer::Bytes(4096)].to_vec(alloc)?;
     let mut wire = MemoryWire::new(alloc, request.to_vec(alloc)?, reads, Vec::new(alloc))?;
     let mut side = SourceSide::request(alloc);
-    if side.head_turn(&mut wire) == Err(RelayFault::NoMemory) {
+    if side.head_turn(&mut wire, &mut [0; MAX_READ]) == Err(RelayFault::NoMemory) {
         return Err(AllocError);
     }
-    let _ = side.read_turn(&mut wire, &mut []);
+    let _ = side.read_turn(&mut wire, &mut [], &mut [0; WIRE_ROOM]);
     Ok(side)
 }
 
@@ -78,7 +79,7 @@ impl Message for Incoming {
 
     fn reads_head(&mut self, wire: &mut impl Wire) -> Result<bool, AllocError> {
         for _ in 0..HEAD_TURNS {
-            match self.head_turn(wire) {
+            match self.head_turn(wire, &mut [0; MAX_READ]) {
                 Ok(HeadProgress::Taken) => return Ok(true),
                 Err(RelayFault::NoMemory) => return Err(AllocError),
                 _ => {}

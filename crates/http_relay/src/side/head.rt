@@ -179,8 +179,13 @@ impl SourceSide {
     }
 
     /// Judges the raw bytes, and reads the wire once if they have no head yet.
-    fn judge_or_read<W: Wire>(&mut self, wire: &mut W) -> Result<HeadProgress, RelayFault>
-        requires { self.old.head ≡ SourceHead.Unread }
+    fn judge_or_read<W: Wire>(
+        &mut self,
+        wire: &mut W,
+        buffer: &mut [u8],
+    ) -> Result<HeadProgress, RelayFault>
+        requires unread { self.old.head ≡ SourceHead.Unread }
+        requires room { 0 < length buffer.old }
         ensures turn { HeadTurn self.old self.new (W.past wire.old) (W.past wire.new) result }
         ensures asks { self.new.asks ≡ self.old.asks }
     {
@@ -190,7 +195,7 @@ impl SourceSide {
             Ok(HeadProgress::Taken) => return Ok(HeadProgress::Taken),
             Err(fault) => return Err(fault),
         }
-        match fill(&mut self.raw, wire, MAX_READ) {
+        match fill(&mut self.raw, wire, MAX_READ, buffer) {
             Filled::Bytes => self.judge(),
             Filled::Wait => Ok(HeadProgress::More),
             Filled::Ended => Err(RelayFault::Closed),
@@ -200,20 +205,30 @@ impl SourceSide {
     }
 
     /// Runs [`SourceSide::judge_or_read`], and then keeps no empty room.
-    fn try_head<W: Wire>(&mut self, wire: &mut W) -> Result<HeadProgress, RelayFault>
-        requires { self.old.head ≡ SourceHead.Unread }
+    fn try_head<W: Wire>(
+        &mut self,
+        wire: &mut W,
+        buffer: &mut [u8],
+    ) -> Result<HeadProgress, RelayFault>
+        requires unread { self.old.head ≡ SourceHead.Unread }
+        requires room { 0 < length buffer.old }
         ensures turn { HeadTurn self.old self.new (W.past wire.old) (W.past wire.new) result }
         ensures asks { self.new.asks ≡ self.old.asks }
         ensures empty { self.new.raw.items ≡ [] → self.new.raw.spare ≡ 0 }
     {
-        let result = self.judge_or_read(wire);
+        let result = self.judge_or_read(wire, buffer);
         self.free_memory();
         result
     }
 
     /// Reads the message's head: Taken once it was read. The raw bytes come first, then the wire is read once at most.
     /// A turn drops one interim response at most. It refuses 101, and the interim response after [`MAX_INTERIMS`]. A fault stays.
-    pub fn head_turn<W: Wire>(&mut self, wire: &mut W) -> Result<HeadProgress, RelayFault>
+    pub fn head_turn<W: Wire>(
+        &mut self,
+        wire: &mut W,
+        buffer: &mut [u8],
+    ) -> Result<HeadProgress, RelayFault>
+        requires room { 0 < length buffer.old }
         ensures turn { self.old.fault ≡ None → self.old.head ≡ SourceHead.Unread → HeadTurn self.old self.new (W.past wire.old) (W.past wire.new) result }
         ensures empty { self.old.fault ≡ None → self.old.head ≡ SourceHead.Unread → self.new.raw.items ≡ [] → self.new.raw.spare ≡ 0 }
         ensures read { self.old.fault ≡ None → (self.old.head ≡ SourceHead.Unread → ⊥) → (result ≡ Ok HeadProgress.Taken) × (self.new ≡ self.old) }
@@ -228,7 +243,7 @@ impl SourceSide {
         if !self.is_unread() {
             return Ok(HeadProgress::Taken);
         }
-        match self.try_head(wire) {
+        match self.try_head(wire, buffer) {
             Ok(progress) => Ok(progress),
             Err(fault) => {
                 self.fault = Some(fault);
