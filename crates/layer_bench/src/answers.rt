@@ -1,8 +1,5 @@
 //! Responses of a service, of 509 bytes with 10 fields and of 1,489 bytes with 30 fields, read again and again.
-use adapt_bytes::MAX_FIELDS;
-use httparse::Status;
-use httparse::spans::{EMPTY_HEADER_SPAN, parse_response};
-use icap_head::{NoMemory, read_response};
+use icap_head::NoMemory;
 use std::alloc::Global;
 
 pub const TEN_FIELDS: &[u8] = b"ICAP/1.0 200 OK\r\n\
@@ -56,27 +53,4 @@ pub fn as_http(alloc: Global, text: &[u8]) -> Result<Vec<u8>, NoMemory> {
     let mut http = b"HTTP/1.1".to_vec(alloc)?;
     http.extend_from_slice(&text[text.len().min(8)..])?;
     Ok(http)
-}
-
-/// Parses it, and sums the bytes of the heads.
-pub fn parse_answers(text: &[u8], times: u32) -> u64 {
-    let mut bytes: u64 = 0;
-    for _ in 0..times {
-        let mut lines = [EMPTY_HEADER_SPAN; MAX_FIELDS];
-        if let Ok(Status::Complete(spans)) = parse_response(text, &mut lines) {
-            bytes = bytes.saturating_add(spans.len as u64);
-        }
-    }
-    bytes
-}
-
-/// Reads it, and sums the bytes of the heads.
-pub fn read_answers(alloc: Global, text: &[u8], times: u32) -> u64 {
-    let mut bytes: u64 = 0;
-    for _ in 0..times {
-        if let Ok(head) = read_response(alloc, text) {
-            bytes = bytes.saturating_add(head.length as u64);
-        }
-    }
-    bytes
 }

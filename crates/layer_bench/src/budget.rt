@@ -11,7 +11,6 @@ use crate::threads::rounds_of_four;
 use anyhow::Result;
 use span_bank::{Bank, Ledgers, Pages, Stake};
 use span_tape::SpanTape;
-use std::alloc::Global;
 use std::sync::Wait;
 use std::thread::Threads;
 use std::time::{Clock, Duration, Instant};
@@ -41,34 +40,22 @@ pub fn time_pairs<B: Ledgers, R: Wait + Clock>(
 }
 
 /// How long it took to copy a piece into a buffer and out of it, for all rounds.
-fn time_copies<R: Clock>(rt: &R, alloc: Global, rounds: u32) -> Result<Duration> {
+fn time_copies<R: Clock>(rt: &R, rounds: u32) -> Result<Duration> {
     let input = [7; 4096];
+    let mut buffer = [0; 4096];
     let mut out = [0; 4096];
-    let mut room = Vec::with_capacity(alloc, 4096)?;
-    room.extend_from_slice(&out)?;
     let start = Instant::now(rt)?;
     for _ in 0..rounds {
-        copy_in(&mut room, &input);
-        copy_back(&room, &mut out);
+        copy(&input, &mut buffer);
+        copy(&buffer, &mut out);
     }
     Ok(start.elapsed(rt)?)
 }
 
-// Copies a piece into a buffer.
+// Copies a piece.
 #[inline(never)]
-fn copy_in(room: &mut [u8], input: &[u8; 4096])
-    requires { length room.old ≡ 4096 }
-    ensures { length room.new ≡ 4096 }
-{
-    room.copy_from_slice(input);
-}
-
-// Copies a piece out of a buffer.
-#[inline(never)]
-fn copy_back(room: &[u8], out: &mut [u8; 4096])
-    requires { length room.now ≡ 4096 }
-{
-    out.copy_from_slice(room);
+fn copy(from: &[u8; 4096], to: &mut [u8; 4096]) {
+    to.copy_from_slice(from);
 }
 
 /// How long whole turns took on a tape that keeps this number of pieces: in each a piece comes, is copied
@@ -115,18 +102,15 @@ fn turn<B: Ledgers>(
     bank: &Bank<B>,
     stake: &mut Stake<B>,
     tape: &mut SpanTape,
-    input: &[u8],
-    out: &mut [u8],
+    input: &[u8; 4096],
+    out: &mut [u8; 4096],
 )
-    requires input { length input.now ≡ 4096 }
-    requires out { length out.old ≡ 4096 }
     requires room { stake.old.held + 4096 ≤ stake.old.claim }
     requires claim { stake.old.claim ≤ MAX_CAPACITY }
     requires pieces { (stake.old.held ≡ 4096 * stake.old.pages) × (length tape.old.bytes ≡ stake.old.held) × (tape.old.start ≡ 0) }
     requires fits { end_of tape.old + 4096 < COUNT_LIMIT }
     ensures stake { stake.new ≡ stake.old }
     ensures tape { (length tape.new.bytes ≡ stake.old.held) × (tape.new.start ≡ 0) × (tape.new.base ≡ tape.old.base + 4096) }
-    ensures out { length out.new ≡ 4096 }
 {
     let more = tape.pages_for(PIECE);
     let mut pages = bank.grow(rt, stake, PIECE, more);
@@ -146,12 +130,7 @@ fn put_each<R: Eprint>(rt: &R, name: &str, took: Duration, rounds: u32) -> Resul
 }
 
 /// Prints what one thread takes.
-fn time_one<P: BenchBudget, R: Clock + Eprint>(
-    rt: &R,
-    alloc: Global,
-    budget: &P,
-    rounds: u32,
-) -> Result<()> {
+fn time_one<P: BenchBudget, R: Clock + Eprint>(rt: &R, budget: &P, rounds: u32) -> Result<()> {
     put_each(
         rt,
         "a grow and a shrink",
@@ -161,7 +140,7 @@ fn time_one<P: BenchBudget, R: Clock + Eprint>(
     put_each(
         rt,
         "two copies of 4096 bytes",
-        time_copies(rt, alloc, rounds)?,
+        time_copies(rt, rounds)?,
         rounds,
     )?;
     let empty = "grow, append, copy_out, drop_to and shrink of 4096 bytes";
@@ -191,11 +170,10 @@ fn time_four<P: BenchBudget + Sync, R: Threads + Clock + Eprint + Sync>(
 /// Prints what a round takes.
 pub fn time_budget<P: BenchBudget + Sync, R: Threads + Clock + Print + Eprint + Sync>(
     rt: &R,
-    alloc: Global,
     budget: &P,
     rounds: u32,
 ) -> Result<()> {
-    time_one(rt, alloc, budget, rounds)?;
+    time_one(rt, budget, rounds)?;
     time_four(rt, budget, rounds)?;
     println!(rt; "bank: {rounds} rounds")?;
     Ok(())

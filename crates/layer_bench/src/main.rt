@@ -11,10 +11,10 @@ mod bench_budget;
 mod budget;
 mod chunks;
 mod heads;
-mod hostile;
 mod requests;
 mod task;
 mod threads;
+mod work;
 
 use crate::bench_budget::{BenchBudget, OnBank};
 use crate::budget::time_budget;
@@ -49,7 +49,7 @@ fn measure<P: BenchBudget + Sync, R: Threads + Clock + Print + Eprint + Sync>(
     match task.layer {
         Layer::Chunks => time_chunks(rt, alloc, task.times),
         Layer::Heads => time_heads(rt, alloc, task.times),
-        Layer::Bank => time_budget(rt, alloc, budget, task.times),
+        Layer::Bank => time_budget(rt, budget, task.times),
     }
 }
 

@@ -25,14 +25,21 @@ pub struct Task {
     pub times: u32,
 }
 
+/// The layers, by their words.
+const LAYERS: [(&str, Layer); 3] = [
+    ("chunks", Layer::Chunks),
+    ("heads", Layer::Heads),
+    ("bank", Layer::Bank),
+];
+
 /// The layer that a word names.
 fn layer_of(word: &str) -> Option<Layer> {
-    match word {
-        "chunks" => Some(Layer::Chunks),
-        "heads" => Some(Layer::Heads),
-        "bank" => Some(Layer::Bank),
-        _ => None,
+    for (name, layer) in LAYERS.iter() {
+        if *name == word {
+            return Some(*layer);
+        }
     }
+    None
 }
 
 /// The number that a word writes, from 1 to 4,294,967,295.

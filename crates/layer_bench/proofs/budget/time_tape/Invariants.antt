@@ -11,4 +11,4 @@ invariant-loop-piece g l =
 abbrev pub invariant-loop-round : goal.invariant-loop-round
 invariant-loop-round g l =
     (l.stake ≡ record { held = 4096 * l.kept; claim = 4096 * (l.kept + 1); pages = l.kept })
-    × (length l.tape.bytes ≡ 4096 * l.kept) × (l.tape.start ≡ 0) × (l.tape.base ≡ 4096 * l._round) × (length l.out ≡ 4096)
+    × (length l.tape.bytes ≡ 4096 * l.kept) × (l.tape.start ≡ 0) × (l.tape.base ≡ 4096 * l._round)
