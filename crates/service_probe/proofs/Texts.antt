@@ -15,6 +15,12 @@ lines_left n i l = ap lines (one_less n i l)
 pub chunks_left : (n i : ℕ) (body : List ℕ) → i < n → chunks_of (n - i) body ≡ chunk (take 4096 body) ++ chunks_of (n - (i + 1)) (drop 4096 body)
 chunks_left n i body l = ap (λ k. chunks_of k body) (one_less n i l)
 
+-- what is added in two parts is added
+pub two_parts : {A B : Type 0} (r : Result A B) (new mid old x y : List ℕ) → mid ≡ old ++ x
+    → OnOk r (new ≡ mid ++ y) → OnOk r (new ≡ old ++ (x ++ y))
+two_parts (Ok a) new mid old x y e h = h ∙ ap (λ (l : List ℕ). l ++ y) e ∙ append_assoc old x y
+two_parts (Err a) new mid old x y e h = h
+
 -- what is added in three parts is added
 pub three : {A B : Type 0} (r : Result A B) (old one two new x y z : List ℕ) → one ≡ old ++ x → two ≡ one ++ y
     → new ≡ (if is_ok r then two ++ z else two)

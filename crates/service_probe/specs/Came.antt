@@ -89,9 +89,17 @@ abbrev pub serves_text : Bool → List ℕ
 serves_text true = codes "; serves again\n"
 serves_text false = codes "; doesn't serve again\n"
 
--- the line of an attempt: over which connection, with which sample, what came, how long it took, and whether the connection serves again
+-- over which connection a message went, the case's name, and the size of its body
+unfoldable pub trial_text : Way → List ℕ → Option ℕ → List ℕ
+trial_text way name size = (((codes "  " ++ way_text way) ++ codes " ") ++ name) ++ body_text size
+
+-- what came of it, how long that took, and whether the connection serves again
+unfoldable pub answer_text : Attempt → List ℕ
+answer_text a = (((codes ": " ++ came_text a.came) ++ codes "; ") ++ time_text a.micros) ++ serves_text a.serves
+
+-- the line of an attempt
 abbrev pub attempt_text : Way → List ℕ → Option ℕ → Attempt → List ℕ
-attempt_text way name size a = ((((((((codes "  " ++ way_text way) ++ codes " ") ++ name) ++ body_text size) ++ codes ": ") ++ came_text a.came) ++ codes "; ") ++ time_text a.micros) ++ serves_text a.serves
+attempt_text way name size a = trial_text way name size ++ answer_text a
 
 -- a number, and words
 unfoldable pub counted_text : ℕ → List ℕ → List ℕ

@@ -27,7 +27,7 @@ use std::time::{Clock, Instant};
 type Ways = (TextWire, Tap<ServiceWire>, TextWire);
 
 /// How a service answered once.
-#[derive(Debug, Drop)]
+#[derive(Drop)]
 pub struct Attempt {
     pub came: Came,
     /// The microseconds from the first byte of the request to the last one of the answer.

@@ -7,7 +7,7 @@ use adapt_sides::ClientFault;
 use options_book::OptFault;
 
 /// Which rule a service broke, or what else kept its answer away.
-#[derive(Clone, Copy, Debug)]
+#[derive(Clone, Copy)]
 pub enum Fault {
     /// No connection can be had.
     Refused,
@@ -100,7 +100,7 @@ impl Fault {
 }
 
 /// A fault, and where.
-#[derive(Debug, Drop)]
+#[derive(Drop)]
 pub struct Finding {
     pub fault: Fault,
     /// The offset of the first octet that broke the rule, from the beginning of what came since the request began; or how many came.
@@ -110,7 +110,7 @@ pub struct Finding {
 }
 
 /// What came of a message.
-#[derive(Debug, Drop)]
+#[derive(Drop)]
 pub enum Came {
     /// An answer to OPTIONS that serves.
     Options,

@@ -1,7 +1,7 @@
 //! The lines of a report.
 
 ghost use Rattle.std.specs.Prelude.{◌≡◌, ◌++◌, OnOk};
-ghost use Rattle.service_probe.specs.Came.{after_text, size_text, finding_text, came_text, page_words, time_text, way_text, body_text, attempt_text, octets_text, serves_text};
+ghost use Rattle.service_probe.specs.Came.{after_text, size_text, finding_text, came_text, page_words, time_text, way_text, body_text, trial_text, answer_text, attempt_text, octets_text, serves_text};
 
 use crate::attempt::Attempt;
 use crate::finding::{Came, Finding};
@@ -144,6 +144,30 @@ fn serving(serves: bool) -> &'static [u8]
     }
 }
 
+/// Adds over which connection a message went, the case's name, and the size of its body.
+#[tactic(auto, unfolding(crate::specs::Came::trial_text))]
+fn put_trial(out: &mut Vec<u8>, way: Way, name: &[u8], size: Option<u64>) -> Result<(), AllocError>
+    ensures { OnOk result (out.new.items ≡ out.old.items ++ trial_text way name.now size) }
+{
+    out.extend_from_slice(b"  ")?;
+    out.extend_from_slice(way.word())?;
+    out.extend_from_slice(b" ")?;
+    out.extend_from_slice(name)?;
+    put_body(out, size)
+}
+
+/// Adds what came, how long it took, and whether the connection may serve again.
+#[tactic(auto, unfolding(crate::specs::Came::answer_text))]
+fn put_answer(out: &mut Vec<u8>, attempt: &Attempt) -> Result<(), AllocError>
+    ensures { OnOk result (out.new.items ≡ out.old.items ++ answer_text attempt.now) }
+{
+    out.extend_from_slice(b": ")?;
+    put_came(out, &attempt.came)?;
+    out.extend_from_slice(b"; ")?;
+    put_time(out, attempt.micros)?;
+    out.extend_from_slice(serving(attempt.serves))
+}
+
 /// Adds an attempt's line: over which connection the message went, the case's name, the size of its body, what came, how long it took,
 /// and whether the connection may serve again.
 pub fn put_attempt(
@@ -155,16 +179,8 @@ pub fn put_attempt(
 ) -> Result<(), AllocError>
     ensures { OnOk result (out.new.items ≡ out.old.items ++ attempt_text way name.now size attempt.now) }
 {
-    out.extend_from_slice(b"  ")?;
-    out.extend_from_slice(way.word())?;
-    out.extend_from_slice(b" ")?;
-    out.extend_from_slice(name)?;
-    put_body(out, size)?;
-    out.extend_from_slice(b": ")?;
-    put_came(out, &attempt.came)?;
-    out.extend_from_slice(b"; ")?;
-    put_time(out, attempt.micros)?;
-    out.extend_from_slice(serving(attempt.serves))
+    put_trial(out, way, name, size)?;
+    put_answer(out, attempt)
 }
 
 /// Adds the time at a place, after these words; 0 where there is none.
