@@ -52,7 +52,10 @@ fn escaped(byte: u8) -> Option<u8> {
 /// Adds the bytes of these places anew.
 fn add_again(said: &mut Vec<u8>, from: usize, to: usize) -> Result<(), NoMemory> {
     for at in from..to {
-        let byte = said.get(at).copied().unwrap_or_default();
+        let Some(byte) = said.get(at) else {
+            break;
+        };
+        let byte = *byte;
         said.push(byte)?;
     }
     Ok(())
