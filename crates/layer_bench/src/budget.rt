@@ -39,11 +39,16 @@ pub fn time_pairs<B: Ledgers, R: Wait + Clock>(
     Ok(took?)
 }
 
+/// A piece of this byte.
+fn piece_of(byte: u8) -> [u8; 4096] {
+    [byte; 4096]
+}
+
 /// How long it took to copy a piece into a buffer and out of it, for all rounds.
 fn time_copies<R: Clock>(rt: &R, rounds: u32) -> Result<Duration> {
-    let input = [7; 4096];
-    let mut buffer = [0; 4096];
-    let mut out = [0; 4096];
+    let input = piece_of(7);
+    let mut buffer = piece_of(0);
+    let mut out = piece_of(0);
     let start = Instant::now(rt)?;
     for _ in 0..rounds {
         copy(&input, &mut buffer);
@@ -68,8 +73,8 @@ pub fn time_tape<B: Ledgers, R: Wait + Clock>(
 ) -> Result<Duration>
     requires { kept ≤ 256 }
 {
-    let input = [7; 4096];
-    let mut out = [0; 4096];
+    let input = piece_of(7);
+    let mut out = piece_of(0);
     let mut stake = bank.open(rt, PIECE * (kept + 1))?;
     let mut tape = SpanTape::new();
     for _piece in 0..kept {
