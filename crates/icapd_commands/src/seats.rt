@@ -74,8 +74,8 @@ impl Seats {
         ensures found { IfSome result (λ key. IsAt self.now.all.items key Doing.Nothing) }
         ensures none { IfNone result ((key : ℕ) → IsAt self.now.all.items key Doing.Nothing → ⊥) }
     {
-        for (key, doing) in self.all.iter().enumerate() {
-            if matches!(doing, Doing::Nothing) {
+        for key in 0..self.all.len() {
+            if matches!(self.all[key], Doing::Nothing) {
                 return Some(key);
             }
         }
@@ -99,8 +99,8 @@ impl Seats {
         ensures found { IfSome result (λ key. IsAt self.now.all.items key Doing.Lingering) }
         ensures none { IfNone result (NoneLingers self.now.all.items) }
     {
-        for (key, doing) in self.all.iter().enumerate() {
-            if matches!(doing, Doing::Lingering) {
+        for key in 0..self.all.len() {
+            if matches!(self.all[key], Doing::Lingering) {
                 return Some(key);
             }
         }
@@ -113,8 +113,8 @@ impl Seats {
         ensures none { IfNone result ((key since : ℕ) → WaitsAt self.now.all.items first key since → ⊥) }
     {
         let mut found = None;
-        for (key, doing) in self.all.iter().enumerate() {
-            if let Some(since) = waits_since(*doing, first) {
+        for key in 0..self.all.len() {
+            if let Some(since) = waits_since(self.all[key], first) {
                 found = Some(longer(found, Waiter { key, since }));
             }
         }
