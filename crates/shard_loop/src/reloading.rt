@@ -69,15 +69,23 @@ fn other_log<F: Append>(files: &F, old: &Config, new: &Config) -> io::Result<Opt
     }
 }
 
+/// A number that takes the place of another one, where it is another one.
+fn changed(old: u64, new: u64) -> Option<u64>
+    ensures kept { IsNone result ↔ (old ≡ new) }
+    ensures said { IfSome result (λ number. number ≡ new) }
+{
+    if old == new {
+        return None;
+    }
+    Some(new)
+}
+
 /// The capacity that another configuration says, where it is another one: an administrator's own stays where it isn't.
 fn other_capacity(old: &Config, new: &Config) -> Option<u64>
     ensures kept { IsNone result ↔ (old.now.capacity ≡ new.now.capacity) }
     ensures said { IfSome result (λ capacity. capacity ≡ new.now.capacity) }
 {
-    if old.capacity == new.capacity {
-        return None;
-    }
-    Some(new.capacity)
+    changed(old.capacity, new.capacity)
 }
 
 /// Whether more bytes are reserved than this capacity has: how many they are then.
