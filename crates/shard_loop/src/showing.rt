@@ -19,7 +19,7 @@ use exchange_report::{
 use shard_desk::{Desk, Noted, SECOND, Shares};
 use shard_exchange::Exchange;
 use shard_holdings::Holdings;
-use shard_message::{Moving, OnShow, Shown};
+use shard_message::{Kinds, Moving, OnShow, Shown};
 use shard_report::{address_of, elapsed_of, moment};
 use std::alloc::AllocError;
 use std::net::SocketAddrV4;
@@ -72,9 +72,8 @@ fn moving<'a>(line: Live<'a>, shown: &Shown<'_>) -> Live<'a>
     }
 }
 
-/// When anything of an exchange moved last, in seconds of the loop.
-fn last_moved<S: Shares>(desk: &Desk<S>, key: usize, shown: &Option<Shown<'_>>) -> u64 {
-    let moved = desk.seats.moved(key);
+/// When anything of an exchange moved last, in seconds of the loop, where this is when anything moved at its seat.
+fn last_moved(moved: u64, shown: &Option<Shown<'_>>) -> u64 {
     match shown {
         Some(shown) => moved.max(shown.last_moved),
         None => moved,
@@ -97,33 +96,54 @@ fn user_of<S: Shares>(desk: &Desk<S>, key: usize) -> Option<Address> {
     }
 }
 
-/// The line of the exchange under this key, at this moment in milliseconds since 1970, and this second of the loop.
-fn line_of<'a, S: Shares>(
-    desk: &'a Desk<S>,
-    key: usize,
+/// Whose exchange it is under a key, as its desk knows it.
+#[derive(Clone, Copy)]
+struct Seat {
+    thread: u64,
+    key: u64,
+    user: Option<Address>,
+    /// When anything moved at its seat, in seconds of the loop.
+    moved: u64,
+}
+
+/// Whose exchange it is under this key.
+fn seat_of<S: Shares>(desk: &Desk<S>, key: usize) -> Seat
+    ensures { result.key ≡ key }
+{
+    Seat {
+        thread: desk.shared.number() as u64,
+        key: key as u64,
+        user: user_of(desk, key),
+        moved: desk.seats.moved(key),
+    }
+}
+
+/// The line of an exchange, at this moment in milliseconds since 1970, and this second of the loop.
+fn line_of<'a, O: Kinds>(
+    seat: &Seat,
     noted: Noted<'a>,
-    exchange: &Exchange<Holdings<Desk<S>>>,
+    exchange: &Exchange<Holdings<O>>,
     at: u64,
     now: u64,
 ) -> Live<'a>
-    ensures id { (result.id.key ≡ key) × (result.id.number ≡ noted.entry.note.number) }
+    ensures id { (result.id.key ≡ seat.now.key) × (result.id.number ≡ noted.entry.note.number) }
     ensures whose { (result.point ≡ noted.entry.note.point) × (result.method ≡ noted.entry.method) × (result.target ≡ noted.entry.target) }
     ensures rests { (due_of exchange.now.course ≡ Due.Turn → ⊥) → result.awaited ≡ awaited_in (due_of exchange.now.course) }
-    ensures held { IfSome exchange.now.holdings.tx (λ tx. (result.held ≡ held_original (shows (⟦<Moving<Desk<S>> as OnShow>⟧.history tx)))
-        × (result.adapted ≡ held_adapted (shows (⟦<Moving<Desk<S>> as OnShow>⟧.history tx))) × (result.claim ≡ ⟦<Moving<Desk<S>> as OnShow>⟧.claimed tx)) }
+    ensures held { IfSome exchange.now.holdings.tx (λ tx. (result.held ≡ held_original (shows (⟦<Moving<O> as OnShow>⟧.history tx)))
+        × (result.adapted ≡ held_adapted (shows (⟦<Moving<O> as OnShow>⟧.history tx))) × (result.claim ≡ ⟦<Moving<O> as OnShow>⟧.claimed tx)) }
 {
     let holdings = exchange.holdings();
     let shown = holdings.shown();
     let line = Live {
         id: ExchangeId {
-            thread: desk.shared.number() as u64,
-            key: key as u64,
+            thread: seat.thread,
+            key: seat.key,
             number: noted.note.number,
         },
         age: elapsed_of(&noted.note, at) / SECOND,
         point: noted.note.point,
         awaited: awaited(exchange.due(), &shown),
-        still: still_for(now, last_moved(desk, key, &shown)),
+        still: still_for(now, last_moved(seat.moved, &shown)),
         held: (0, 0),
         adapted: (0, 0),
         received: 0,
@@ -131,7 +151,7 @@ fn line_of<'a, S: Shares>(
         adapted_received: 0,
         delivered: 0,
         claim: holdings.claim(),
-        user: user_of(desk, key),
+        user: seat.user,
         method: noted.method,
         target: noted.target,
     };
@@ -203,7 +223,7 @@ pub(crate) fn show<S: Shares, R: Clock>(
         return;
     };
     let at = moment(rt);
-    let line = line_of(desk, key, noted, exchange, at, now);
+    let line = line_of(&seat_of(desk, key), noted, exchange, at, now);
     match question {
         Question::Exchanges => add_line(sheet, &line),
         Question::Waiting if line.still > 0 => add_line(sheet, &line),
