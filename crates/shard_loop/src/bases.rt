@@ -10,6 +10,13 @@ use std::alloc::Global;
 use std::net::Net;
 use std::sync::Arc;
 
+/// Where users and the administrator connect.
+#[derive(Drop)]
+pub(crate) struct Ports {
+    pub(crate) users: TcpListener,
+    pub(crate) admin: AdminPorts,
+}
+
 /// Where users connect, for whom there is this room: as many loops take them as are configured.
 pub(crate) fn entrance_of(
     config: &Config,

@@ -1,18 +1,20 @@
 //! The threads: each makes its work, runs its loop, and hands over what is left.
 
 use crate::admission::admission_of;
-use crate::bases::{HasBase, entrance_of, loop_fault, make_bases};
+use crate::bases::{HasBase, Ports, entrance_of, loop_fault, make_bases};
 use crate::board::{BothPools, Common, PoolPair, Rules, board_of};
 use crate::exchanges::DeskExchanges;
 use crate::left::Left;
 use crate::office::Office;
 use crate::reloading::Reloads;
-use event_loop::{AdminPorts, Base, Ended, Inbox, Work, name_thread, run_loop, stop_all};
-use mio::net::TcpListener;
+use event_loop::{Base, Ended, Inbox, Work, name_thread, run_loop, stop_all};
 use proxy_config::{Config, MAX_SHARDS};
-use service_lines::Waiting;
+use service_lines::{Leased, Waiting};
 use service_pool::Pool;
 use shard_desk::{Exchanges, Loops, Shard, Shared, SharedPools, Shares, Spare, Standings};
+use shard_exchange::Exchange;
+use shard_holdings::Holdings;
+use shard_message::Kinds;
 use shard_report::{Append, ProxyFault};
 use socket_wire::Dial;
 use span_bank::{Bank, Ledgers};
@@ -95,7 +97,7 @@ pub fn run_crew<
     request: &Pool<Spare, Q>,
     response: &Pool<Spare, A>,
     gate: &G,
-    ports: (TcpListener, AdminPorts),
+    ports: Ports,
     rules: Rules,
     file: Option<File>,
     left: &Mutex<Left<B, Q, A>>,
@@ -127,7 +129,7 @@ fn run_board<
     bank: &Bank<B>,
     pools: &P,
     gate: &G,
-    ports: (TcpListener, AdminPorts),
+    ports: Ports,
     board: Result<N, AllocError>,
     left: &Mutex<Left<B, Q, A>>,
 ) -> Result<(), ProxyFault>
@@ -147,7 +149,7 @@ where
     let Ok(admission) = admission_of(rt, config, board.live()) else {
         return Err(ProxyFault::NoMemory);
     };
-    let (users, admin) = ports;
+    let Ports { users, admin } = ports;
     let users = entrance_of(config, users, room, admission);
     let mut bases = make_bases(rt, alloc, config.shards, users, admin, board.inboxes_mut())?;
     run_on(
@@ -243,7 +245,7 @@ fn run_one<
     if number < tallies.len() {
         let pools = pools_for(config, requests, responses, common);
         run_base(
-            rt, alloc, shared, gate, number, base, inboxes, bank, pools, left,
+            rt, alloc, shared, gate, number, base, inboxes, bank, &pools, left,
         );
     } else {
         let (live, source) = (common.live(), common.source());
@@ -295,6 +297,28 @@ fn run_exchanges<E: Exchanges + Drop, G: Gate, R: Wait + Dial + Clock>(
     (work.into_slots(rt), fault)
 }
 
+/// Takes what is left in a loop's slots, and why it failed, if it did.
+fn take_left<
+    B: Ledgers,
+    Q: Ledger,
+    A: Ledger,
+    O: Kinds<Ledgers = B, Lease = Leased<Q, A>>,
+    R: Wait,
+>(
+    rt: &R,
+    bank: &Bank<B>,
+    pools: &SharedPools<'_, Q, A>,
+    left: &Mutex<Left<B, Q, A>>,
+    slots: Vec<Option<Box<Exchange<Holdings<O>>>>>,
+    fault: Option<ProxyFault>,
+) {
+    let mut left = left.lock(rt);
+    if let Some(fault) = fault {
+        left.fail(fault);
+    }
+    left.take_slots(rt, bank, pools, slots);
+}
+
 /// Runs a thread's loop, and takes what is left in it.
 fn run_base<
     B: Ledgers,
@@ -312,16 +336,12 @@ fn run_base<
     base: Base,
     inboxes: &[Inbox],
     bank: &Bank<B>,
-    pools: SharedPools<'_, Q, A>,
+    pools: &SharedPools<'_, Q, A>,
     left: &Mutex<Left<B, Q, A>>,
 ) {
     name_thread(number);
     let rows = shared.config().rows as usize;
     let exchanges = DeskExchanges::new(alloc, shared, rows);
     let (slots, fault) = run_exchanges(rt, alloc, exchanges, gate, number, base, inboxes);
-    let mut left = left.lock(rt);
-    if let Some(fault) = fault {
-        left.fail(fault);
-    }
-    left.take_slots(rt, bank, pools, slots);
+    take_left(rt, bank, pools, left, slots, fault);
 }

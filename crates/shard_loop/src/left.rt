@@ -1,9 +1,10 @@
 //! What is still out when the loops have ended.
 
-ghost use Rattle.std.specs.Prelude.{◌≡◌, ◌+◌, ◌-◌, ◌^◌, ◌≤◌, true, All, IfOk, IfSome, IsSome, None, Some, min, vec_capacity, vec_len};
+ghost use Rattle.std.specs.Prelude.{◌≡◌, ◌+◌, ◌-◌, ◌^◌, ◌≤◌, true, All, IfOk, IfSome, IsSome, None, Some, is_some, min, vec_capacity, vec_len};
+ghost use Rattle.std.specs.Option.{ForSome};
 ghost use Rattle.adapt_bytes.specs.declared.limits.TheConstants.{MAX_CONNECTIONS};
 ghost use Rattle.span_bank.specs.Stakes.{held_sum};
-ghost use Rattle.shard_loop.specs.Left.{Counts, HoldsNothing, Keeps, counts, lease_of, out_of_slots, with_one_more};
+ghost use Rattle.shard_loop.specs.Left.{Counts, HoldsNothing, Keeps, counts, lease_of, out_of, out_of_slots, with_one_more};
 
 use adapt_bytes::MAX_CONNECTIONS;
 use service_lines::Leased;
@@ -43,18 +44,37 @@ impl<B: Ledgers, Q: Ledger, A: Ledger> Unaudited for Left<B, Q, A> {
     ghost room = { λ left. counts (vec_capacity left.stakes) (vec_capacity left.requests) (vec_capacity left.responses) };
 }
 
-/// What may still be out of an exchange that ends.
-pub trait Outstanding {
-    // how much is
-    ghost out: { Self → Counts };
+/// What is still out of an exchange that has ended.
+#[must_use]
+pub struct StillOut<B: Ledgers, Q: Ledger, A: Ledger> {
+    lease: Option<Leased<Q, A>>,
+    stake: Option<Stake<B>>,
+    ghost idle: { ForSome stake HoldsNothing },
 }
 
-impl<B: Ledgers, Q: Ledger, A: Ledger, O: Kinds<Ledgers = B, Lease = Leased<Q, A>>> Outstanding
-    for Exchange<Holdings<O>> {
-    ghost use Rattle.std.specs.Prelude.{◌||◌, is_some, option_map};
-    ghost use Rattle.shard_loop.specs.Left.{out_of};
+/// What may still be out of an exchange that ends.
+pub trait Outstanding<B: Ledgers, Q: Ledger, A: Ledger> {
+    // how much is
+    ghost out: { Self → Counts };
+
+    /// Ends it. Its connections are closed.
+    fn into_out<R: Wait>(self, rt: &R, bank: &Bank<B>) -> StillOut<B, Q, A>
+        ensures { out_of (is_some result.stake) result.lease ≡ out self };
+}
+
+impl<B: Ledgers, Q: Ledger, A: Ledger, O: Kinds<Ledgers = B, Lease = Leased<Q, A>>> Outstanding<
+    B,
+    Q,
+    A,
+> for Exchange<Holdings<O>> {
+    ghost use Rattle.std.specs.Prelude.{◌||◌, option_map};
 
     ghost out = { λ exchange. out_of (is_some exchange.holdings.room || is_some exchange.holdings.tx) (option_map (λ leased. leased.lease) exchange.holdings.connection) };
+
+    fn into_out<R: Wait>(self, rt: &R, bank: &Bank<B>) -> StillOut<B, Q, A> {
+        let Held { lease, stake } = self.into_holdings().into_held(rt, bank);
+        StillOut { lease, stake }
+    }
 }
 
 /// Keeps a lease where there is room for it. Else it comes back.
@@ -194,19 +214,19 @@ impl<B: Ledgers, Q: Ledger, A: Ledger> Left<B, Q, A> {
         pools.give_up(rt, beyond);
     }
 
-    /// Takes what is held for an exchange.
-    fn take<O: Kinds<Ledgers = B, Lease = Leased<Q, A>>, R: Wait>(
+    /// Takes what is still out of an exchange.
+    fn take<R: Wait>(
         &mut self,
         rt: &R,
         bank: &Bank<B>,
         pools: &SharedPools<'_, Q, A>,
-        exchange: Exchange<Holdings<O>>,
+        out: StillOut<B, Q, A>,
     )
         ensures kept { Keeps (⟦<Self as Unaudited>⟧.room self.old) (⟦<Self as Unaudited>⟧.kept self.old)
-            (⟦<Exchange<Holdings<O>> as Outstanding>⟧.out exchange) (⟦<Self as Unaudited>⟧.kept self.new) }
+            (out_of (is_some out.stake) out.lease) (⟦<Self as Unaudited>⟧.kept self.new) }
         ensures room { ⟦<Self as Unaudited>⟧.room self.new ≡ ⟦<Self as Unaudited>⟧.room self.old }
     {
-        let Held { lease, stake } = exchange.into_holdings().into_held(rt, bank);
+        let StillOut { lease, stake } = out;
         if let Some(lease) = lease {
             self.keep_lease(rt, pools, lease);
         }
@@ -216,20 +236,21 @@ impl<B: Ledgers, Q: Ledger, A: Ledger> Left<B, Q, A> {
     }
 
     /// Takes what is held in a loop's slots: each reservation and each lease, where there is room for it.
-    pub fn take_slots<O: Kinds<Ledgers = B, Lease = Leased<Q, A>>, R: Wait>(
+    pub fn take_slots<E: Outstanding<B, Q, A>, R: Wait>(
         &mut self,
         rt: &R,
         bank: &Bank<B>,
-        pools: SharedPools<'_, Q, A>,
-        slots: Vec<Option<Box<Exchange<Holdings<O>>>>>,
+        pools: &SharedPools<'_, Q, A>,
+        slots: Vec<Option<Box<E>>>,
     )
         ensures kept { Keeps (⟦<Self as Unaudited>⟧.room self.old) (⟦<Self as Unaudited>⟧.kept self.old)
-            (out_of_slots (λ exchange. ⟦<Exchange<Holdings<O>> as Outstanding>⟧.out exchange.value) slots.items) (⟦<Self as Unaudited>⟧.kept self.new) }
+            (out_of_slots (λ exchange. E.Outstanding.out exchange.value) slots.items) (⟦<Self as Unaudited>⟧.kept self.new) }
     {
         let mut slots = slots;
         while let Some(slot) = slots.pop() {
             if let Some(exchange) = slot {
-                self.take(rt, bank, &pools, Box::into_inner(exchange));
+                let out = Box::into_inner(exchange).into_out(rt, bank);
+                self.take(rt, bank, pools, out);
             }
         }
         slots.destroy_empty();

@@ -4,6 +4,7 @@ ghost use Rattle.std.specs.Prelude.{◌≡◌, ◌+◌, ◌≤◌, IfSome};
 ghost use Rattle.adapt_bytes.specs.declared.limits.TheConstants.{MAX_CONNECTIONS};
 ghost use Rattle.service_pool.specs.declared.step.TheConstants.{LEDGER_PARTS};
 
+use crate::bases::Ports;
 use crate::board::Rules;
 use crate::crew::run_crew;
 use crate::left::Left;
@@ -97,7 +98,7 @@ pub fn serve<
         rt,
         alloc,
         &config,
-        (users, admin),
+        Ports { users, admin },
         rules,
         log,
         gate,
@@ -125,7 +126,7 @@ fn serve_with<
     rt: &R,
     alloc: Global,
     config: &'x Config,
-    ports: (TcpListener, AdminPorts),
+    ports: Ports,
     rules: Rules,
     log: Option<File>,
     gate: &'x G,
@@ -173,7 +174,7 @@ fn serve_on<
     rt: &R,
     alloc: Global,
     config: &Config,
-    ports: (TcpListener, AdminPorts),
+    ports: Ports,
     rules: Rules,
     log: Option<File>,
     gate: &G,
