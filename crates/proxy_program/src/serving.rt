@@ -96,25 +96,6 @@ fn log_fault(alloc: Global) -> ServeError {
     }
 }
 
-/// Says that it listens once it has its memory, serves until the administrator says `stop` or the system fails a loop, and audits.
-fn serve_ports<
-    O: Write,
-    R: Threads + Wait + Net + Dial + Append + Reloads + Clock + Files + AllocGlobal + Sync,
->(
-    rt: &R,
-    alloc: Global,
-    rules: Rules,
-    users: TcpListener,
-    admin: AdminPorts,
-    log: Option<File>,
-    output: &mut O,
-) -> Result<Stopped, ServeError> {
-    match serve(rt, alloc, rules, users, admin, log, &OpenGate, output) {
-        Ok(stopped) => Ok(stopped),
-        Err(fault) => Err(error_of(fault)),
-    }
-}
-
 /// Says what was still out. `Err` where the proxy wasn't stopped, but failed.
 fn say_end<O: Write>(alloc: Global, output: &mut O, stopped: Stopped) -> Result<(), ServeError> {
     let Ok(line) = audit_line(alloc, stopped.audit) else {
@@ -127,8 +108,36 @@ fn say_end<O: Write>(alloc: Global, output: &mut O, stopped: Stopped) -> Result<
     }
 }
 
-/// Reads the configuration and its files, looks whether the machine has the memory for its pages, opens the log, listens, at the users' port that was
-/// handed over if one was, touches the pages, says that it listens, serves until the administrator says `stop`, and says what was still out.
+/// The configuration of this text, with what its files say, where the machine has the memory for its pages.
+fn fitting<R: Files + AllocGlobal>(
+    rt: &R,
+    alloc: Global,
+    text: &[u8],
+) -> Result<Arc<Config>, ServeError> {
+    let config = read_whole(rt, alloc, text)?;
+    if !has_room(rt, &config) {
+        return Err(ServeError::Ended(Error::NoMemory));
+    }
+    match Arc::new(alloc, config) {
+        Ok(config) => Ok(config),
+        Err(_) => Err(ServeError::Ended(Error::NoMemory)),
+    }
+}
+
+/// What the proxy runs by, as its source says it now.
+fn rules_of<R: Files + AllocGlobal>(
+    rt: &R,
+    alloc: Global,
+    source: Source,
+) -> Result<Rules, ServeError> {
+    let text = read_source(rt, alloc, &source)?;
+    let config = fitting(rt, alloc, &text)?;
+    Ok(Rules { config, source })
+}
+
+/// Reads the configuration and its files, looks whether the machine has the memory for its pages, opens the log, listens, at the users'
+/// port that was handed over if one was, touches the pages, says that it listens, serves until the administrator says `stop` or the system
+/// fails a loop, and says what was still out.
 pub fn serve_from<
     O: Write,
     R: Threads + Wait + Net + Dial + Append + Reloads + Clock + Files + AllocGlobal + Sync,
@@ -139,19 +148,12 @@ pub fn serve_from<
     source: Result<Source, ServeError>,
     output: &mut O,
 ) -> Result<(), ServeError> {
-    let source = source?;
-    let text = read_source(rt, alloc, &source)?;
-    let config = read_whole(rt, alloc, &text)?;
-    if !has_room(rt, &config) {
-        return Err(ServeError::Ended(Error::NoMemory));
+    let rules = rules_of(rt, alloc, source?)?;
+    let log = open_log(rt, alloc, &rules.config)?;
+    let users = listen_for_users(rt, alloc, handed, rules.config.listen)?;
+    let admin = listen_for_administrator(rt, alloc, &rules.config)?;
+    match serve(rt, alloc, rules, users, admin, log, &OpenGate, output) {
+        Ok(stopped) => say_end(alloc, output, stopped),
+        Err(fault) => Err(error_of(fault)),
     }
-    let log = open_log(rt, alloc, &config)?;
-    let users = listen_for_users(rt, alloc, handed, config.listen)?;
-    let admin = listen_for_administrator(rt, alloc, &config)?;
-    let Ok(config) = Arc::new(alloc, config) else {
-        return Err(ServeError::Ended(Error::NoMemory));
-    };
-    let rules = Rules { config, source };
-    let stopped = serve_ports(rt, alloc, rules, users, admin, log, output)?;
-    say_end(alloc, output, stopped)
 }

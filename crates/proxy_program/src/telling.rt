@@ -28,8 +28,10 @@ fn connect<R: Net>(rt: &R, address: SocketAddrV4) -> Result<R::Stream, ServeErro
 
 /// The line that words say; `Usage` where one of them has an LF, which would end it.
 fn line_of(alloc: Global, words: &[String]) -> Result<Vec<u8>, ServeError> {
-    if words.iter().any(|word| word.as_bytes().contains(&b'\n')) {
-        return Err(ServeError::Ended(Error::Usage));
+    for word in words {
+        if word.as_bytes().contains(&b'\n') {
+            return Err(ServeError::Ended(Error::Usage));
+        }
     }
     match line_of_words(alloc, words) {
         Ok(line) => Ok(line),
@@ -37,8 +39,14 @@ fn line_of(alloc: Global, words: &[String]) -> Result<Vec<u8>, ServeError> {
     }
 }
 
+/// The administrator's address in the configuration of a source. The files that the configuration names aren't read.
+fn admin_of<R: Files>(rt: &R, alloc: Global, source: &Source) -> Result<SocketAddrV4, ServeError> {
+    let text = read_source(rt, alloc, source)?;
+    let config = configuration_of(alloc, &text)?;
+    Ok(config.admin)
+}
+
 /// Says words to the administrator's port that the configuration of a source names, prints the answer, and answers its exit status.
-/// The files that the configuration names aren't read.
 pub fn tell_from<O: Write, R: Net + Files>(
     rt: &R,
     alloc: Global,
@@ -47,8 +55,7 @@ pub fn tell_from<O: Write, R: Net + Files>(
     output: &mut O,
 ) -> Result<u8, ServeError> {
     let line = line_of(alloc, words)?;
-    let text = read_source(rt, alloc, &source?)?;
-    let config = configuration_of(alloc, &text)?;
-    let mut stream = connect(rt, config.admin)?;
+    let admin = admin_of(rt, alloc, &source?)?;
+    let mut stream = connect(rt, admin)?;
     ask(alloc, &mut stream, &line, output)
 }
