@@ -46,12 +46,44 @@ fn receives(stream: &TcpStream, want: &[u8], end: bool) -> io::Result<bool> {
     Ok(gets(stream, want)? && (!end || hears_end(stream)?))
 }
 
-/// A server that listens here, with what its connections share.
-#[derive(Clone, Copy)]
-struct Server<'a> {
-    listener: &'a TcpListener,
+/// A server that listens, with what its connections share.
+#[derive(Drop)]
+struct Server {
+    listener: TcpListener,
     address: SocketAddr,
-    shared: &'a Arc<Shared, Global>,
+    shared: Arc<Shared, Global>,
+}
+
+/// A server that takes one connection at a time, with this deadline.
+fn listening<R: Net<Listener = TcpListener, Stream = TcpStream>>(
+    rt: &R,
+    alloc: Global,
+    deadline: u64,
+) -> io::Result<Server> {
+    let shared = one_at_a_time(alloc, deadline)?;
+    let listener = TcpListener::bind(rt, "127.0.0.1:0")?;
+    let address = listener.local_addr()?;
+    Ok(Server {
+        listener,
+        address,
+        shared,
+    })
+}
+
+/// A connection that has sent these bytes, and was taken.
+fn taken<
+    R: Net<Listener = TcpListener, Stream = TcpStream>
+        + Threads
+        + Wait
+        + Clock
+        + Copy
+        + Send
+        + Sync
+        + 'static,
+>(rt: R, alloc: Global, server: &Server, bytes: &[u8]) -> io::Result<TcpStream> {
+    let stream = connect(&rt, server.address, bytes)?;
+    accept_one(rt, alloc, &server.listener, &server.shared);
+    Ok(stream)
 }
 
 /// Two requests on one connection.
@@ -64,9 +96,8 @@ fn serve_twice<
         + Send
         + Sync
         + 'static,
->(rt: R, alloc: Global, server: &Server<'_>) -> io::Result<bool> {
-    let kept = connect(&rt, server.address, REQUEST)?;
-    accept_one(rt, alloc, server.listener, server.shared);
+>(rt: R, alloc: Global, server: &Server) -> io::Result<bool> {
+    let kept = taken(rt, alloc, server, REQUEST)?;
     let first = receives(&kept, BLOCKED, false)?;
     say(&kept, REQUEST)?;
     Ok(first && receives(&kept, BLOCKED, false)?)
@@ -82,10 +113,10 @@ fn serve_half_closed<
         + Send
         + Sync
         + 'static,
->(rt: R, alloc: Global, server: &Server<'_>) -> io::Result<bool> {
+>(rt: R, alloc: Global, server: &Server) -> io::Result<bool> {
     let half = connect(&rt, server.address, REQUEST)?;
     half.shutdown(Shutdown::Write)?;
-    accept_one(rt, alloc, server.listener, server.shared);
+    accept_one(rt, alloc, &server.listener, &server.shared);
     receives(&half, BLOCKED, true)
 }
 
@@ -99,17 +130,15 @@ fn serve_wrong_ones<
         + Send
         + Sync
         + 'static,
->(rt: R, alloc: Global, server: &Server<'_>) -> io::Result<bool> {
+>(rt: R, alloc: Global, server: &Server) -> io::Result<bool> {
     drop(connect(&rt, server.address, &REQUEST[..20])?);
-    accept_one(rt, alloc, server.listener, server.shared);
-    let wrong = connect(&rt, server.address, b"x\r\nand more")?;
-    accept_one(rt, alloc, server.listener, server.shared);
+    accept_one(rt, alloc, &server.listener, &server.shared);
+    let wrong = taken(rt, alloc, server, b"x\r\nand more")?;
     receives(&wrong, BAD_REQUEST, true)
 }
 
 /// Requests on one connection, a half-closed client, clients that are gone or wrong, each alone.
-fn serve_each<R>(rt: R, alloc: Global) -> io::Result<bool>
-where
+fn serve_each<
     R: Net<Listener = TcpListener, Stream = TcpStream>
         + Threads
         + Wait
@@ -118,15 +147,8 @@ where
         + Send
         + Sync
         + 'static,
-{
-    let listener = TcpListener::bind(&rt, "127.0.0.1:0")?;
-    let address = listener.local_addr()?;
-    let shared = one_at_a_time(alloc, 60)?;
-    let server = Server {
-        listener: &listener,
-        address,
-        shared: &shared,
-    };
+>(rt: R, alloc: Global) -> io::Result<bool> {
+    let server = listening(&rt, alloc, 60)?;
     Ok(
         serve_twice(rt, alloc, &server)?
             && serve_half_closed(rt, alloc, &server)?
@@ -145,8 +167,7 @@ fn waits_its_turn(first: &TcpStream, second: &TcpStream, rest: &[u8]) -> io::Res
 
 /// A second connection waits while the first is within a request. Once that is answered, and waits for a further one, it
 /// is closed, and the second served.
-fn serve_one_at_a_time<R>(rt: R, alloc: Global) -> io::Result<bool>
-where
+fn serve_one_at_a_time<
     R: Net<Listener = TcpListener, Stream = TcpStream>
         + Threads
         + Wait
@@ -155,26 +176,31 @@ where
         + Send
         + Sync
         + 'static,
-{
-    let listener = TcpListener::bind(&rt, "127.0.0.1:0")?;
-    let address = listener.local_addr()?;
-    let shared = one_at_a_time(alloc, 60)?;
+>(rt: R, alloc: Global) -> io::Result<bool> {
+    let server = listening(&rt, alloc, 60)?;
     let (front, rest) = REQUEST.split_at(20);
-    let first = connect(&rt, address, front)?;
-    let second = connect(&rt, address, REQUEST)?;
-    accept_one(rt, alloc, &listener, &shared);
+    let first = taken(rt, alloc, &server, front)?;
+    let second = connect(&rt, server.address, REQUEST)?;
     let mut right = false;
     thread::join_mut(
         &rt,
-        &mut || accept_one(rt, alloc, &listener, &shared),
+        &mut || accept_one(rt, alloc, &server.listener, &server.shared),
         &mut || right = waits_its_turn(&first, &second, rest).unwrap_or(false),
     );
     Ok(right)
 }
 
+/// Whether the first connection ends unserved, and the second one served, and then with nothing more.
+fn end_both(silent: &TcpStream, second: &TcpStream) -> io::Result<bool> {
+    Ok(
+        receives(silent, b"", true)?
+            && receives(second, BLOCKED, false)?
+            && receives(second, b"", true)?,
+    )
+}
+
 /// A connection that has said nothing is closed for a further one, and one that says nothing for the deadline in any case.
-fn close_silent<R>(rt: R, alloc: Global) -> io::Result<bool>
-where
+fn close_silent<
     R: Net<Listener = TcpListener, Stream = TcpStream>
         + Threads
         + Wait
@@ -183,18 +209,11 @@ where
         + Send
         + Sync
         + 'static,
-{
-    let listener = TcpListener::bind(&rt, "127.0.0.1:0")?;
-    let address = listener.local_addr()?;
-    let shared = one_at_a_time(alloc, 1)?;
-    let silent = connect(&rt, address, b"")?;
-    accept_one(rt, alloc, &listener, &shared);
-    let second = connect(&rt, address, REQUEST)?;
-    accept_one(rt, alloc, &listener, &shared);
-    let closed = receives(&silent, b"", true)?;
-    let served = receives(&second, BLOCKED, false)?;
-    let late = receives(&second, b"", true)?;
-    Ok(closed && served && late)
+>(rt: R, alloc: Global) -> io::Result<bool> {
+    let server = listening(&rt, alloc, 1)?;
+    let silent = taken(rt, alloc, &server, b"")?;
+    let second = taken(rt, alloc, &server, REQUEST)?;
+    end_both(&silent, &second)
 }
 
 #[test]

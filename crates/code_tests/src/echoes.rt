@@ -2,6 +2,7 @@
 
 ghost use Rattle.std.specs.Prelude.{⊤};
 
+use crate::ports::{Ports, listeners};
 use crate::streams::{gets, say};
 use event_loop::{
     AdminPorts, Admission, Admitted, Base, Driven, Ended, Entrance, Handed, Inbox, Question,
@@ -12,7 +13,7 @@ use mio::{Registry, Token};
 use slab::Slab;
 use socket_wire::{Dial, Peer, Readiness, SocketWire, Stream, UserWire, token_of};
 use std::alloc::{AllocError, Global};
-use std::net::{Ipv4Addr, SocketAddr, TcpStream as Client};
+use std::net::{SocketAddr, TcpStream as Client};
 use std::sync::{Arc, Mutex, Wait};
 use std::test::Fail;
 use std::time::Clock;
@@ -283,7 +284,8 @@ fn silent(rt: &HostRuntime, admin: SocketAddr) -> io::Result<Vec<Client>> {
 }
 
 /// Users, one after another, and administrators, after others that have taken all seats.
-fn users(rt: &HostRuntime, port: SocketAddr, admin: SocketAddr) -> io::Result<bool> {
+fn users(rt: &HostRuntime, ports: Ports) -> io::Result<bool> {
+    let Ports { users: port, admin } = ports;
     let long =
         b"0123456789012345678901234567890123456789012345678901234567890123456789\n".as_slice();
     let hello = b"hello\n".as_slice();
@@ -310,13 +312,7 @@ fn users(rt: &HostRuntime, port: SocketAddr, admin: SocketAddr) -> io::Result<bo
 #[test]
 fn two_loops_echo_until_they_are_stopped(rt: HostRuntime) -> Result<(), Fail> {
     let alloc = rt.alloc();
-    let local = SocketAddr::from((Ipv4Addr::LOCALHOST, 0));
-    let listeners = (
-        TcpListener::bind(&rt, local)?,
-        TcpListener::bind(&rt, local)?,
-    );
-    let port = listeners.0.local_addr()?;
-    let admin = listeners.1.local_addr()?;
+    let (listeners, ports) = listeners(&rt)?;
     let mut inboxes = Vec::new(alloc);
     let mut bases = make(&rt, listeners, &mut inboxes)?;
     let ended = Mutex::new(0);
@@ -332,7 +328,7 @@ fn two_loops_echo_until_they_are_stopped(rt: HostRuntime) -> Result<(), Fail> {
                 &|number, base| run_echo(&rt, alloc, number, base, all, &ended),
             )
         },
-        &mut || right = users(&rt, port, admin).unwrap_or(false),
+        &mut || right = users(&rt, ports).unwrap_or(false),
     );
     assert!(rt; right);
     assert_eq!(rt; ended.into_inner(), 2);

@@ -9,6 +9,8 @@ mod connections;
 #[cfg(test)]
 mod echoes;
 #[cfg(test)]
+mod ports;
+#[cfg(test)]
 mod serving;
 #[cfg(test)]
 mod sockets;

@@ -1,11 +1,12 @@
 //! The wire of a socket, over loopback: what it reads, takes and counts, step by step.
 
+use crate::ports::local;
 use mio::net::TcpListener;
 use mio::{Events, Interest, Poll, Token};
 use socket_wire::{Dial, Origin, OriginWire, Readiness, SocketWire, Stream, User, UserWire};
 use std::alloc::Global;
 use std::io;
-use std::net::{Ipv4Addr, SocketAddr};
+use std::net::SocketAddr;
 use std::sync::Arc;
 use std::test::Fail;
 use wire_kit::{Got, Put, Wire};
@@ -96,7 +97,7 @@ fn first_wrong<O: Wire, T: Wire>(
 
 /// A listener on the loopback, of which the poll reports.
 fn listening(rt: &HostRuntime, poll: &Poll) -> io::Result<TcpListener> {
-    let mut listener = TcpListener::bind(rt, SocketAddr::from((Ipv4Addr::LOCALHOST, 0)))?;
+    let mut listener = TcpListener::bind(rt, local())?;
     poll.registry()
         .register(&mut listener, Token(9), Interest::READABLE)?;
     Ok(listener)

@@ -1,11 +1,12 @@
 //! The worked exchange, with a user, an origin and a service in a thread each.
 
-use super::loopback::{Others, Ports};
+use super::loopback::Others;
 use super::player::Deed::{Gets, Says};
 use super::player::Peer::{Origin, Service, User};
 use super::player::{Deed, Peer, does_all, meet};
 use super::scenes::{ADAPTS, ANSWERS, SAYS_PREVIEWS};
 use super::texts::{ADAPTED, REQUEST};
+use crate::ports::Ports;
 use std::alloc::Global;
 use std::io;
 use std::thread::{self, Threads};

@@ -3,6 +3,7 @@
 use super::apart::three_apart;
 use super::player::{Stage, Step, take_all};
 use super::shards::{many_users, one_connection};
+use crate::ports::{Ports, listeners, local};
 use crate::streams::gets;
 use icapd_commands::{Settings, Shared, serve_sockets};
 use mio::net::TcpListener as Listener;
@@ -10,9 +11,9 @@ use proxy_commands::{Source, read_configuration};
 use proxy_config::Config;
 use shard_loop::{AdminPorts, Append, Reloads, Rules, StopAudit, Stopped, serve};
 use socket_wire::Dial;
-use std::alloc::Global;
+use std::alloc::{AllocError, Global};
 use std::io::{self, ErrorKind, Write};
-use std::net::{Ipv4Addr, Net, SocketAddr, TcpListener, TcpStream};
+use std::net::{Net, TcpListener, TcpStream};
 use std::sync::{Arc, Wait};
 use std::thread::{self, Threads};
 use std::time::Clock;
@@ -37,34 +38,12 @@ pub enum Scene {
     Apart,
 }
 
-/// Where the proxy listens.
-#[derive(Clone, Copy)]
-pub struct Ports {
-    pub users: SocketAddr,
-    pub admin: SocketAddr,
-}
-
 /// An origin and a service, and the service's port.
 #[derive(Drop)]
 pub struct Others {
     pub origin: TcpListener,
     pub service: TcpListener,
     pub port: u16,
-}
-
-fn local() -> SocketAddr {
-    SocketAddr::from((Ipv4Addr::LOCALHOST, 0))
-}
-
-/// The listeners of a proxy, and where they are.
-fn listeners(rt: &HostRuntime) -> io::Result<((Listener, Listener), Ports)> {
-    let users = Listener::bind(rt, local())?;
-    let admin = Listener::bind(rt, local())?;
-    let ports = Ports {
-        users: users.local_addr()?,
-        admin: admin.local_addr()?,
-    };
-    Ok(((users, admin), ports))
 }
 
 fn make_others(rt: &HostRuntime) -> io::Result<Others> {
@@ -96,30 +75,46 @@ fn start_icapd<R: Threads + Wait + Clock + Copy + Send + 'static>(
     Ok(port)
 }
 
+/// The table of a point's service, where messages of that point are adapted.
+fn service_table(
+    alloc: Global,
+    is_adapted: bool,
+    point: &str,
+    port: u16,
+    path: &str,
+) -> Result<String, AllocError> {
+    if !is_adapted {
+        return Ok(String::new(alloc));
+    }
+    format!(in alloc; "[{point}]\nhost = \"127.0.0.1\"\nport = {port}\npath = \"{path}\"\n")
+}
+
+/// The configuration that a text says.
+fn configured(alloc: Global, text: &str) -> io::Result<Arc<Config>> {
+    match read_configuration(alloc, text.as_bytes()) {
+        Ok(config) => Ok(Arc::new(alloc, config)?),
+        Err(_) => Err(io::Error::from(ErrorKind::InvalidInput)),
+    }
+}
+
 /// A configuration with the origin's name, and the service of each message that is adapted. The addresses that it listens on
 /// aren't used.
-fn configuration(alloc: Global, others: &Others, scene: Scene, more: &str) -> io::Result<Config> {
+fn configuration(
+    alloc: Global,
+    others: &Others,
+    scene: Scene,
+    more: &str,
+) -> io::Result<Arc<Config>> {
     let origin = others.origin.local_addr()?.port();
     let service = others.port;
-    let requests = match scene {
-        Scene::AllAdapted(_) | Scene::ByIcapd => format!(in alloc;
-            "[reqmod]\nhost = \"127.0.0.1\"\nport = {service}\npath = \"/reqmod/stamp\"\n"
-        )?,
-        _ => String::new(alloc),
-    };
-    let responses = match scene {
-        Scene::Forwarded(_) => String::new(alloc),
-        _ => format!(in alloc;
-            "[respmod]\nhost = \"127.0.0.1\"\nport = {service}\npath = \"/respmod/upper\"\n"
-        )?,
-    };
+    let by_both = matches!(scene, Scene::AllAdapted(_) | Scene::ByIcapd);
+    let requests = service_table(alloc, by_both, "reqmod", service, "/reqmod/stamp")?;
+    let by_one = !matches!(scene, Scene::Forwarded(_));
+    let responses = service_table(alloc, by_one, "respmod", service, "/respmod/upper")?;
     let text = format!(in alloc;
         "listen = \"127.0.0.1:1\"\nadmin = \"127.0.0.1:2\"\n{more}[hosts]\n\"o.test\" = \"127.0.0.1:{origin}\"\n{requests}{responses}"
     )?;
-    match read_configuration(alloc, text.as_bytes()) {
-        Ok(config) => Ok(config),
-        Err(_) => Err(io::Error::from(ErrorKind::InvalidInput)),
-    }
+    configured(alloc, text.as_str())
 }
 
 /// Whether the admin port answers a line so.
@@ -224,7 +219,7 @@ pub fn goes_well<
     if matches!(scene, Scene::ByIcapd) {
         others.port = start_icapd(*rt, host, alloc)?;
     }
-    let config = Arc::new(alloc, configuration(alloc, &others, scene, more)?)?;
+    let config = configuration(alloc, &others, scene, more)?;
     let (made, ports) = listeners(host)?;
     let gate = HoldGate::new();
     let mut made = Some(made);

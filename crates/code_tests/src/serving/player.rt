@@ -1,7 +1,8 @@
 //! Scenes are tables of steps, and one player takes them: users, an origin, a service and the administrator in one thread.
 
-use super::loopback::{Others, Ports, admin, stop};
+use super::loopback::{Others, admin, stop};
 use super::texts::{OFFERED, REQUEST, RESPONSE_HEAD};
+use crate::ports::Ports;
 use crate::streams::{gets, hears, hears_end, say, until};
 use std::alloc::Global;
 use std::io::{self, ErrorKind};

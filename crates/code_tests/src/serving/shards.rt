@@ -1,10 +1,11 @@
 //! What users of several shards get: one budget and one pool for all of them.
 
-use super::loopback::{Others, Ports};
+use super::loopback::Others;
 use super::player::Peer::{Origin, Service, User};
 use super::player::{Deed, Peer, TRIES, does_all, meet};
 use super::scenes::{ADAPTS, ANSWERS, ASKS, IS_REFUSED, SAYS_ONE_CONNECTION};
 use super::texts::{ADAPTED, HEAD_END, REQUEST, RESPONSE, STAMPED_TO_ORIGIN, UNAVAILABLE};
+use crate::ports::Ports;
 use crate::streams::{gets, hears, say, until};
 use std::alloc::Global;
 use std::io;
@@ -48,6 +49,16 @@ fn asked(rt: &HostRuntime, alloc: Global, ports: Ports, others: &Others) -> io::
     Ok(user)
 }
 
+/// Whether the service adapts the response on its connection, and this user gets it.
+fn is_adapted(
+    alloc: Global,
+    others: &Others,
+    line: &TcpStream,
+    user: &TcpStream,
+) -> io::Result<bool> {
+    Ok(does_all(alloc, line, others, ADAPTS)? && gets(user, ADAPTED)?)
+}
+
 /// Whether a user gets the adapted response; `None` if it is refused. Its shard may ask for the options first.
 fn is_served(
     alloc: Global,
@@ -66,7 +77,7 @@ fn is_served(
     if line.peek(&mut word)? >= 7 && word == *b"OPTIONS" {
         let _ = does_all(alloc, line, others, SAYS_ONE_CONNECTION)?;
     }
-    Ok(Some(does_all(alloc, line, others, ADAPTS)? && gets(user, ADAPTED)?))
+    Ok(Some(is_adapted(alloc, others, line, user)?))
 }
 
 /// Whether a further user is served in the end.
@@ -94,15 +105,15 @@ pub fn one_connection(
     others: &Others,
 ) -> io::Result<bool> {
     let first = asked(rt, alloc, ports, others)?;
-    let line = meet(rt, ports, others, Service)?;
-    let _ = does_all(alloc, &line, others, SAYS_ONE_CONNECTION)?;
+    let line = met(rt, alloc, ports, others, Service, SAYS_ONE_CONNECTION)?;
     let mut byte = [0u8; 1];
     line.peek(&mut byte)?;
     let second = asked(rt, alloc, ports, others)?;
-    let right = does_all(alloc, &second, others, IS_REFUSED)?
-        && does_all(alloc, &line, others, ADAPTS)?
-        && gets(&first, ADAPTED)?;
-    Ok(right && third_user(rt, alloc, ports, others, &line)?)
+    Ok(
+        does_all(alloc, &second, others, IS_REFUSED)?
+            && is_adapted(alloc, others, &line, &first)?
+            && third_user(rt, alloc, ports, others, &line)?,
+    )
 }
 
 /// The origin answers all requests that `icapd` has stamped, until an empty one comes.
