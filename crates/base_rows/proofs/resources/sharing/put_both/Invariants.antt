@@ -1,4 +1,0 @@
-use Rattle.base_rows.proofs.resources.sharing.put_both.Given as goal
-
-abbrev pub ghosts-share : goal.ghosts-share
-ghosts-share g a = record { name = a.blank.name; parts = a.blank.parts }

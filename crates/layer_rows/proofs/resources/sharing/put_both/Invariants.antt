@@ -1,0 +1,4 @@
+use Rattle.layer_rows.proofs.resources.sharing.put_both.Given as goal
+
+abbrev pub ghosts-share : goal.ghosts-share
+ghosts-share g a = record { name = a.blank.name; parts = a.blank.parts }

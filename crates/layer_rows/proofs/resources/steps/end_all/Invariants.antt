@@ -1,0 +1,5 @@
+use Rattle.std.specs.Prelude.{vec_len}
+use Rattle.layer_rows.proofs.resources.steps.end_all.Given as goal
+
+abbrev pub decreases-loop-lent : goal.decreases-loop-lent
+decreases-loop-lent g l = vec_len l.all
