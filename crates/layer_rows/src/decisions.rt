@@ -10,7 +10,6 @@ mod marks;
 mod options;
 mod plans;
 mod printed;
-mod questions;
 mod random;
 mod reports;
 mod scripts;

@@ -1,4 +1,5 @@
-//! Words in a list, with a bar between each two.
+//! Words in a list, with a bar between each two, and octets with dots between them.
+use std::net::Ipv4Addr;
 use test_rows::{NoMemory, parts_of, put_decimal};
 
 /// The place of a word in a list.
@@ -34,6 +35,19 @@ pub fn put_counted(out: &mut Vec<u8>, words: &[u8], numbers: &[u64]) -> Result<(
     for (word, number) in parts_of(words, b'|').zip(numbers) {
         out.extend_from_slice(word)?;
         put_decimal(out, *number)?;
+    }
+    Ok(())
+}
+
+/// Adds an address, its octets with dots between them.
+pub fn put_address(out: &mut Vec<u8>, address: Ipv4Addr) -> Result<(), NoMemory> {
+    let mut is_first = true;
+    for octet in address.octets() {
+        if !is_first {
+            out.extend_from_slice(b".")?;
+        }
+        put_decimal(out, u64::from(octet))?;
+        is_first = false;
     }
     Ok(())
 }

@@ -12,9 +12,11 @@ mod decisions;
 mod engines;
 mod grammars;
 mod listed;
+mod questions;
 mod resources;
 mod stage;
 mod tasks;
+mod told;
 mod turns;
 
 use std::alloc::Global;
@@ -65,18 +67,6 @@ fn put_answer<R: Threads + Wait + Clock + Sync>(
     resources::put_answer(rt, alloc, call, &scene.row, out)
 }
 
-/// Judges a row.
-fn judge<R: Threads + Wait + Clock + Sync>(
-    rt: &R,
-    alloc: Global,
-    scene: Scene<'_>,
-    report: &mut Report,
-) -> Result<(), NoMemory> {
-    let mut answer = Vec::new(alloc);
-    put_answer(rt, alloc, scene, &mut answer)?;
-    report.judge(&scene.head, &scene.row, &answer)
-}
-
 /// The report on a file's rows.
 fn judged<R: Threads + Wait + Clock + Sync>(
     rt: &R,
@@ -88,7 +78,9 @@ fn judged<R: Threads + Wait + Clock + Sync>(
     let mut report = Report::new(alloc);
     for at in 1..table.len() {
         let row = table.row(at);
-        judge(rt, alloc, Scene { head, row }, &mut report)?;
+        let mut answer = Vec::new(alloc);
+        put_answer(rt, alloc, Scene { head, row }, &mut answer)?;
+        report.judge(&head, &row, &answer)?;
     }
     report.finish(&head)?;
     Ok(report)

@@ -39,7 +39,7 @@ pub fn put_answer<R: Threads + Wait + Sync>(
         Some(2) => states::put_state(alloc, row, out),
         Some(3) => budget_states::put_state(alloc, row, out),
         Some(4) => lines::put_play(rt, alloc, row, out),
-        Some(5) => words::put_texts(alloc, out),
+        Some(5) => words::put_texts(out),
         Some(6..=9) => banks::put_bank(rt, alloc, call, row, out),
         _ => Ok(()),
     }

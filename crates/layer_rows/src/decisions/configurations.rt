@@ -1,6 +1,6 @@
 //! Configurations: the first key that is wrong, the defaults, and where hosts are.
-use crate::decisions::questions::{Subject, cut, put_lines};
-use crate::listed::{index_of, put_counted};
+use crate::listed::{index_of, put_address, put_counted};
+use crate::questions::{Subject, cut, put_lines};
 use proxy_config::{
     Config, ConfigFault, Hosts, HostsFault, Network, ServicePoint, fixed_change, is_in, may_use,
     read_config,
@@ -90,19 +90,6 @@ fn put_networks(out: &mut Vec<u8>, networks: &[Network]) -> Result<(), NoMemory>
         put_decimal(out, u64::from(network.prefix_length))?;
     }
     put_line(out, b"")
-}
-
-/// Adds an address, its octets with dots between them.
-fn put_address(out: &mut Vec<u8>, address: Ipv4Addr) -> Result<(), NoMemory> {
-    let mut is_first = true;
-    for octet in address.octets() {
-        if !is_first {
-            out.extend_from_slice(b".")?;
-        }
-        put_decimal(out, u64::from(octet))?;
-        is_first = false;
-    }
-    Ok(())
 }
 
 /// Adds who may use the proxy, and where no request goes.
@@ -273,7 +260,7 @@ fn put_named(
         Err(HostsFault::Line(number)) => put_number(out, b"bad line", number)?,
         Err(HostsFault::NoMemory) => return Err(NoMemory),
     }
-    put_lines(&mut Book(&config.hosts), row.get(b"asked"), out)
+    put_lines(&mut Book(&config.hosts), row.get(b"want"), out)
 }
 
 /// Adds the first key that keeps the row's other configuration from taking the place of this one.

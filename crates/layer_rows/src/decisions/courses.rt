@@ -2,8 +2,8 @@
 mod words;
 
 use self::words::{EVENTS, WORDS, read_event};
-use crate::decisions::questions::asked;
 use crate::listed::put_standing;
+use crate::questions::asked;
 use exchange_core::{Course, Event, Exchange};
 use test_rows::{NoMemory, Row, lines_of, parts_of, put_line, put_shown, says};
 

@@ -1,8 +1,9 @@
 //! The words of plans and events, those of `adaptproxy trace`.
-use crate::decisions::questions::cut;
 use crate::listed::index_of;
+use crate::questions::cut;
+use exchange_report::write_event;
 use need_witness::{Script, Tape};
-use test_rows::{NoMemory, number, parts_of, put_decimal, says, words_of};
+use test_rows::{NoMemory, number, parts_of, says, words_of};
 use trace_core::{Answer, Cause, Event, Kind, Payload, Plan, Point, State};
 
 fn cause(number: u64) -> Option<Cause> {
@@ -54,44 +55,12 @@ pub fn read_event(text: &[u8]) -> Option<Event> {
     EVENTS.get(index_of(WORDS, text)?).copied()
 }
 
-fn event_word(event: Event) -> &'static [u8] {
-    match event {
-        Event::In(_) => b"in",
-        Event::End => b"end",
-        Event::Svc(_) => b"svc",
-        Event::Stop => b"stop",
-        Event::Heard => b"heard",
-        Event::Continue => b"100",
-        Event::NoMod => b"204",
-        Event::Mod(Payload::Body) => b"200",
-        Event::Mod(Payload::NullBody) => b"200 null",
-        Event::Ad(_) => b"ad",
-        Event::AdEnd => b"adend",
-        Event::Usr(_) => b"usr",
-        Event::Done => b"done",
-        Event::Fail(_) => b"fail",
-        Event::Retry => b"retry",
-    }
-}
-
-/// Adds the number of an event, if it has one.
-fn put_count_of(out: &mut Vec<u8>, event: Event) -> Result<(), NoMemory> {
-    match event {
-        Event::In(count) | Event::Svc(count) | Event::Ad(count) | Event::Usr(count) => {
-            out.extend_from_slice(b" ")?;
-            put_decimal(out, count)
-        }
-        _ => Ok(()),
-    }
-}
-
 /// Adds events, a comma between each two, and an LF.
 pub fn put_events(out: &mut Vec<u8>, events: &[Event]) -> Result<(), NoMemory> {
     let mut before: &[u8] = b"";
     for event in events {
         out.extend_from_slice(before)?;
-        out.extend_from_slice(event_word(*event))?;
-        put_count_of(out, *event)?;
+        write_event(out, *event)?;
         before = b", ";
     }
     out.extend_from_slice(b"\n")

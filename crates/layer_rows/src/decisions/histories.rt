@@ -3,18 +3,12 @@ use crate::decisions::claims::put_claim;
 use crate::decisions::events::{answered, read_event, read_part, read_plan};
 use crate::decisions::marks::put_mark;
 use crate::decisions::printed::is_printed_so;
-use crate::decisions::questions::{Subject, asked, put_lines};
 use crate::decisions::scripts::put_script;
+use crate::questions::{Subject, asked, put_lines};
+use exchange_report::write_range;
 use std::alloc::Global;
-use test_rows::{NoMemory, Row, lines_of, parts_of, put_decimal, put_line};
+use test_rows::{NoMemory, Row, lines_of, parts_of, put_line};
 use trace_core::{Answer, Event, Plan, State, StepFault, run};
-
-fn put_range(out: &mut Vec<u8>, word: &[u8], range: (u64, u64)) -> Result<(), NoMemory> {
-    out.extend_from_slice(word)?;
-    put_decimal(out, range.0)?;
-    out.extend_from_slice(b"..")?;
-    put_decimal(out, range.1)
-}
 
 /// Adds a fault's number and its text.
 fn put_step_fault(out: &mut Vec<u8>, fault: StepFault) -> Result<(), NoMemory> {
@@ -25,9 +19,11 @@ fn put_step_fault(out: &mut Vec<u8>, fault: StepFault) -> Result<(), NoMemory> {
 fn put_held(out: &mut Vec<u8>, answer: Answer) -> Result<(), NoMemory> {
     match answer {
         Answer::Held(original, adapted) => {
-            put_range(out, b"held ", original)?;
+            out.extend_from_slice(b"held ")?;
+            write_range(out, original)?;
             if let Some(adapted) = adapted {
-                put_range(out, b" adapted ", adapted)?;
+                out.extend_from_slice(b" adapted ")?;
+                write_range(out, adapted)?;
             }
             out.extend_from_slice(b"\n")
         }

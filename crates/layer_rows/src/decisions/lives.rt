@@ -1,9 +1,9 @@
 //! The line and the script of an exchange that isn't over.
 use crate::decisions::events::read_plan;
 use crate::decisions::histories::are_taken;
-use crate::decisions::questions::cut;
 use crate::decisions::reports::address;
 use crate::listed::index_of;
+use crate::questions::cut;
 use exchange_report::{
     Awaited, Caption, ExchangeId, Live, live_room, read_id, write_live, write_script,
 };

@@ -1,6 +1,6 @@
 //! Responses to OPTIONS (RFC 3507, section 4.10.2), and the records that are made of them.
-use crate::decisions::questions::{Subject, cut, put_lines};
 use crate::listed::index_of;
+use crate::questions::{Subject, cut, put_lines};
 use icap_head::{Fields, IcapResponse};
 use options_book::laws::{has_a_reading, reads_one_way};
 use options_book::{OptFault, Record, Treat, extension, read_record};

@@ -1,6 +1,6 @@
 //! A history that is printed, and run again from its text.
 use crate::decisions::events::{read_event, read_plan};
-use crate::decisions::questions::cut;
+use crate::questions::cut;
 use exchange_report::write_history;
 use std::alloc::Global;
 use test_rows::{NoMemory, lines_of};

@@ -1,6 +1,6 @@
 //! The log's line of an exchange, the text of the counters, and the page of a refusal.
-use crate::decisions::questions::cut;
 use crate::listed::index_of;
+use crate::questions::cut;
 use exchange_report::{
     Address, Destination, Entry, Family, Kind, Metric, Reason, Reply, Verdict, Why, metrics_text,
     page_refusal, write_line,

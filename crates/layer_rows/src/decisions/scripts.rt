@@ -1,6 +1,6 @@
 //! Scripts that still send a byte, and their checkers.
 use crate::decisions::events::{put_events, read_event, read_place, read_script};
-use crate::decisions::questions::cut;
+use crate::questions::cut;
 use need_witness::{check, fits, fits_next, held_is_needed, witness};
 use test_rows::{NoMemory, number, put_line, put_truth};
 use trace_core::State;

@@ -1,7 +1,7 @@
 //! All transactions at once: each line of `want` is an event of the world, and what is said of it.
 use crate::decisions::events::{read_event, read_plan};
-use crate::decisions::questions::{Subject, asked, cut, put_lines};
 use crate::listed::index_of;
+use crate::questions::{Subject, asked, cut, put_lines};
 use std::alloc::Global;
 use test_rows::{NoMemory, Row, lines_of, number, put_count, put_fault, put_line, says, words_of};
 use world_core::{World, WorldEvent, WorldFault};

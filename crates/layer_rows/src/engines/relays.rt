@@ -20,7 +20,7 @@ use wire_kit::{MemoryWire, Wire};
 const MAX_STILL: usize = 40;
 
 /// How a message ended.
-#[derive(Clone, Copy, Debug, PartialEq, Eq)]
+#[derive(Debug, Drop)]
 pub enum End {
     /// The next hop took all of it.
     Done,

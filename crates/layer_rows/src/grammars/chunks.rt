@@ -103,36 +103,20 @@ fn put_reading(alloc: Global, out: &mut Vec<u8>, text: &[u8]) -> Result<(), NoMe
     put_whole(alloc, out, text, &whole)
 }
 
-fn put_head(out: &mut Vec<u8>, size: u64) -> Result<(), NoMemory> {
+/// Adds the head of a chunk of a size, the bytes after a chunk, or the last chunk.
+fn put_written(out: &mut Vec<u8>, what: &[u8]) -> Result<(), NoMemory> {
     let mut text = Small::new();
-    if 0 < size && size < COUNT_LIMIT {
+    let size = number(what).unwrap_or(0);
+    if says(what, b"tail") {
+        put_chunk_tail(&mut text);
+    } else if says(what, b"last with ieof") {
+        put_last(true, &mut text);
+    } else if says(what, b"last") {
+        put_last(false, &mut text);
+    } else if 0 < size && size < COUNT_LIMIT {
         put_chunk_head(size, &mut text);
     }
     out.extend_from_slice(text.as_slice())
-}
-
-fn put_tail(out: &mut Vec<u8>) -> Result<(), NoMemory> {
-    let mut text = Small::new();
-    put_chunk_tail(&mut text);
-    out.extend_from_slice(text.as_slice())
-}
-
-fn put_end(out: &mut Vec<u8>, ieof: bool) -> Result<(), NoMemory> {
-    let mut text = Small::new();
-    put_last(ieof, &mut text);
-    out.extend_from_slice(text.as_slice())
-}
-
-fn put_written(out: &mut Vec<u8>, what: &[u8]) -> Result<(), NoMemory> {
-    if says(what, b"tail") {
-        put_tail(out)
-    } else if says(what, b"last with ieof") {
-        put_end(out, true)
-    } else if says(what, b"last") {
-        put_end(out, false)
-    } else {
-        put_head(out, number(what).unwrap_or(0))
-    }
 }
 
 pub fn put_answer(

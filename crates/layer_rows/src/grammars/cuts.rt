@@ -1,4 +1,6 @@
 //! Heads that are cut: up to the byte that decides, more has to come, and from there on the answer stays the same.
+use http_side::HttpFault;
+use icap_head::HeadFault;
 use std::alloc::Global;
 use test_rows::{NoMemory, put_line};
 
@@ -17,29 +19,17 @@ const READ: u64 = 0;
 /// The number of the fault that the head isn't whole yet.
 const MORE: u64 = 1;
 
-fn icap_request(alloc: Global, text: &[u8]) -> u64 {
-    match icap_head::read_request(alloc, text) {
+/// What is said of an ICAP head.
+fn icap_answer<T: Drop>(found: Result<T, HeadFault>) -> u64 {
+    match found {
         Ok(_) => READ,
         Err(fault) => fault.number(),
     }
 }
 
-fn icap_response(alloc: Global, text: &[u8]) -> u64 {
-    match icap_head::read_response(alloc, text) {
-        Ok(_) => READ,
-        Err(fault) => fault.number(),
-    }
-}
-
-fn http_request(alloc: Global, text: &[u8], adapted: bool) -> u64 {
-    match http_side::read_request(alloc, text, adapted) {
-        Ok(_) => READ,
-        Err(fault) => fault.number(),
-    }
-}
-
-fn http_response(alloc: Global, text: &[u8], to_head: bool) -> u64 {
-    match http_side::read_response(alloc, text, to_head) {
+/// What is said of an HTTP head.
+fn http_answer<T: Drop>(found: Result<T, HttpFault>) -> u64 {
+    match found {
         Ok(_) => READ,
         Err(fault) => fault.number(),
     }
@@ -47,10 +37,14 @@ fn http_response(alloc: Global, text: &[u8], to_head: bool) -> u64 {
 
 fn answer(alloc: Global, grammar: Grammar, text: &[u8]) -> u64 {
     match grammar {
-        Grammar::IcapRequest => icap_request(alloc, text),
-        Grammar::IcapResponse => icap_response(alloc, text),
-        Grammar::HttpRequest { adapted } => http_request(alloc, text, adapted),
-        Grammar::HttpResponse { to_head } => http_response(alloc, text, to_head),
+        Grammar::IcapRequest => icap_answer(icap_head::read_request(alloc, text)),
+        Grammar::IcapResponse => icap_answer(icap_head::read_response(alloc, text)),
+        Grammar::HttpRequest { adapted } => {
+            http_answer(http_side::read_request(alloc, text, adapted))
+        }
+        Grammar::HttpResponse { to_head } => {
+            http_answer(http_side::read_response(alloc, text, to_head))
+        }
     }
 }
 

@@ -1,12 +1,8 @@
 //! Heads of HTTP messages (RFC 9112, sections 2 to 6), cut at each byte.
 use crate::grammars::cuts::{Grammar, put_cuts};
-use http_side::{Head, HttpFault, HttpResponse, own_refusal, read_request, read_response};
+use http_side::{Head, HttpResponse, own_refusal, read_request, read_response};
 use std::alloc::Global;
 use test_rows::{NoMemory, Row, put_all, put_decimal, put_fault, put_number, put_shown, says};
-
-fn put_http_fault(out: &mut Vec<u8>, fault: HttpFault) -> Result<(), NoMemory> {
-    put_fault(out, fault.number(), &fault)
-}
 
 pub fn put_request(
     alloc: Global,
@@ -16,7 +12,7 @@ pub fn put_request(
 ) -> Result<(), NoMemory> {
     match read_request(alloc, text, adapted) {
         Ok(head) => put_number(out, b"read", head.length as u64),
-        Err(fault) => put_http_fault(out, fault),
+        Err(fault) => put_fault(out, fault.number(), &fault),
     }
 }
 
@@ -36,7 +32,7 @@ fn put_response(
 ) -> Result<(), NoMemory> {
     match read_response(alloc, text, to_head) {
         Ok(head) => put_parts(out, &head),
-        Err(fault) => put_http_fault(out, fault),
+        Err(fault) => put_fault(out, fault.number(), &fault),
     }
 }
 

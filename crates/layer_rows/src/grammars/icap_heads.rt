@@ -1,15 +1,12 @@
 //! Heads of ICAP messages (RFC 3507, section 4.3), cut at each byte.
 use crate::grammars::cuts::{Grammar, put_cuts};
+use crate::listed::index_of;
 use icap_head::{
-    Fields, Head, HeadFault, IcapRequest, IcapResponse, RequestMethod, Values, judge_request_line,
+    Fields, Head, IcapRequest, IcapResponse, RequestMethod, Values, judge_request_line,
     read_request, read_response,
 };
 use std::alloc::Global;
-use test_rows::{NoMemory, Row, put_all, put_decimal, put_fault, put_line, put_number, says};
-
-fn put_head_fault(out: &mut Vec<u8>, fault: HeadFault) -> Result<(), NoMemory> {
-    put_fault(out, fault.number(), &fault)
-}
+use test_rows::{NoMemory, Row, put_all, put_decimal, put_fault, put_line, put_number};
 
 fn put_fields(out: &mut Vec<u8>, fields: &Fields) -> Result<(), NoMemory> {
     for at in 0..fields.len() {
@@ -69,14 +66,14 @@ fn put_response(
 fn put_read_request(alloc: Global, out: &mut Vec<u8>, row: &Row<'_>) -> Result<(), NoMemory> {
     match read_request(alloc, row.get(b"text")) {
         Ok(head) => put_request(out, &head, row),
-        Err(fault) => put_head_fault(out, fault),
+        Err(fault) => put_fault(out, fault.number(), &fault),
     }
 }
 
 fn put_read_response(alloc: Global, out: &mut Vec<u8>, row: &Row<'_>) -> Result<(), NoMemory> {
     match read_response(alloc, row.get(b"text")) {
         Ok(head) => put_response(out, &head, row),
-        Err(fault) => put_head_fault(out, fault),
+        Err(fault) => put_fault(out, fault.number(), &fault),
     }
 }
 
@@ -89,36 +86,28 @@ fn put_size(out: &mut Vec<u8>, length: usize, fields: usize) -> Result<(), NoMem
 fn put_request_size(alloc: Global, out: &mut Vec<u8>, text: &[u8]) -> Result<(), NoMemory> {
     match read_request(alloc, text) {
         Ok(head) => put_size(out, head.length, head.value.fields.len()),
-        Err(fault) => put_head_fault(out, fault),
+        Err(fault) => put_fault(out, fault.number(), &fault),
     }
 }
 
 fn put_response_size(alloc: Global, out: &mut Vec<u8>, text: &[u8]) -> Result<(), NoMemory> {
     match read_response(alloc, text) {
         Ok(head) => put_size(out, head.length, head.value.fields.len()),
-        Err(fault) => put_head_fault(out, fault),
+        Err(fault) => put_fault(out, fault.number(), &fault),
     }
 }
 
 fn put_line_fault(alloc: Global, out: &mut Vec<u8>, text: &[u8]) -> Result<(), NoMemory> {
     match judge_request_line(alloc, text) {
         Ok(()) => put_line(out, b"good so far"),
-        Err(fault) => put_head_fault(out, fault),
+        Err(fault) => put_fault(out, fault.number(), &fault),
     }
 }
 
-/// Heads that are read as a whole alone.
-fn put_once(alloc: Global, out: &mut Vec<u8>, call: &[u8], text: &[u8]) -> Result<(), NoMemory> {
-    if says(call, b"read ICAP request once") {
-        put_request_size(alloc, out, text)
-    } else if says(call, b"read ICAP response once") {
-        put_response_size(alloc, out, text)
-    } else if says(call, b"judge ICAP request line") {
-        put_line_fault(alloc, out, text)
-    } else {
-        Ok(())
-    }
-}
+/// The calls of rows, in the order of `put_answer`. A head that is read once isn't cut.
+const CALLS: &[u8] =
+    b"read ICAP request|read ICAP response|size of ICAP request|size of ICAP response|\
+read ICAP request once|read ICAP response once|judge ICAP request line";
 
 pub fn put_answer(
     alloc: Global,
@@ -127,19 +116,18 @@ pub fn put_answer(
     out: &mut Vec<u8>,
 ) -> Result<(), NoMemory> {
     let text = row.get(b"text");
-    if says(call, b"read ICAP request") {
-        put_read_request(alloc, out, row)?;
-        put_cuts(alloc, Grammar::IcapRequest, text, out)
-    } else if says(call, b"read ICAP response") {
-        put_read_response(alloc, out, row)?;
-        put_cuts(alloc, Grammar::IcapResponse, text, out)
-    } else if says(call, b"size of ICAP request") {
-        put_request_size(alloc, out, text)?;
-        put_cuts(alloc, Grammar::IcapRequest, text, out)
-    } else if says(call, b"size of ICAP response") {
-        put_response_size(alloc, out, text)?;
-        put_cuts(alloc, Grammar::IcapResponse, text, out)
-    } else {
-        put_once(alloc, out, call, text)
+    let place = index_of(CALLS, call);
+    match place {
+        Some(0) => put_read_request(alloc, out, row)?,
+        Some(1) => put_read_response(alloc, out, row)?,
+        Some(2 | 4) => put_request_size(alloc, out, text)?,
+        Some(3 | 5) => put_response_size(alloc, out, text)?,
+        Some(6) => put_line_fault(alloc, out, text)?,
+        _ => {}
+    }
+    match place {
+        Some(0 | 2) => put_cuts(alloc, Grammar::IcapRequest, text, out),
+        Some(1 | 3) => put_cuts(alloc, Grammar::IcapResponse, text, out),
+        _ => Ok(()),
     }
 }

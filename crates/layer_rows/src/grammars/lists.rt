@@ -1,4 +1,5 @@
 //! Encapsulated lists (RFC 3507, section 4.4.1).
+use crate::told::put_told;
 use adapt_bytes::Method;
 use encapsulated::{BodyPart, Direction, EncFault, Layout, Part, read, write};
 use std::alloc::Global;
@@ -105,12 +106,6 @@ fn put_written(alloc: Global, out: &mut Vec<u8>, row: &Row<'_>) -> Result<(), No
     put_list(alloc, out, &layout)
 }
 
-/// What a programmer is told of a fault.
-fn put_text(alloc: Global, out: &mut Vec<u8>, fault: EncFault) -> Result<(), NoMemory> {
-    let text = format!(in alloc; "{fault}")?;
-    put_line(out, text.as_bytes())
-}
-
 /// A list that is read, as it is written again, or what is said of its fault.
 fn put_again(
     alloc: Global,
@@ -119,7 +114,7 @@ fn put_again(
 ) -> Result<(), NoMemory> {
     match found {
         Ok(layout) => put_list(alloc, out, &layout),
-        Err(fault) => put_text(alloc, out, fault),
+        Err(fault) => put_told(out, &fault),
     }
 }
 

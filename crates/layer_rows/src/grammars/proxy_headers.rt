@@ -1,25 +1,18 @@
 //! Headers of the PROXY protocol (proxy-protocol.txt, sections 2.1 and 2.2).
+use crate::listed::put_address;
 use proxy_header::{Reading, read};
-use std::net::Ipv4Addr;
-use test_rows::{NoMemory, Row, put_decimal, put_line, put_number, says};
-
-fn put_address(out: &mut Vec<u8>, address: Ipv4Addr) -> Result<(), NoMemory> {
-    out.extend_from_slice(b"from")?;
-    let mut before = b" ";
-    for octet in address.octets() {
-        out.extend_from_slice(before)?;
-        put_decimal(out, u64::from(octet))?;
-        before = b".";
-    }
-    put_line(out, b"")
-}
+use test_rows::{NoMemory, Row, put_line, put_number, says};
 
 /// What the text is, and of how many bytes the header is.
 fn put_reading(out: &mut Vec<u8>, reading: Reading) -> Result<(), NoMemory> {
     match reading {
         Reading::Whole(header) => {
             match header.from {
-                Some(address) => put_address(out, address)?,
+                Some(address) => {
+                    out.extend_from_slice(b"from ")?;
+                    put_address(out, address)?;
+                    put_line(out, b"")?;
+                }
                 None => put_line(out, b"from its own address")?,
             }
             put_number(out, b"bytes", header.length as u64)

@@ -2,7 +2,8 @@
 ghost use Rattle.std.specs.Prelude.{◌≡◌, ◌+◌, ◌≤◌, true};
 ghost use Rattle.span_bank.specs.State.{MaySum};
 
-use crate::resources::steps::{Stage, put_whole};
+use crate::questions::Subject;
+use crate::resources::steps::put_whole;
 use crate::resources::words::{number_after, pair_after, put_book};
 use span_bank::{
     BankState, BankStep, Journal, MAX_CAPACITY, MAX_ROWS, Numbers, RebasingJournal, Window,
@@ -68,9 +69,9 @@ fn put_journal<J: Journal>(out: &mut Vec<u8>, state: &BankState<J>) -> Result<()
     put_line(out, b"and no more")
 }
 
-impl<J: Journal> Stage for BankState<J> {
+impl<J: Journal> Subject for BankState<J> {
     /// Adds what a step answers, or what a question is.
-    fn put_step(&mut self, asks: &[u8], out: &mut Vec<u8>) -> Result<(), NoMemory> {
+    fn put_said(&mut self, asks: &[u8], out: &mut Vec<u8>) -> Result<(), NoMemory> {
         if says(asks, b"base") {
             return put_book(out, self.base());
         }

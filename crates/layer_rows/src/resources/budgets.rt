@@ -1,6 +1,7 @@
 //! A budget, one call after another through its lock: each line of `want` is a step and what it answers.
+use crate::questions::{Subject, put_lines};
 use crate::resources::reserved::{Budget, Desk};
-use crate::resources::steps::{Stage, end_all, keep, put_steps};
+use crate::resources::steps::{end_all, keep};
 use crate::resources::words::{number_after, pair_after, put_book, put_pages, put_sums};
 use span_bank::{Audit, Bank, CapacityFault, Ledgers};
 use std::alloc::{AllocError, Global};
@@ -103,9 +104,9 @@ fn put_last<T: Budget>(
     told
 }
 
-impl<'a, T: Budget> Stage for Opened<'a, T> {
+impl<'a, T: Budget> Subject for Opened<'a, T> {
     /// `open 60`, `capacity 59`, `book`, `store`, or a step of the last reservation.
-    fn put_step(&mut self, step: &[u8], out: &mut Vec<u8>) -> Result<(), NoMemory> {
+    fn put_said(&mut self, step: &[u8], out: &mut Vec<u8>) -> Result<(), NoMemory> {
         if let Some(claim) = number_after(step, b"open") {
             return open(self.budget, self.all, claim, out);
         }
@@ -134,7 +135,7 @@ fn put_played<T: Budget>(
         budget,
         all: &mut all,
     };
-    let told = put_steps(&mut opened, row.get(b"want"), out);
+    let told = put_lines(&mut opened, row.get(b"want"), out);
     end_all(budget, all);
     told
 }

@@ -1,6 +1,7 @@
 //! A pool, as its rows and threads ask it, and calls whose leases are kept in a list.
-use crate::resources::steps::{Lender, Stage, end_all, keep};
-use crate::resources::words::{number_after, put_back, put_closed};
+use crate::questions::Subject;
+use crate::resources::steps::{Lender, end_all, keep};
+use crate::resources::words::{is_picked, is_preferred, number_after, put_back, put_closed};
 use adapt_bytes::MAX_CONNECTIONS;
 use service_pool::{AuditFault, Found, Lease, Pool, Taken};
 use std::alloc::Global;
@@ -56,9 +57,8 @@ impl<'a, L: Ledger, R: Wait> Leasing for Counter<'a, L, R> {
     }
 
     fn take_preferred(&self) -> Option<(Found<u32>, Lease<L>)> {
-        let picked = |connection: &u32| *connection > 20;
-        let prefers = |connection: &u32| *connection > 30;
-        found_of(self.pool.take_preferred(self.rt, &picked, &prefers))
+        let taken = self.pool.take_preferred(self.rt, &is_picked, &is_preferred);
+        found_of(taken)
     }
 
     fn put(&self, connection: u32, lease: Lease<L>) -> Option<u32> {
@@ -126,9 +126,9 @@ fn put_last<T: Leasing>(
     put_line(out, b"closed")
 }
 
-impl<'a, T: Leasing> Stage for Leased<'a, T> {
+impl<'a, T: Leasing> Subject for Leased<'a, T> {
     /// `take`, `prefer`, `limit 1`, or a step of the last lease.
-    fn put_step(&mut self, step: &[u8], out: &mut Vec<u8>) -> Result<(), NoMemory> {
+    fn put_said(&mut self, step: &[u8], out: &mut Vec<u8>) -> Result<(), NoMemory> {
         if says(step, b"take") || says(step, b"prefer") {
             let taken = if says(step, b"take") {
                 self.pool.take()

@@ -1,6 +1,9 @@
 //! One step a call, on both forms of the journal, and how a full one makes room.
-use crate::resources::steps::{Stage, put_whole};
-use crate::resources::words::{number_after, put_back, put_closed, put_numbers};
+use crate::questions::Subject;
+use crate::resources::steps::put_whole;
+use crate::resources::words::{
+    is_picked, is_preferred, number_after, put_back, put_closed, put_numbers,
+};
 use adapt_bytes::MAX_CONNECTIONS;
 use service_pool::{Checked, Journal, PoolState, RebasingJournal, Window};
 use std::alloc::Global;
@@ -22,7 +25,7 @@ fn put_checked<J: Journal>(
     state: &mut PoolState<u32, J>,
     index: u64,
 ) -> Result<(), NoMemory> {
-    match state.close_idle(index.min(16) as usize, &|connection: &u32| *connection > 20) {
+    match state.close_idle(index.min(16) as usize, &is_picked) {
         Checked::Closed(connection) => put_number(out, b"closes", u64::from(connection)),
         Checked::Stays => put_line(out, b"stays"),
         Checked::Missing => put_line(out, b"none"),
@@ -54,16 +57,15 @@ fn put_leased<J: Journal>(
     put_line(out, b"no step")
 }
 
-impl<J: Journal> Stage for PoolState<u32, J> {
+impl<J: Journal> Subject for PoolState<u32, J> {
     /// Adds what a step answers, or what a question is.
-    fn put_step(&mut self, step: &[u8], out: &mut Vec<u8>) -> Result<(), NoMemory> {
+    fn put_said(&mut self, step: &[u8], out: &mut Vec<u8>) -> Result<(), NoMemory> {
         if says(step, b"take") {
             return put_shown(out, b"found", &self.take());
         }
         if says(step, b"prefer") {
-            let picked = |connection: &u32| *connection > 20;
-            let prefers = |connection: &u32| *connection > 30;
-            return put_shown(out, b"chosen", &self.take_preferred(&picked, &prefers));
+            let chosen = self.take_preferred(&is_picked, &is_preferred);
+            return put_shown(out, b"chosen", &chosen);
         }
         if let Some(maximum) = number_after(step, b"limit") {
             let closed = self.set_max(*out.allocator(), maximum.min(MAX_CONNECTIONS))?;

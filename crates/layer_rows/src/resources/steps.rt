@@ -1,34 +1,15 @@
-//! Steps of a row, and what lends something to its rows and threads.
-use crate::resources::words::asked;
-use test_rows::{NoMemory, lines_of};
+//! Steps on what ends with them, and what lends something to its rows and threads.
+use crate::questions::{Subject, put_lines};
+use test_rows::NoMemory;
 
-/// What a row plays its steps on.
-pub trait Stage {
-    /// Adds what a step answers.
-    fn put_step(&mut self, step: &[u8], out: &mut Vec<u8>) -> Result<(), NoMemory>;
-}
-
-/// Adds each step of the wanted lines with what it answers.
-pub fn put_steps<S: Stage>(stage: &mut S, lines: &[u8], out: &mut Vec<u8>) -> Result<(), NoMemory> {
-    for line in lines_of(lines) {
-        let step = asked(line);
-        if step.len() < line.len() {
-            out.extend_from_slice(step)?;
-            out.extend_from_slice(b" = ")?;
-            stage.put_step(step, out)?;
-        }
-    }
-    Ok(())
-}
-
-/// Adds each step of the wanted lines with what a stage answers that ends with them.
-pub fn put_whole<S: Stage + Drop>(
-    stage: S,
+/// Adds each step of the wanted lines with what it answers. What takes the steps ends with them.
+pub fn put_whole<S: Subject + Drop>(
+    what: S,
     lines: &[u8],
     out: &mut Vec<u8>,
 ) -> Result<(), NoMemory> {
-    let mut stage = stage;
-    put_steps(&mut stage, lines, out)
+    let mut what = what;
+    put_lines(&mut what, lines, out)
 }
 
 /// What lends things that have to go back to it.

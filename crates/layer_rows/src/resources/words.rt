@@ -1,11 +1,11 @@
 //! Words of steps and answers.
 ghost use Rattle.std.specs.Prelude.{◌≤◌};
 
+use crate::questions::cut;
+use crate::told::put_told;
 use service_pool::{AuditFault, Numbers, Over};
 use span_bank::{Audit, Book, CapacityFault, OpenFault};
-use std::alloc::Global;
-use std::fmt::Display;
-use test_rows::{NoMemory, Row, number, put_decimal, put_line, put_number, words_of};
+use test_rows::{NoMemory, Row, number, put_decimal, put_line, put_number};
 
 /// The number after a word, as in `put 11`.
 pub fn number_after(text: &[u8], word: &[u8]) -> Option<u64> {
@@ -15,30 +15,8 @@ pub fn number_after(text: &[u8], word: &[u8]) -> Option<u64> {
 /// The two numbers after a word, as in `grow 100 1`.
 pub fn pair_after(text: &[u8], word: &[u8]) -> Option<(u64, u64)> {
     let numbers = text.strip_prefix(word)?.strip_prefix(b" ")?;
-    let (first, second) = parts(numbers)?;
+    let (first, second) = cut(numbers, b" ");
     Some((number(first)?, number(second)?))
-}
-
-/// What stands before the first space of a text, and what comes after it.
-pub fn parts(text: &[u8]) -> Option<(&[u8], &[u8])> {
-    for at in 0..text.len() {
-        if text[at] == b' ' {
-            return Some((&text[..at], &text[at + 1..]));
-        }
-    }
-    None
-}
-
-/// The place of a word among these.
-pub fn index_of(words: &[u8], word: &[u8]) -> Option<usize> {
-    let mut place: usize = 0;
-    for other in words_of(words) {
-        if other == word {
-            return Some(place);
-        }
-        place = place.saturating_add(1);
-    }
-    None
 }
 
 /// For how many steps a row's journal has room: 16, if the row doesn't say.
@@ -57,14 +35,14 @@ pub fn put_no_memory(row: &Row<'_>, out: &mut Vec<u8>) -> Result<(), NoMemory> {
     }
 }
 
-/// What a line of the wanted answers asks: what stands before ` = `.
-pub fn asked(line: &[u8]) -> &[u8] {
-    for at in 0..line.len() {
-        if line[at..].starts_with(b" = ") {
-            return &line[..at];
-        }
-    }
-    line
+/// Whether a connection is taken before any other.
+pub fn is_picked(connection: &u32) -> bool {
+    *connection > 20
+}
+
+/// Whether a connection is taken before the others that are picked.
+pub fn is_preferred(connection: &u32) -> bool {
+    *connection > 30
 }
 
 /// Adds what became of a connection that was put back.
@@ -130,19 +108,13 @@ pub fn put_sums(out: &mut Vec<u8>, audit: Option<Audit>) -> Result<(), NoMemory>
     }
 }
 
-/// Adds what a programmer is told of a fault.
-fn put_text(alloc: Global, out: &mut Vec<u8>, fault: &impl Display) -> Result<(), NoMemory> {
-    let text = format!(in alloc; "{fault}")?;
-    put_line(out, text.as_bytes())
-}
-
 /// Adds what a programmer is told of each fault.
-pub fn put_texts(alloc: Global, out: &mut Vec<u8>) -> Result<(), NoMemory> {
-    put_text(alloc, out, &AuditFault::Missing)?;
-    put_text(alloc, out, &Over)?;
-    put_text(alloc, out, &OpenFault::Full { claimed: 60 })?;
-    put_text(alloc, out, &OpenFault::NoRow)?;
-    put_text(alloc, out, &span_bank::AuditFault::Missing)?;
-    put_text(alloc, out, &CapacityFault::TooLow { claimed: 60 })?;
-    put_text(alloc, out, &CapacityFault::NoMemory)
+pub fn put_texts(out: &mut Vec<u8>) -> Result<(), NoMemory> {
+    put_told(out, &AuditFault::Missing)?;
+    put_told(out, &Over)?;
+    put_told(out, &OpenFault::Full { claimed: 60 })?;
+    put_told(out, &OpenFault::NoRow)?;
+    put_told(out, &span_bank::AuditFault::Missing)?;
+    put_told(out, &CapacityFault::TooLow { claimed: 60 })?;
+    put_told(out, &CapacityFault::NoMemory)
 }

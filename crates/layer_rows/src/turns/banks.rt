@@ -18,7 +18,7 @@ use test_rows::{NoMemory, Scene, Values, plan_of, put_line};
 const MOST: usize = 8192;
 
 /// A run of a row.
-#[derive(Clone, Copy)]
+#[derive(Drop)]
 pub struct Run<'a, R> {
     pub rt: &'a R,
     pub alloc: Global,

@@ -89,7 +89,11 @@ pub fn put_beside<P: GameBudget>(
     let Some(other) = plan_of(case.get(b"beside")) else {
         return put_line(out, b"no plan beside it");
     };
-    match begin_both(budget, case, &case.by(other))? {
+    let other = Case {
+        plan: other,
+        ..*case
+    };
+    match begin_both(budget, case, &other)? {
         Some((offered, plain)) => put_both(offered, plain, case, out),
         None => put_line(out, b"it doesn't begin"),
     }

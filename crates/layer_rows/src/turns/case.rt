@@ -27,17 +27,6 @@ impl<'a> Case<'a> {
         self.scene.has(key)
     }
 
-    /// The same by another plan.
-    pub fn by(&self, plan: Plan) -> Case<'a> {
-        Case {
-            alloc: self.alloc,
-            plan,
-            first: self.first,
-            scene: self.scene,
-            values: self.values,
-        }
-    }
-
     /// What the transaction is of.
     pub fn subject(&self) -> Subject<'a> {
         Subject {

@@ -1,9 +1,9 @@
 //! A row: pools of its own, its steps, and what they answer.
 ghost use Rattle.std.specs.Prelude.{◌≡◌};
 
+use crate::questions::put_lines;
 use crate::resources::lines::stage::{Idle, Memory, Stage};
 use crate::resources::lines::steps::Play;
-use crate::resources::steps::put_steps;
 use adapt_bytes::MAX_CONNECTIONS;
 use service_lines::{PauseRule, Pools, Queues, Waiter, Waiting};
 use service_pool::{LEDGER_PARTS, Pool};
@@ -33,7 +33,7 @@ fn put_on<'a, 's, Q: Ledger, A: Ledger, R: Wait>(
         held: Vec::with_capacity(alloc, HELD)?,
         who: Waiter { thread: 0, key: 0 },
     };
-    let told = put_steps(&mut play, lines, out);
+    let told = put_lines(&mut play, lines, out);
     play.close_all();
     let Play {
         rt: _,

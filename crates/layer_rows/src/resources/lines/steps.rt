@@ -2,10 +2,10 @@
 
 ghost use Rattle.std.specs.Prelude.{◌≡◌, []};
 
+use crate::questions::{Subject, cut};
 use crate::resources::lines::stage::{Hand, Memory, Stage, bit_of};
-use crate::resources::lines::words::{fault_name, first_number, first_word, put_lent, put_woken};
-use crate::resources::steps;
-use crate::resources::words::{index_of, put_numbers};
+use crate::resources::lines::words::{fault_name, first_number, put_lent, put_woken};
+use crate::resources::words::put_numbers;
 use adapt_bytes::MAX_CONNECTIONS;
 use service_lines::{
     Breakers, Edge, LeasedConnection, LendFault, Pools, ServiceEnd, Waiter, Waiting,
@@ -13,10 +13,10 @@ use service_lines::{
 use std::alloc::Global;
 use std::sync::Wait;
 use std::sync::ledger::Ledger;
-use test_rows::{NoMemory, put_line, put_number, put_truth, says};
+use test_rows::{NoMemory, index_of, put_line, put_number, put_truth, says};
 use trace_core::Point;
 
-/// The steps that threads take, in the order of `put_step`.
+/// The steps that threads take, in the order of `put_said`.
 const STEPS: &[u8] =
     b"woken lend turn put close renew join leave first room maximum numbers tidy thread for answered failed untold paused";
 
@@ -39,7 +39,7 @@ pub struct Play<'a, 's, Q: Ledger, A: Ledger, R> {
 
 /// The point that a step names, `response` or nothing, and what comes after it.
 fn point_of(text: &[u8]) -> (Point, &[u8]) {
-    let (word, rest) = first_word(text);
+    let (word, rest) = cut(text, b" ");
     if says(word, b"response") {
         (Point::Respmod, rest)
     } else {
@@ -275,10 +275,10 @@ impl<'a, 's, Q: Ledger, A: Ledger, R: Wait> Play<'a, 's, Q, A, R> {
     }
 }
 
-impl<'a, 's, Q: Ledger, A: Ledger, R: Wait> steps::Stage for Play<'a, 's, Q, A, R> {
+impl<'a, 's, Q: Ledger, A: Ledger, R: Wait> Subject for Play<'a, 's, Q, A, R> {
     /// Adds what a step answers, or which threads were woken.
-    fn put_step(&mut self, step: &[u8], out: &mut Vec<u8>) -> Result<(), NoMemory> {
-        let (word, text) = first_word(step);
+    fn put_said(&mut self, step: &[u8], out: &mut Vec<u8>) -> Result<(), NoMemory> {
+        let (word, text) = cut(step, b" ");
         match index_of(STEPS, word) {
             Some(0) => put_woken(out, self.stage.woken.replace(0)),
             Some(1) => self.lend(point_of(text).0, None, out),

@@ -1,17 +1,12 @@
 //! Words of steps and of answers.
 
-use crate::resources::words::parts;
+use crate::questions::cut;
 use service_lines::LendFault;
 use test_rows::{NoMemory, number, put_decimal, put_line, put_number};
 
-/// The first word of a text, and what comes after it.
-pub fn first_word(text: &[u8]) -> (&[u8], &[u8]) {
-    parts(text).unwrap_or((text, &[]))
-}
-
 /// The number that a text begins with, or 0, and what comes after it.
 pub fn first_number(text: &[u8]) -> (u64, &[u8]) {
-    let (word, rest) = first_word(text);
+    let (word, rest) = cut(text, b" ");
     match number(word) {
         Some(count) => (count, rest),
         None => (0, rest),

@@ -1,4 +1,4 @@
-//! Lines of a row's `want`, each a question or an event with what is said of it.
+//! Lines of a row's `want`, each a question, an event or a step with what is said of it.
 use test_rows::{NoMemory, lines_of};
 
 /// What stands before this mark, or all if there is no mark, and what stands after it.
@@ -16,21 +16,21 @@ pub fn asked(line: &[u8]) -> &[u8] {
     cut(line, b" = ").0
 }
 
-/// What is asked.
+/// What is asked, or takes steps.
 pub trait Subject {
-    /// Adds what is said of a question.
+    /// Adds what is said of a question, or what a step answers.
     fn put_said(&mut self, question: &[u8], out: &mut Vec<u8>) -> Result<(), NoMemory>;
 }
 
-/// Adds each wanted line's question with what is said of it.
+/// Adds each question among the wanted lines with what is said of it.
 pub fn put_lines<S: Subject>(
     what: &mut S,
     lines: &[u8],
     out: &mut Vec<u8>,
 ) -> Result<(), NoMemory> {
     for line in lines_of(lines) {
-        if !line.is_empty() {
-            let question = asked(line);
+        let question = asked(line);
+        if question.len() < line.len() {
             out.extend_from_slice(question)?;
             out.extend_from_slice(b" = ")?;
             what.put_said(question, out)?;
