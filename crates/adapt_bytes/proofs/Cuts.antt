@@ -1,5 +1,6 @@
 -- A text is cut at the first place of a byte in one way.
-use Rattle.std.proofs.Common.{◌≡◌, ◌≢◌, ℕ, suc, ◌+◌, ◌<◌, ◌≤◌, List, [], ◌∷◌, ◌++◌, length, get_or, take, drop, refl, sym, ap, ◌∙◌, arith, take-append-drop, length-take-le, get_or-take}
+use Rattle.std.proofs.Common.{◌≡◌, ◌≢◌, ℕ, suc, ◌+◌, ◌<◌, ◌≤◌, List, [], ◌∷◌, ◌++◌, length, get_or, take, drop, refl, sym, ap, ◌∙◌, arith}
+use Rattle.std.proofs.Common.{take-append-drop, length-take-le, get_or-take}
 use Rattle.std.proofs.lemmas.List.{drop_more}
 use Rattle.adapt_bytes.specs.Text.{Lacks}
 
@@ -35,4 +36,5 @@ Lacks-take c text at fits before k inside is =
 pub cut_at : (c : ℕ) (text a x : List ℕ) (at : ℕ) → Lacks c a → text ≡ a ++ c ∷ x → at < length text → get_or text at 0 ≡ c
     → ((k : ℕ) → k < at → get_or text k 0 ≢ c) → (a ≡ take at text) × (x ≡ drop (at + 1) text)
 cut_at c text a x at lacks cut inside is before =
-    first_cut c a (take at text) x (drop (at + 1) text) lacks (Lacks-take c text at (omega arith) before) (sym cut ∙ cut_here text at c inside is)
+    first_cut c a (take at text) x (drop (at + 1) text) lacks (Lacks-take c text at (omega arith) before)
+    (sym cut ∙ cut_here text at c inside is)

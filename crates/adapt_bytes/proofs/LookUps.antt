@@ -1,5 +1,6 @@
 -- The values of a name, field by field, as in a header map.
-use Rattle.std.proofs.Common.{◌≡◌, ℕ, true, false, List, [], ◌∷◌, ◌++◌, map, bytes_eq, refl, sym, ap, ◌∙◌, subst, inl, inr, append-nil, append_assoc}
+use Rattle.std.proofs.Common.{◌≡◌, ℕ, true, false, List, [], ◌∷◌, ◌++◌, map, bytes_eq, refl, sym, ap, ◌∙◌, subst, inl, inr, append-nil}
+use Rattle.std.proofs.Common.{append_assoc}
 use Rattle.std.proofs.lemmas.Bool.{cases_Bool}
 use Rattle.std.proofs.lemmas.Slice.Eq.{bytes_eq-Decides}
 use Rattle.http_header.specs.Token.{lowercase}
@@ -7,18 +8,22 @@ use Rattle.http_header.specs.HeaderMap.{Entries, get_all, append, append_all}
 use Rattle.http_header.proofs.HeaderMapLemmas.{get_all-append_same, get_all-append_other}
 use Rattle.adapt_bytes.specs.Fields.{FieldList, is_named, values_of, as_header_map}
 
-values_yes : (name : List ℕ) (f : List ℕ × List ℕ) (fields : FieldList) → is_named name f ≡ true → values_of name (f ∷ fields) ≡ f.1 ∷ values_of name fields
+values_yes : (name : List ℕ) (f : List ℕ × List ℕ) (fields : FieldList) → is_named name f ≡ true
+    → values_of name (f ∷ fields) ≡ f.1 ∷ values_of name fields
 values_yes name f fields is = rw is refl
 
-values_no : (name : List ℕ) (f : List ℕ × List ℕ) (fields : FieldList) → is_named name f ≡ false → values_of name (f ∷ fields) ≡ values_of name fields
+values_no : (name : List ℕ) (f : List ℕ × List ℕ) (fields : FieldList) → is_named name f ≡ false
+    → values_of name (f ∷ fields) ≡ values_of name fields
 values_no name f fields off = rw off refl
 
-get_appended : (m : Entries (List ℕ)) (key value : List ℕ) (name : List ℕ) → bytes_eq key name ≡ true → get_all (append m key value) name ≡ get_all m name ++ value ∷ []
+get_appended : (m : Entries (List ℕ)) (key value : List ℕ) (name : List ℕ) → bytes_eq key name ≡ true
+    → get_all (append m key value) name ≡ get_all m name ++ value ∷ []
 get_appended m key value name is =
     let same : key ≡ name = (bytes_eq-Decides key name).0 is in
     subst (λ k. get_all (append m k value) name ≡ get_all m name ++ value ∷ []) (sym same) (get_all-append_same m name value)
 
-get_other : (m : Entries (List ℕ)) (key value : List ℕ) (name : List ℕ) → bytes_eq key name ≡ false → get_all (append m key value) name ≡ get_all m name
+get_other : (m : Entries (List ℕ)) (key value : List ℕ) (name : List ℕ) → bytes_eq key name ≡ false
+    → get_all (append m key value) name ≡ get_all m name
 get_other m key value name off =
     get_all-append_other m key name value (λ same. let x : false ≡ true = sym off ∙ (bytes_eq-Decides key name).1 same in cc)
 
@@ -30,10 +35,12 @@ map_after name (f ∷ fields) m =
     let rest = map_after name fields (append m key f.1) in
     elim (cases_Bool (is_named name f)) [
       | inl is ↦
-          rest ∙ ap (λ v. v ++ values_of name fields) (get_appended m key f.1 (lowercase name) is) ∙ append_assoc (get_all m (lowercase name)) (f.1 ∷ []) (values_of name fields)
+          rest ∙ ap (λ v. v ++ values_of name fields) (get_appended m key f.1 (lowercase name) is)
+          ∙ append_assoc (get_all m (lowercase name)) (f.1 ∷ []) (values_of name fields)
           ∙ ap (λ v. get_all m (lowercase name) ++ v) (sym (values_yes name f fields is))
       | inr off ↦
-          rest ∙ ap (λ v. v ++ values_of name fields) (get_other m key f.1 (lowercase name) off) ∙ ap (λ v. get_all m (lowercase name) ++ v) (sym (values_no name f fields off))
+          rest ∙ ap (λ v. v ++ values_of name fields) (get_other m key f.1 (lowercase name) off)
+          ∙ ap (λ v. get_all m (lowercase name) ++ v) (sym (values_no name f fields off))
     ]
 
 pub values_as_in_map : (name : List ℕ) (fields : FieldList) → get_all (as_header_map fields) (lowercase name) ≡ values_of name fields

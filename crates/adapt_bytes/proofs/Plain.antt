@@ -1,5 +1,6 @@
 -- Texts without commas and blanks are parts as they stand.
-use Rattle.std.proofs.Common.{◌≡◌, ℕ, ◌<◌, Bool, true, false, not, ◌&&◌, cond, List, [], ◌∷◌, ◌++◌, map, reverse, refl, sym, ap, ◌∙◌, arith, eqb}
+use Rattle.std.proofs.Common.{◌≡◌, ℕ, ◌<◌, Bool, true, false, not, ◌&&◌, cond, List, [], ◌∷◌, ◌++◌, map, reverse, refl, sym, ap, ◌∙◌, arith}
+use Rattle.std.proofs.Common.{eqb}
 use Rattle.std.specs.List.{slice_split, onto_first, list_all}
 use Rattle.std.specs.Char.{digit_value}
 use Rattle.std.specs.Str.Parse.{AllDigits}
@@ -48,11 +49,13 @@ pub trim_plain : (xs : List ℕ) → list_all is_plain xs ≡ true → trim xs �
 unfolding trim
 trim_plain xs h = rw (skip_plain xs h, skip_plain (reverse xs) (plain-reverse xs h)) (reverse-reverse xs)
 
-split_plain : (xs rest : List ℕ) → list_all is_plain xs ≡ true → slice_split (λ b. eqb b 44) (xs ++ 44 ∷ rest) ≡ xs ∷ slice_split (λ b. eqb b 44) rest
+split_plain : (xs rest : List ℕ) → list_all is_plain xs ≡ true
+    → slice_split (λ b. eqb b 44) (xs ++ 44 ∷ rest) ≡ xs ∷ slice_split (λ b. eqb b 44) rest
 split_plain [] rest h = refl
 split_plain (x ∷ xs) rest h =
     let p = both _ _ h in
-    ap (λ t. cond t ([] ∷ slice_split (λ b. eqb b 44) (xs ++ 44 ∷ rest)) (onto_first x (slice_split (λ b. eqb b 44) (xs ++ 44 ∷ rest)))) (no_comma x p.0)
+    ap (λ t. cond t ([] ∷ slice_split (λ b. eqb b 44) (xs ++ 44 ∷ rest)) (onto_first x (slice_split (λ b. eqb b 44) (xs ++ 44 ∷ rest))))
+    (no_comma x p.0)
     ∙ ap (onto_first x) (split_plain xs rest p.1)
 
 split_plain_end : (xs : List ℕ) → list_all is_plain xs ≡ true → slice_split (λ b. eqb b 44) xs ≡ xs ∷ []
@@ -87,7 +90,8 @@ comma_parts_space xs =
 
 pub comma_parts_plain : (xs rest : List ℕ) → list_all is_plain xs ≡ true → comma_parts (xs ++ 44 ∷ rest) ≡ xs ∷ comma_parts rest
 unfolding comma_parts
-comma_parts_plain xs rest h = ap (map trim) (split_plain xs rest h) ∙ ap (λ t. t ∷ map trim (slice_split (λ b. eqb b 44) rest)) (trim_plain xs h)
+comma_parts_plain xs rest h = ap (map trim) (split_plain xs rest h) ∙ ap (λ t. t ∷ map trim (slice_split (λ b. eqb b 44) rest))
+    (trim_plain xs h)
 
 pub comma_parts_last : (xs : List ℕ) → list_all is_plain xs ≡ true → comma_parts xs ≡ xs ∷ []
 unfolding comma_parts

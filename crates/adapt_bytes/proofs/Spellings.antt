@@ -1,5 +1,6 @@
 -- A number has one spelling in lower case and without a leading zero.
-use Rattle.std.proofs.Common.{◌≡◌, ◌≢◌, ℕ, zero, suc, ◌+◌, ◌*◌, ◌%◌, ◌<◌, ◌≤◌, inl, inr, List, [], ◌∷◌, ◌++◌, map, get_or, refl, sym, ap, ◌∙◌, arith, append_assoc, zero-mul}
+use Rattle.std.proofs.Common.{◌≡◌, ◌≢◌, ℕ, zero, suc, ◌+◌, ◌*◌, ◌%◌, ◌<◌, ◌≤◌, inl, inr, List, [], ◌∷◌, ◌++◌, map, get_or, refl, sym, ap}
+use Rattle.std.proofs.Common.{◌∙◌, arith, append_assoc, zero-mul}
 use Rattle.std.proofs.lemmas.Bool.Decides.{nat_tests}
 use Rattle.std.proofs.lemmas.List.{append-nil}
 use Rattle.std.proofs.lemmas.Nat.{div-mul-add, mod-mul-add}
@@ -21,7 +22,8 @@ one_behind base n d two below pos =
     ∙ ap (λ m. digits_of base n ++ (m ∷ [])) (mod-mul-add n base d below)
 
 -- digits behind a number that isn't 0
-digits_behind : (base n : ℕ) (ds : List ℕ) → 2 ≤ base → 0 < n → AllBelowBase base ds → digits_of base (number_from_digits_after base n ds) ≡ digits_of base n ++ ds
+digits_behind : (base n : ℕ) (ds : List ℕ) → 2 ≤ base → 0 < n → AllBelowBase base ds
+    → digits_of base (number_from_digits_after base n ds) ≡ digits_of base n ++ ds
 digits_behind base n [] two pos below = sym (append-nil (digits_of base n))
 digits_behind base n (d ∷ ds) two pos below =
     let more : n ≤ n * base = le-mul_of_pos_right n (omega arith) in
@@ -37,12 +39,14 @@ values_below base (c ∷ text) h = (h.0, values_below base text h.1)
 digit_again : (c : ℕ) → digit_value c < 16 → to_ascii_lowercase c ≡ c → digit_char (digit_value c) ≡ c
 digit_again c below lower = grind (arith, nat_tests)
 
-digits_again : (base : ℕ) (text : List ℕ) → base ≤ 16 → AllDigits base text → IsLowerCase text → map digit_char (map digit_value text) ≡ text
+digits_again : (base : ℕ) (text : List ℕ) → base ≤ 16 → AllDigits base text → IsLowerCase text
+    → map digit_char (map digit_value text) ≡ text
 digits_again base [] high h lower = refl
 digits_again base (c ∷ text) high h lower =
     let first : to_ascii_lowercase c ≡ c = cc in
     let behind : map to_ascii_lowercase text ≡ text = cc in
-    ap (λ x. x ∷ map digit_char (map digit_value text)) (digit_again c (omega (arith, h.0)) first) ∙ ap (λ l. c ∷ l) (digits_again base text high h.1 behind)
+    ap (λ x. x ∷ map digit_char (map digit_value text)) (digit_again c (omega (arith, h.0)) first)
+    ∙ ap (λ l. c ∷ l) (digits_again base text high h.1 behind)
 
 -- the digit 0
 zero_digit : (c : ℕ) → digit_value c ≡ 0 → c ≡ 48
@@ -52,11 +56,13 @@ zero_digit c is = grind (arith, nat_tests)
 first_some : (base c : ℕ) (text : List ℕ) → 2 ≤ base → 0 < digit_value c → AllDigits base (c ∷ text)
     → digits_of base (number_from_digits base (map digit_value (c ∷ text))) ≡ map digit_value (c ∷ text)
 first_some base c text two pos h =
-    let one : digits_of base (0 * base + digit_value c) ≡ digit_value c ∷ [] = one_behind base 0 (digit_value c) two h.0 (omega (arith, zero-mul base)) in
+    let one : digits_of base (0 * base + digit_value c) ≡ digit_value c ∷ [] =
+    one_behind base 0 (digit_value c) two h.0 (omega (arith, zero-mul base)) in
     digits_behind base (0 * base + digit_value c) (map digit_value text) two (omega (arith, zero-mul base)) (values_below base text h.1)
     ∙ ap (λ l. l ++ map digit_value text) one
 
-pub only_spelling : (base n : ℕ) (text : List ℕ) → 2 ≤ base → base ≤ 16 → Writes base text n → HasNoLeadingZero text → IsLowerCase text → text ≡ numeral base n
+pub only_spelling : (base n : ℕ) (text : List ℕ) → 2 ≤ base → base ≤ 16 → Writes base text n → HasNoLeadingZero text → IsLowerCase text
+    → text ≡ numeral base n
 only_spelling base n [] two high w short lower = absurd (omega (arith, w.digits.0))
 only_spelling base n (c ∷ text) two high w short lower = by_first (digit_value c) refl short
   where
@@ -85,7 +91,8 @@ digit_lower d below = grind (arith, nat_tests)
 digits_lower : (base : ℕ) (ds : List ℕ) → base ≤ 16 → AllBelowBase base ds → IsLowerCase (map digit_char ds)
 digits_lower base [] high h = refl
 digits_lower base (d ∷ ds) high h =
-    ap (λ x. x ∷ map to_ascii_lowercase (map digit_char ds)) (digit_lower d (omega (arith, h.0))) ∙ ap (λ l. digit_char d ∷ l) (digits_lower base ds high h.1)
+    ap (λ x. x ∷ map to_ascii_lowercase (map digit_char ds)) (digit_lower d (omega (arith, h.0)))
+    ∙ ap (λ l. digit_char d ∷ l) (digits_lower base ds high h.1)
 
 abbrev first_of : List ℕ → ℕ
 first_of [] = 0
@@ -100,5 +107,7 @@ short_spelling base zero two high = rw (numeral_zero base) (inl refl, refl)
 short_spelling base (suc n) two high =
     let below = all_below_base_digits_of base (suc n) two in
     let first = first_digits_of base (suc n) two (omega arith) in
-    rw (numeral_more base (suc n) (omega arith))
-    (inr (λ behind. starts_high base (digits_of base (suc n)) behind high below first), digits_lower base (digits_of base (suc n)) high below)
+    rw (numeral_more base (suc n) (omega arith)) (
+      inr (λ behind. starts_high base (digits_of base (suc n)) behind high below first),
+      digits_lower base (digits_of base (suc n)) high below,
+    )

@@ -1,11 +1,13 @@
 -- What is written is read again, and is short.
-use Rattle.std.proofs.Common.{◌≡◌, ℕ, zero, suc, ◌+◌, ◌*◌, ◌<◌, ◌≤◌, ◌^◌, false, List, [], ◌∷◌, length, map, refl, ap, ◌∙◌, arith, nat_eq, lit≤, zero-mul}
+use Rattle.std.proofs.Common.{◌≡◌, ℕ, zero, suc, ◌+◌, ◌*◌, ◌<◌, ◌≤◌, ◌^◌, false, List, [], ◌∷◌, length, map, refl, ap, ◌∙◌, arith, nat_eq}
+use Rattle.std.proofs.Common.{lit≤, zero-mul}
 use Rattle.std.proofs.lemmas.Bool.Decides.{nat_tests}
 use Rattle.std.proofs.lemmas.List.{length-map}
 use Rattle.std.specs.Char.{digit_value, digit_char}
 use Rattle.std.specs.Str.Parse.{AllDigits}
 use Rattle.std.specs.Int.Digits.{digits_of, number_from_digits, AllBelowBase}
-use Rattle.std.proofs.lemmas.Int.Digits.{digits_value_is, all_below_base_digits_of, number_digits_of, length-digits_of_step, length-digits_of-le}
+use Rattle.std.proofs.lemmas.Int.Digits.{digits_value_is, all_below_base_digits_of, number_digits_of, length-digits_of_step}
+use Rattle.std.proofs.lemmas.Int.Digits.{length-digits_of-le}
 use Rattle.adapt_bytes.specs.Numeral.{Writes, numeral}
 
 digit_back : (d : ℕ) → d < 16 → digit_value (digit_char d) ≡ d
@@ -17,7 +19,8 @@ all_digits base (d ∷ ds) high h = (omega (arith, digit_back d (omega (arith, h
 
 values_back : (base : ℕ) (ds : List ℕ) → base ≤ 16 → AllBelowBase base ds → map digit_value (map digit_char ds) ≡ ds
 values_back base [] high h = refl
-values_back base (d ∷ ds) high h = ap (λ x. x ∷ map digit_value (map digit_char ds)) (digit_back d (omega (arith, h.0))) ∙ ap (λ xs. d ∷ xs) (values_back base ds high h.1)
+values_back base (d ∷ ds) high h = ap (λ x. x ∷ map digit_value (map digit_char ds)) (digit_back d (omega (arith, h.0)))
+    ∙ ap (λ xs. d ∷ xs) (values_back base ds high h.1)
 
 eq_no : (n : ℕ) → 0 < n → nat_eq n 0 ≡ false
 eq_no n pos = grind (arith, nat_tests)
@@ -42,12 +45,14 @@ Writes-numeral base (suc n) low high =
     let len = length-digits_of_step base (suc n) low (omega arith) in
     rw (numeral_more base (suc n) (omega arith)) (record {
       digits = (omega (arith, length-map ds digit_char), all_digits base ds high below);
-      value = digits_value_is base (map digit_char ds) ∙ ap (number_from_digits base) (values_back base ds high below) ∙ number_digits_of base (suc n) low;
+      value = digits_value_is base (map digit_char ds) ∙ ap (number_from_digits base) (values_back base ds high below)
+          ∙ number_digits_of base (suc n) low;
     })
 
 pub length-numeral-le : (base n k : ℕ) → 2 ≤ base → 0 < k → n < base ^ k → length (numeral base n) ≤ k
 length-numeral-le base zero k low pos l = rw (numeral_zero base) pos
-length-numeral-le base (suc n) k low pos l = rw (numeral_more base (suc n) (omega arith)) (omega (arith, length-map (digits_of base (suc n)) digit_char, length-digits_of-le base k (suc n) low l))
+length-numeral-le base (suc n) k low pos l = rw (numeral_more base (suc n) (omega arith))
+    (omega (arith, length-map (digits_of base (suc n)) digit_char, length-digits_of-le base k (suc n) low l))
 
 pub decimal_short : (n : ℕ) → n < 2 ^ 64 → length (numeral 10 n) ≤ 20
 decimal_short n l = length-numeral-le 10 n 20 (lit≤ tt) (lit≤ tt) (omega arith)

@@ -1,5 +1,6 @@
 -- A field's value as text: tokens, items between commas, and the case of ASCII.
-use Rattle.std.specs.Prelude.{◌≡◌, ◌≢◌, ℕ, ◌<◌, slice_index, Bool, ◌||◌, List, [], ◌∷◌, length, map, filter, reverse, if◌then◌else◌, ◌==◌, nat_lt, codes, IsTrue, All, Option, Some, None}
+use Rattle.std.specs.Prelude.{◌≡◌, ◌≢◌, ℕ, ◌<◌, slice_index, Bool, ◌||◌, List, [], ◌∷◌, length, map, filter, reverse, if◌then◌else◌, ◌==◌}
+use Rattle.std.specs.Prelude.{nat_lt, codes, IsTrue, All, Option, Some, None}
 use Rattle.std.specs.List.{slice_split, list_any}
 use Rattle.std.specs.Char.{is_ascii_alphanumeric, to_ascii_lowercase}
 use Rattle.std.specs.Str.{str_eq_ignore_ascii_case}

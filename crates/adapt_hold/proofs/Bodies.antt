@@ -4,13 +4,15 @@ use Rattle.std.proofs.lemmas.List.{length-append, drop-drop, drop-append-le}
 use Rattle.std.proofs.lemmas.Bool.Decides.{nat_tests}
 use Rattle.trace_core.specs.declared.history.Seen.{Seen}
 use Rattle.trace_core.specs.declared.history.Event.{Event}
-use Rattle.trace_core.specs.declared.history.Event.TheVariants.{In, End, Svc, Stop, Heard, Continue, NoMod, Mod, Ad, AdEnd, Usr, Done, Fail, Retry}
+use Rattle.trace_core.specs.declared.history.Event.TheVariants.{In, End, Svc, Stop, Heard, Continue, NoMod, Mod, Ad, AdEnd, Usr, Done, Fail}
+use Rattle.trace_core.specs.declared.history.Event.TheVariants.{Retry}
 use Rattle.trace_core.specs.Legal.{MayFollow, Allows}
 use Rattle.trace_core.specs.Faults.{chooses_original}
 use Rattle.trace_core.specs.Held.{original_from, adapted_from, held_places}
 use Rattle.trace_core.proofs.Sound.{Sound, sound}
 use Rattle.adapt_hold.specs.Spans.{Span, span_end, EndsBody}
-use Rattle.adapt_hold.specs.Holding.{Holding, IsTied, IsRoomy, Carries, BringsNone, shows, shows_then, history_then, then_from, moved, original_in, adapted_in}
+use Rattle.adapt_hold.specs.Holding.{Holding, IsTied, IsRoomy, Carries, BringsNone, shows, shows_then, history_then, then_from, moved}
+use Rattle.adapt_hold.specs.Holding.{original_in, adapted_in}
 use Rattle.plan_rules.specs.Room.{claim_then, original_room, adapted_room}
 use Rattle.adapt_hold.proofs.Tied.{Steps, numbers, then_from-end, held_before}
 use Rattle.adapt_hold.proofs.Closes.{then_shows}
@@ -20,22 +22,26 @@ use Rattle.plan_rules.proofs.Paced.{Roomy, Paces, paces-step}
 svc_on_tape : (x : Seen) (n : ℕ) → Sound x → x.closed ≡ false → Allows x (Svc n) → original_from x ≤ x.sent
 svc_on_tape x n s c a = grind (arith, nat_tests)
 
-usr_original : (x : Seen) (n : ℕ) → Sound x → x.closed ≡ false → Allows x (Usr n) → chooses_original x ≡ true → (original_from x ≡ x.original_delivered) × (x.original_delivered + n ≤ x.received)
+usr_original : (x : Seen) (n : ℕ) → Sound x → x.closed ≡ false → Allows x (Usr n) → chooses_original x ≡ true
+    → (original_from x ≡ x.original_delivered) × (x.original_delivered + n ≤ x.received)
 usr_original x n s c a o = grind (arith, nat_tests)
 
-usr_adapted : (x : Seen) (n : ℕ) → Sound x → x.closed ≡ false → Allows x (Usr n) → x.modified ≡ true → (adapted_from x ≡ x.adapted_delivered) × (x.adapted_delivered + n ≤ x.adapted_received)
+usr_adapted : (x : Seen) (n : ℕ) → Sound x → x.closed ≡ false → Allows x (Usr n) → x.modified ≡ true
+    → (adapted_from x ≡ x.adapted_delivered) × (x.adapted_delivered + n ≤ x.adapted_received)
 usr_adapted x n s c a o = grind (arith, nat_tests)
 
 -- Tapes and bodies.
 
-rest_of : (base place : ℕ) (body b : List ℕ) → base ≤ place → base ≤ length body → drop (place - base) (drop base body ++ b) ≡ drop place (body ++ b)
+rest_of : (base place : ℕ) (body b : List ℕ) → base ≤ place → base ≤ length body
+    → drop (place - base) (drop base body ++ b) ≡ drop place (body ++ b)
 rest_of base place body b low within =
     let to : base + (place - base) ≡ place = omega arith in
     ap (λ (l : List ℕ). drop (place - base) l) (sym (drop-append-le base body b within))
     ∙ drop-drop (place - base) base (body ++ b)
     ∙ ap (λ (k : ℕ). drop k (body ++ b)) to
 
-pub follows : (t : Span) (b body : List ℕ) (place : ℕ) → t.base ≤ place → place ≤ span_end t + length b → EndsBody t body → EndsBody (then_from t b place) (body ++ b)
+pub follows : (t : Span) (b body : List ℕ) (place : ℕ) → t.base ≤ place → place ≤ span_end t + length b → EndsBody t body
+    → EndsBody (then_from t b place) (body ++ b)
 follows t b body place low high f =
     let to = f.end in
     record {
@@ -43,16 +49,19 @@ follows t b body place low high f =
       bytes = ap (λ (l : List ℕ). drop (place - t.base) (l ++ b)) f.bytes ∙ rest_of t.base place body b low (omega arith);
     }
 
-pub steps : (h : Holding) (event : Event) (bytes : List ℕ) → MayFollow h.history.plan h.history.events event → Carries event bytes → Steps h event bytes
+pub steps : (h : Holding) (event : Event) (bytes : List ℕ) → MayFollow h.history.plan h.history.events event → Carries event bytes
+    → Steps h event bytes
 steps h event bytes m c = record { may = m; original = c.0; adapted = c.1 }
 
-pub original_follows : (h : Holding) (event : Event) (bytes body : List ℕ) → IsTied h → Steps h event bytes → EndsBody h.original body → EndsBody (moved h event bytes).original (body ++ original_in event bytes)
+pub original_follows : (h : Holding) (event : Event) (bytes body : List ℕ) → IsTied h → Steps h event bytes → EndsBody h.original body
+    → EndsBody (moved h event bytes).original (body ++ original_in event bytes)
 original_follows h event bytes body t s f =
     let n = numbers h event bytes t s in
     let high = n.original_high in let all = n.received in
     follows h.original (original_in event bytes) body (original_from (shows_then h.history event)) n.original_low (omega arith) f
 
-pub adapted_follows : (h : Holding) (event : Event) (bytes body : List ℕ) → IsTied h → Steps h event bytes → EndsBody h.adapted body → EndsBody (moved h event bytes).adapted (body ++ adapted_in event bytes)
+pub adapted_follows : (h : Holding) (event : Event) (bytes body : List ℕ) → IsTied h → Steps h event bytes → EndsBody h.adapted body
+    → EndsBody (moved h event bytes).adapted (body ++ adapted_in event bytes)
 adapted_follows h event bytes body t s f =
     let n = numbers h event bytes t s in
     let high = n.adapted_high in let all = n.came in
@@ -85,7 +94,8 @@ to_service h n t m =
     let came : (shows h.history).sent + n ≤ (shows h.history).received = m.1.2 in
     (omega arith, omega arith)
 
-pub original_to_next : (h : Holding) (n : ℕ) → IsTied h → MayFollow h.history.plan h.history.events (Usr n) → chooses_original (shows h.history) ≡ true
+pub original_to_next : (h : Holding) (n : ℕ) → IsTied h → MayFollow h.history.plan h.history.events (Usr n)
+    → chooses_original (shows h.history) ≡ true
     → (h.original.base ≡ (shows h.history).original_delivered) × ((shows h.history).original_delivered + n ≤ span_end h.original)
 original_to_next h n t m o =
     let e = ends h t in
@@ -93,7 +103,8 @@ original_to_next h n t m o =
     let base = e.original_base in let end = e.original_end in let a = u.0 in let b = u.1 in
     (omega arith, omega arith)
 
-pub adapted_to_next : (h : Holding) (n : ℕ) → IsTied h → MayFollow h.history.plan h.history.events (Usr n) → (shows h.history).modified ≡ true
+pub adapted_to_next : (h : Holding) (n : ℕ) → IsTied h → MayFollow h.history.plan h.history.events (Usr n)
+    → (shows h.history).modified ≡ true
     → (h.adapted.base ≡ (shows h.history).adapted_delivered) × ((shows h.history).adapted_delivered + n ≤ span_end h.adapted)
 adapted_to_next h n t m o =
     let e = ends h t in
@@ -106,7 +117,8 @@ adapted_to_next h n t m o =
 pub roomy_then : (h : Holding) (event : Event) (bytes : List ℕ) → IsTied h → MayFollow h.history.plan h.history.events event
     → Roomy (shows_then h.history event) (moved h event bytes).claim h.limits.window → IsRoomy (moved h event bytes)
 roomy_then h event bytes t m r =
-    subst (λ (x : Seen). Roomy x (moved h event bytes).claim h.limits.window) (sym (then_shows h event (history_then h.history event) t m refl)) r
+    subst (λ (x : Seen). Roomy x (moved h event bytes).claim h.limits.window)
+    (sym (then_shows h event (history_then h.history event) t m refl)) r
 
 pub room_begins : (h : Holding) → IsTied h → h.held ≡ 0 → h.limits.window ≤ h.claim → IsRoomy h
 room_begins h t none w = λ still other.
@@ -143,13 +155,17 @@ none_needs_room x claim window turn Done b = tt
 none_needs_room x claim window turn (Fail cause) b = tt
 none_needs_room x claim window turn Retry b = tt
 
-pub room_in : (h : Holding) (n : ℕ) (bytes : List ℕ) → IsTied h → IsRoomy h → MayFollow h.history.plan h.history.events (In n) → n ≤ original_room (shows h.history) h.claim h.limits.window h.limits.turn
+pub room_in : (h : Holding) (n : ℕ) (bytes : List ℕ) → IsTied h → IsRoomy h → MayFollow h.history.plan h.history.events (In n)
+    → n ≤ original_room (shows h.history) h.claim h.limits.window h.limits.turn
     → (held_places (shows_then h.history (In n)) ≤ h.claim) × IsRoomy (moved h (In n) bytes)
 room_in h n bytes t r m w = let f = fits h (In n) bytes t r m w in (f.held, f.roomy)
 
-pub room_ad : (h : Holding) (n : ℕ) (bytes : List ℕ) → IsTied h → IsRoomy h → MayFollow h.history.plan h.history.events (Ad n) → n ≤ adapted_room (shows h.history) h.limits.window h.limits.turn
+pub room_ad : (h : Holding) (n : ℕ) (bytes : List ℕ) → IsTied h → IsRoomy h → MayFollow h.history.plan h.history.events (Ad n)
+    → n ≤ adapted_room (shows h.history) h.limits.window h.limits.turn
     → (held_places (shows_then h.history (Ad n)) ≤ h.claim) × IsRoomy (moved h (Ad n) bytes)
 room_ad h n bytes t r m w = let f = fits h (Ad n) bytes t r m w in (f.held, f.roomy)
 
-pub room_others : (h : Holding) (event : Event) → IsTied h → IsRoomy h → MayFollow h.history.plan h.history.events event → BringsNone event → IsRoomy (moved h event [])
-room_others h event t r m b = (fits h event [] t r m (none_needs_room (shows h.history) h.claim h.limits.window h.limits.turn event b)).roomy
+pub room_others : (h : Holding) (event : Event) → IsTied h → IsRoomy h → MayFollow h.history.plan h.history.events event → BringsNone event
+    → IsRoomy (moved h event [])
+room_others h event t r m b = (fits h event [] t r m (none_needs_room (shows h.history) h.claim h.limits.window h.limits.turn event
+    b)).roomy

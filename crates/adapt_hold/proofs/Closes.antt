@@ -5,7 +5,8 @@ use Rattle.std.proofs.lemmas.List.{length-replicate}
 use Rattle.std.proofs.Math.ListN.{replicate}
 use Rattle.trace_core.specs.declared.history.Seen.{Seen}
 use Rattle.trace_core.specs.declared.history.Event.{Event}
-use Rattle.trace_core.specs.declared.history.Event.TheVariants.{In, End, Svc, Stop, Heard, Continue, NoMod, Mod, Ad, AdEnd, Usr, Done, Fail, Retry}
+use Rattle.trace_core.specs.declared.history.Event.TheVariants.{In, End, Svc, Stop, Heard, Continue, NoMod, Mod, Ad, AdEnd, Usr, Done, Fail}
+use Rattle.trace_core.specs.declared.history.Event.TheVariants.{Retry}
 use Rattle.trace_core.specs.Legal.{MayFollow}
 use Rattle.trace_core.specs.Held.{original_from, adapted_from, held_original, held_adapted, keeps_original, held_places}
 use Rattle.trace_core.specs.View.{after}
@@ -16,16 +17,19 @@ use Rattle.trace_core.proofs.Kept.{original_within, kept_in, dropped_in, none_ke
 use Rattle.trace_core.proofs.Suffices.{original_grows}
 use Rattle.adapt_hold.specs.Spans.{Span, span_end, span_from, Stock}
 use Rattle.plan_rules.specs.declared.limits.Limits.{Limits}
-use Rattle.adapt_hold.specs.Holding.{Holding, IsTied, IsIn, shows, shows_then, history_then, Brings, BringsNone, then_from, moved, original_in, adapted_in, Took}
+use Rattle.adapt_hold.specs.Holding.{Holding, IsTied, IsIn, shows, shows_then, history_then, Brings, BringsNone, then_from, moved}
+use Rattle.adapt_hold.specs.Holding.{original_in, adapted_in, Took}
 use Rattle.plan_rules.specs.Room.{claim_then}
-use Rattle.adapt_hold.proofs.Tied.{brings, brings_none, numbers, moved-tied, still_fits, then_from-none, then_from-base, then_from-all, from_base}
+use Rattle.adapt_hold.proofs.Tied.{brings, brings_none, numbers, moved-tied, still_fits, then_from-none, then_from-base, then_from-all}
+use Rattle.adapt_hold.proofs.Tied.{from_base}
 
 -- what a hold has in its fields is one step of what it held, and tied
 pub record Closes (h : Holding) (event : Event) (bytes : List ℕ) (k : Holding) : Type 0 where
   pub tied : IsTied k
   pub is : k ≡ moved h event bytes
 
-closes : (h : Holding) (event : Event) (bytes : List ℕ) (k : Holding) → IsTied (moved h event bytes) → k ≡ moved h event bytes → Closes h event bytes k
+closes : (h : Holding) (event : Event) (bytes : List ℕ) (k : Holding) → IsTied (moved h event bytes) → k ≡ moved h event bytes
+    → Closes h event bytes k
 closes h event bytes k t e = record { tied = subst (λ (x : Holding). IsTied x) (sym e) t; is = e }
 
 abbrev record_of : History → Limits → Span → Span → ℕ → ℕ → Holding
@@ -36,7 +40,8 @@ of_parts : {a b : History} {c d : Limits} {e f g i : Span} {j k l m : ℕ} → a
     → record_of a c e g j l ≡ record_of b d f i k m
 of_parts e1 e2 e3 e4 e5 e6 = cc
 
-holding_is : (a b : Holding) → a.history ≡ b.history → a.limits ≡ b.limits → a.original ≡ b.original → a.adapted ≡ b.adapted → a.held ≡ b.held → a.claim ≡ b.claim → a ≡ b
+holding_is : (a b : Holding) → a.history ≡ b.history → a.limits ≡ b.limits → a.original ≡ b.original → a.adapted ≡ b.adapted
+    → a.held ≡ b.held → a.claim ≡ b.claim → a ≡ b
 holding_is a b e1 e2 e3 e4 e5 e6 = of_parts e1 e2 e3 e4 e5 e6
 
 same_original-ad : (x : Seen) (n : ℕ) → original_from (after x (Ad n)) ≡ original_from x
@@ -62,9 +67,12 @@ pub record KeepsRoom (held claim end n : ℕ) : Type 0 where
 pub ad_room : (h : Holding) (bytes : List ℕ) (event : Event) → IsTied h → event ≡ Ad (length bytes)
     → MayFollow h.history.plan h.history.events event → held_places (shows_then h.history event) ≤ h.claim
     → KeepsRoom h.held h.claim (span_end h.adapted) (length bytes)
-ad_room h bytes event t e = subst (λ (ev : Event). MayFollow h.history.plan h.history.events ev → held_places (shows_then h.history ev) ≤ h.claim → KeepsRoom h.held h.claim (span_end h.adapted) (length bytes)) (sym e) (at_ad h bytes t)
+ad_room h bytes event t e = subst (λ (ev : Event). MayFollow h.history.plan h.history.events ev
+    → held_places (shows_then h.history ev) ≤ h.claim → KeepsRoom h.held h.claim (span_end h.adapted) (length bytes)) (sym e)
+    (at_ad h bytes t)
   where
-    at_ad : (h : Holding) (bytes : List ℕ) → IsTied h → MayFollow h.history.plan h.history.events (Ad (length bytes)) → held_places (shows_then h.history (Ad (length bytes))) ≤ h.claim
+    at_ad : (h : Holding) (bytes : List ℕ) → IsTied h → MayFollow h.history.plan h.history.events (Ad (length bytes))
+        → held_places (shows_then h.history (Ad (length bytes))) ≤ h.claim
         → KeepsRoom h.held h.claim (span_end h.adapted) (length bytes)
     at_ad h bytes t m w =
         let s = brings h (Ad (length bytes)) bytes m refl in
@@ -79,21 +87,53 @@ ad_room h bytes event t e = subst (λ (ev : Event). MayFollow h.history.plan h.h
 
 pub keeps_adapted : (h : Holding) (bytes : List ℕ) (event : Event) (state : History) (store : Stock) → IsTied h
     → event ≡ Ad (length bytes)
-    → store ≡ record { original = h.original; adapted = record h.adapted { bytes = h.adapted.bytes ++ bytes }; held = h.held + length bytes; claim = h.claim }
+    → store ≡ record {
+      original = h.original;
+      adapted = record h.adapted { bytes = h.adapted.bytes ++ bytes };
+      held = h.held + length bytes;
+      claim = h.claim;
+    }
     → MayFollow h.history.plan h.history.events event
     → state ≡ history_then h.history event
     → held_places (shows_then h.history event) ≤ h.claim
-    → Closes h event bytes (record { history = state; limits = h.limits; original = store.original; adapted = store.adapted; held = store.held; claim = store.claim })
+    → Closes h event bytes (record {
+      history = state;
+      limits = h.limits;
+      original = store.original;
+      adapted = store.adapted;
+      held = store.held;
+      claim = store.claim;
+    })
 keeps_adapted h bytes event state store t e se =
-    subst (λ (ev : Event). MayFollow h.history.plan h.history.events ev → state ≡ history_then h.history ev → held_places (shows_then h.history ev) ≤ h.claim
-    → Closes h ev bytes (record { history = state; limits = h.limits; original = store.original; adapted = store.adapted; held = store.held; claim = store.claim })) (sym e) (at_ad h bytes state store t se)
+    subst (λ (ev : Event). MayFollow h.history.plan h.history.events ev → state ≡ history_then h.history ev
+    → held_places (shows_then h.history ev) ≤ h.claim
+    → Closes h ev bytes (record {
+      history = state;
+      limits = h.limits;
+      original = store.original;
+      adapted = store.adapted;
+      held = store.held;
+      claim = store.claim;
+    })) (sym e) (at_ad h bytes state store t se)
   where
     at_ad : (h : Holding) (bytes : List ℕ) (state : History) (store : Stock) → IsTied h
-        → store ≡ record { original = h.original; adapted = record h.adapted { bytes = h.adapted.bytes ++ bytes }; held = h.held + length bytes; claim = h.claim }
+        → store ≡ record {
+          original = h.original;
+          adapted = record h.adapted { bytes = h.adapted.bytes ++ bytes };
+          held = h.held + length bytes;
+          claim = h.claim;
+        }
         → MayFollow h.history.plan h.history.events (Ad (length bytes))
         → state ≡ history_then h.history (Ad (length bytes))
         → held_places (shows_then h.history (Ad (length bytes))) ≤ h.claim
-        → Closes h (Ad (length bytes)) bytes (record { history = state; limits = h.limits; original = store.original; adapted = store.adapted; held = store.held; claim = store.claim })
+        → Closes h (Ad (length bytes)) bytes (record {
+          history = state;
+          limits = h.limits;
+          original = store.original;
+          adapted = store.adapted;
+          held = store.held;
+          claim = store.claim;
+        })
     at_ad h bytes state store t se m st w =
         let s = brings h (Ad (length bytes)) bytes m refl in
         let n = numbers h (Ad (length bytes)) bytes t s in
@@ -110,12 +150,16 @@ keeps_adapted h bytes event state store t e se =
 
 -- In, kept.
 
-pub in_room : (h : Holding) (bytes : List ℕ) (event : Event) → IsTied h → keeps_original (shows h.history) ≡ true → event ≡ In (length bytes)
+pub in_room : (h : Holding) (bytes : List ℕ) (event : Event) → IsTied h → keeps_original (shows h.history) ≡ true
+    → event ≡ In (length bytes)
     → MayFollow h.history.plan h.history.events event → held_places (shows_then h.history event) ≤ h.claim
     → KeepsRoom h.held h.claim (span_end h.original) (length bytes)
-in_room h bytes event t k e = subst (λ (ev : Event). MayFollow h.history.plan h.history.events ev → held_places (shows_then h.history ev) ≤ h.claim → KeepsRoom h.held h.claim (span_end h.original) (length bytes)) (sym e) (at_in h bytes t k)
+in_room h bytes event t k e = subst (λ (ev : Event). MayFollow h.history.plan h.history.events ev
+    → held_places (shows_then h.history ev) ≤ h.claim → KeepsRoom h.held h.claim (span_end h.original) (length bytes)) (sym e)
+    (at_in h bytes t k)
   where
-    at_in : (h : Holding) (bytes : List ℕ) → IsTied h → keeps_original (shows h.history) ≡ true → MayFollow h.history.plan h.history.events (In (length bytes)) → held_places (shows_then h.history (In (length bytes))) ≤ h.claim
+    at_in : (h : Holding) (bytes : List ℕ) → IsTied h → keeps_original (shows h.history) ≡ true
+        → MayFollow h.history.plan h.history.events (In (length bytes)) → held_places (shows_then h.history (In (length bytes))) ≤ h.claim
         → KeepsRoom h.held h.claim (span_end h.original) (length bytes)
     at_in h bytes t keeps m w =
         let s = brings h (In (length bytes)) bytes m refl in
@@ -131,22 +175,54 @@ in_room h bytes event t k e = subst (λ (ev : Event). MayFollow h.history.plan h
 pub keeps_original_bytes : (h : Holding) (bytes : List ℕ) (event : Event) (state : History) (store : Stock) → IsTied h
     → keeps_original (shows h.history) ≡ true
     → event ≡ In (length bytes)
-    → store ≡ record { original = record h.original { bytes = h.original.bytes ++ bytes }; adapted = h.adapted; held = h.held + length bytes; claim = h.claim }
+    → store ≡ record {
+      original = record h.original { bytes = h.original.bytes ++ bytes };
+      adapted = h.adapted;
+      held = h.held + length bytes;
+      claim = h.claim;
+    }
     → MayFollow h.history.plan h.history.events event
     → state ≡ history_then h.history event
     → held_places (shows_then h.history event) ≤ h.claim
-    → Closes h event bytes (record { history = state; limits = h.limits; original = store.original; adapted = store.adapted; held = store.held; claim = store.claim })
+    → Closes h event bytes (record {
+      history = state;
+      limits = h.limits;
+      original = store.original;
+      adapted = store.adapted;
+      held = store.held;
+      claim = store.claim;
+    })
 keeps_original_bytes h bytes event state store t k e se =
-    subst (λ (ev : Event). MayFollow h.history.plan h.history.events ev → state ≡ history_then h.history ev → held_places (shows_then h.history ev) ≤ h.claim
-    → Closes h ev bytes (record { history = state; limits = h.limits; original = store.original; adapted = store.adapted; held = store.held; claim = store.claim })) (sym e) (at_in h bytes state store t k se)
+    subst (λ (ev : Event). MayFollow h.history.plan h.history.events ev → state ≡ history_then h.history ev
+    → held_places (shows_then h.history ev) ≤ h.claim
+    → Closes h ev bytes (record {
+      history = state;
+      limits = h.limits;
+      original = store.original;
+      adapted = store.adapted;
+      held = store.held;
+      claim = store.claim;
+    })) (sym e) (at_in h bytes state store t k se)
   where
     at_in : (h : Holding) (bytes : List ℕ) (state : History) (store : Stock) → IsTied h
         → keeps_original (shows h.history) ≡ true
-        → store ≡ record { original = record h.original { bytes = h.original.bytes ++ bytes }; adapted = h.adapted; held = h.held + length bytes; claim = h.claim }
+        → store ≡ record {
+          original = record h.original { bytes = h.original.bytes ++ bytes };
+          adapted = h.adapted;
+          held = h.held + length bytes;
+          claim = h.claim;
+        }
         → MayFollow h.history.plan h.history.events (In (length bytes))
         → state ≡ history_then h.history (In (length bytes))
         → held_places (shows_then h.history (In (length bytes))) ≤ h.claim
-        → Closes h (In (length bytes)) bytes (record { history = state; limits = h.limits; original = store.original; adapted = store.adapted; held = store.held; claim = store.claim })
+        → Closes h (In (length bytes)) bytes (record {
+          history = state;
+          limits = h.limits;
+          original = store.original;
+          adapted = store.adapted;
+          held = store.held;
+          claim = store.claim;
+        })
     at_in h bytes state store t keeps se m st w =
         let s = brings h (In (length bytes)) bytes m refl in
         let n = numbers h (In (length bytes)) bytes t s in
@@ -167,8 +243,20 @@ pub drops_original : (h : Holding) (bytes : List ℕ) (event : Event) (state : H
     → IsIn event → Brings event bytes → keeps_original (shows h.history) ≡ false
     → MayFollow h.history.plan h.history.events event
     → state ≡ history_then h.history event
-    → store ≡ record { original = span_from h.original (shows_then h.history event).received; adapted = h.adapted; held = h.held; claim = h.claim }
-    → Closes h event bytes (record { history = state; limits = h.limits; original = store.original; adapted = store.adapted; held = store.held; claim = store.claim })
+    → store ≡ record {
+      original = span_from h.original (shows_then h.history event).received;
+      adapted = h.adapted;
+      held = h.held;
+      claim = h.claim;
+    }
+    → Closes h event bytes (record {
+      history = state;
+      limits = h.limits;
+      original = store.original;
+      adapted = store.adapted;
+      held = store.held;
+      claim = store.claim;
+    })
 drops_original h bytes (In k) state store t i b keeps m st te =
     let s = brings h (In k) bytes m b in
     let n = numbers h (In k) bytes t s in
@@ -177,13 +265,17 @@ drops_original h bytes (In k) state store t i b keeps m st te =
     let none : original_from x ≡ x.received = none_kept x n.sound m.0 keeps in
     let from : original_from y ≡ y.received = dropped_in x k n.sound m.0 keeps in
     let ab : adapted_from y ≡ h.adapted.base = same_adapted-in x k ∙ sym n.adapted_base in
-    let held : h.held ≡ held_places y = let q = t.held in let r = n.received in let c = n.came in let o = n.original_base in let e = n.original_end in omega arith in
+    let held : h.held ≡ held_places y = let q = t.held in let r = n.received in let c = n.came in let o = n.original_base in let e =
+    n.original_end in omega arith in
     let w : held_places y ≤ h.claim = let q = t.within in omega arith in
-    let all : length h.original.bytes + length bytes + h.original.base ≤ original_from y = let o = n.original_base in let e = n.original_end in let r = n.received in omega arith in
+    let all : length h.original.bytes + length bytes + h.original.base ≤ original_from y = let o = n.original_base in let e =
+    n.original_end in let r = n.received in omega arith in
     let ot : then_from h.original bytes (original_from y) ≡ store.original =
-    then_from-all h.original bytes (original_from y) all ∙ ap (λ (p : ℕ). span_from h.original p) from ∙ sym (ap (λ (q : Stock). q.original) te) in
+    then_from-all h.original bytes (original_from y) all ∙ ap (λ (p : ℕ). span_from h.original p) from
+    ∙ sym (ap (λ (q : Stock). q.original) te) in
     closes h (In k) bytes _ (moved-tied h (In k) bytes t s w)
-    (holding_is _ (moved h (In k) bytes) st refl (sym ot) (ap (λ (q : Stock). q.adapted) te ∙ sym (then_from-base-none h.adapted _ ab)) (ap (λ (q : Stock). q.held) te ∙ held) (ap (λ (q : Stock). q.claim) te))
+    (holding_is _ (moved h (In k) bytes) st refl (sym ot) (ap (λ (q : Stock). q.adapted) te ∙ sym (then_from-base-none h.adapted _ ab))
+    (ap (λ (q : Stock). q.held) te ∙ held) (ap (λ (q : Stock). q.claim) te))
 drops_original h bytes End state store t i b keeps m st te = elim i [ ]
 drops_original h bytes (Svc n) state store t i b keeps m st te = elim i [ ]
 drops_original h bytes Stop state store t i b keeps m st te = elim i [ ]
@@ -199,7 +291,8 @@ drops_original h bytes Done state store t i b keeps m st te = elim i [ ]
 drops_original h bytes (Fail cause) state store t i b keeps m st te = elim i [ ]
 
 -- nothing of the original is held where its bytes are dropped
-pub none_to_drop : (h : Holding) → IsTied h → (shows h.history).closed ≡ false → keeps_original (shows h.history) ≡ false → length h.original.bytes ≡ 0
+pub none_to_drop : (h : Holding) → IsTied h → (shows h.history).closed ≡ false → keeps_original (shows h.history) ≡ false
+    → length h.original.bytes ≡ 0
 none_to_drop h t c keeps =
     let x : Seen = shows h.history in
     let sx : Sound x = sound h.history.plan h.history.events t.legal in
@@ -218,7 +311,8 @@ none_ad : (event : Event) → adapted_in event [] ≡ []
 none_ad (Ad n) = refl
 none_ad _ = refl
 
-moved-original : (h : Holding) (event : Event) → (moved h event []).original ≡ span_from h.original (original_from (shows_then h.history event))
+moved-original : (h : Holding) (event : Event) → (moved h event []).original
+    ≡ span_from h.original (original_from (shows_then h.history event))
 moved-original h event =
     ap (λ (bs : List ℕ). then_from h.original bs (original_from (shows_then h.history event))) (none_in event)
     ∙ then_from-none h.original (original_from (shows_then h.history event))
@@ -230,13 +324,15 @@ moved-adapted h event =
 
 -- what is held after a step that brings nothing
 pub held_after : (h : Holding) (event : Event) (held : ℕ) → IsTied h → BringsNone event → MayFollow h.history.plan h.history.events event
-    → held + ((original_from (shows_then h.history event) - h.original.base) + (adapted_from (shows_then h.history event) - h.adapted.base)) ≡ h.held
+    → held + ((original_from (shows_then h.history event) - h.original.base) + (adapted_from (shows_then h.history event) - h.adapted.base))
+    ≡ h.held
     → held ≡ held_places (shows_then h.history event)
 held_after h event held t b m he =
     let n = numbers h event [] t (brings_none h event m b) in
     let none : length (original_in event []) ≡ 0 = ap (λ (bs : List ℕ). length bs) (none_in event) in
     let none_too : length (adapted_in event []) ≡ 0 = ap (λ (bs : List ℕ). length bs) (none_ad event) in
-    let a = n.original_low in let b1 = n.adapted_low in let c = n.received in let d = n.came in let e = n.original_high in let f = n.adapted_high in
+    let a = n.original_low in let b1 = n.adapted_low in let c = n.received in let d = n.came in let e = n.original_high in let f =
+    n.adapted_high in
     let q = t.held in
     omega arith
 
@@ -246,9 +342,17 @@ pub moves_on : (h : Holding) (event : Event) (state : History) (store : Stock) �
     → state ≡ history_then h.history event
     → store.original ≡ span_from h.original (original_from (shows_then h.history event))
     → store.adapted ≡ span_from h.adapted (adapted_from (shows_then h.history event))
-    → store.held + ((original_from (shows_then h.history event) - h.original.base) + (adapted_from (shows_then h.history event) - h.adapted.base)) ≡ h.held
+    → store.held + ((original_from (shows_then h.history event) - h.original.base) +
+    (adapted_from (shows_then h.history event) - h.adapted.base)) ≡ h.held
     → store.claim ≡ claim_then (shows_then h.history event) event h.claim h.limits.window
-    → Closes h event [] (record { history = state; limits = h.limits; original = store.original; adapted = store.adapted; held = store.held; claim = store.claim })
+    → Closes h event [] (record {
+      history = state;
+      limits = h.limits;
+      original = store.original;
+      adapted = store.adapted;
+      held = store.held;
+      claim = store.claim;
+    })
 moves_on h event state store t b m st oe ae he ce =
     let s = brings_none h event m b in
     let tied = moved-tied h event [] t s (still_fits h event t s b) in
@@ -267,7 +371,8 @@ pub held_then : (h : Holding) (event : Event) (state : History) (r : ℕ × ℕ)
     → state ≡ history_then h.history event → r ≡ held_original (shows state) → r ≡ held_original (shows_then h.history event)
 held_then h event state r t m st e = e ∙ ap held_original (then_shows h event state t m st)
 
-pub held_adapted_then : (h : Holding) (event : Event) (state : History) (r : ℕ × ℕ) → IsTied h → MayFollow h.history.plan h.history.events event
+pub held_adapted_then : (h : Holding) (event : Event) (state : History) (r : ℕ × ℕ) → IsTied h
+    → MayFollow h.history.plan h.history.events event
     → state ≡ history_then h.history event → r ≡ held_adapted (shows state) → r ≡ held_adapted (shows_then h.history event)
 held_adapted_then h event state r t m st e = e ∙ ap held_adapted (then_shows h event state t m st)
 
@@ -277,7 +382,8 @@ pub record Cuts (t : Span) (place : ℕ) : Type 0 where
   pub low : t.base ≤ place
   pub high : place ≤ span_end t
 
-pub original_cuts : (h : Holding) (event : Event) (state : History) (r : ℕ × ℕ) → IsTied h → BringsNone event → MayFollow h.history.plan h.history.events event
+pub original_cuts : (h : Holding) (event : Event) (state : History) (r : ℕ × ℕ) → IsTied h → BringsNone event
+    → MayFollow h.history.plan h.history.events event
     → state ≡ history_then h.history event → r ≡ held_original (shows state) → Cuts h.original r.0
 original_cuts h event state r t b m st e =
     let n = numbers h event [] t (brings_none h event m b) in
@@ -286,7 +392,8 @@ original_cuts h event state r t b m st e =
     let low = n.original_low in let high = n.original_high in let all = n.received in
     record { low = omega arith; high = omega arith }
 
-pub adapted_cuts : (h : Holding) (event : Event) (state : History) (r : ℕ × ℕ) → IsTied h → BringsNone event → MayFollow h.history.plan h.history.events event
+pub adapted_cuts : (h : Holding) (event : Event) (state : History) (r : ℕ × ℕ) → IsTied h → BringsNone event
+    → MayFollow h.history.plan h.history.events event
     → state ≡ history_then h.history event → r ≡ held_adapted (shows state) → Cuts h.adapted r.0
 adapted_cuts h event state r t b m st e =
     let n = numbers h event [] t (brings_none h event m b) in
@@ -301,7 +408,8 @@ pub record Places (t : Span) (place : ℕ) : Type 0 where
   pub low : t.base ≤ place
   pub small : place < 2 ^ 62
 
-pub end_of_original : (h : Holding) (event : Event) (state : History) (r : ℕ × ℕ) → IsTied h → MayFollow h.history.plan h.history.events event
+pub end_of_original : (h : Holding) (event : Event) (state : History) (r : ℕ × ℕ) → IsTied h
+    → MayFollow h.history.plan h.history.events event
     → state ≡ history_then h.history event → r ≡ held_original (shows state) → Places h.original r.1
 end_of_original h event state r t m st e =
     let x : Seen = shows h.history in
@@ -314,9 +422,11 @@ end_of_original h event state r t m st e =
     let small = sy.small in
     record { low = omega arith; small = omega arith }
 
-pub fits_after : (h : Holding) (event : Event) (state : History) (held : ℕ) → IsTied h → BringsNone event → MayFollow h.history.plan h.history.events event
+pub fits_after : (h : Holding) (event : Event) (state : History) (held : ℕ) → IsTied h → BringsNone event
+    → MayFollow h.history.plan h.history.events event
     → state ≡ history_then h.history event
-    → held + ((original_from (shows_then h.history event) - h.original.base) + (adapted_from (shows_then h.history event) - h.adapted.base)) ≡ h.held
+    → held + ((original_from (shows_then h.history event) - h.original.base) + (adapted_from (shows_then h.history event) - h.adapted.base))
+    ≡ h.held
     → held ≤ claim_then (shows state) event h.claim h.limits.window
 fits_after h event state held t b m st he =
     let s = brings_none h event m b in
@@ -345,5 +455,6 @@ some_bytes (Usr n) i = elim i [ ]
 some_bytes Done i = elim i [ ]
 some_bytes (Fail cause) i = elim i [ ]
 
-pub took : (h old k : Holding) (event : Event) (bytes : List ℕ) → h ≡ old → MayFollow h.history.plan h.history.events event → Closes h event bytes k → Took old event bytes k
+pub took : (h old k : Holding) (event : Event) (bytes : List ℕ) → h ≡ old → MayFollow h.history.plan h.history.events event
+    → Closes h event bytes k → Took old event bytes k
 took h old k event bytes v m c = subst (λ (x : Holding). Took x event bytes k) v (m, c.is)

@@ -1,10 +1,12 @@
 -- Several events in a row.
-use Rattle.std.proofs.Common.{◌≡◌, ℕ, ◌+◌, ◌-◌, ◌<◌, ◌≤◌, List, [], ◌∷◌, ◌++◌, length, take, drop, get_or, Some, arith, refl, sym, ◌∙◌, ap, subst}
+use Rattle.std.proofs.Common.{◌≡◌, ℕ, ◌+◌, ◌-◌, ◌<◌, ◌≤◌, List, [], ◌∷◌, ◌++◌, length, take, drop, get_or, Some, arith, refl, sym, ◌∙◌, ap}
+use Rattle.std.proofs.Common.{subst}
 use Rattle.std.proofs.lemmas.List.{append-nil, length-drop, length-take-le, append_assoc}
 use Rattle.std.proofs.Math.Seq.{take-length}
 use Rattle.trace_core.specs.declared.history.Seen.{Seen}
 use Rattle.trace_core.specs.declared.history.Event.{Event}
-use Rattle.trace_core.specs.declared.history.Event.TheVariants.{In, End, Svc, Stop, Heard, Continue, NoMod, Mod, Ad, AdEnd, Usr, Done, Fail, Retry}
+use Rattle.trace_core.specs.declared.history.Event.TheVariants.{In, End, Svc, Stop, Heard, Continue, NoMod, Mod, Ad, AdEnd, Usr, Done, Fail}
+use Rattle.trace_core.specs.declared.history.Event.TheVariants.{Retry}
 use Rattle.trace_core.specs.Legal.{MayFollow}
 use Rattle.trace_core.specs.View.{after}
 use Rattle.trace_core.specs.Faults.{first_fault}
@@ -15,7 +17,8 @@ use Rattle.trace_core.specs.Turns.{after_all, MayAllFollow}
 use Rattle.trace_core.specs.Held.{held_places}
 use Rattle.trace_core.specs.declared.history.StepFault.{StepFault}
 use Rattle.adapt_hold.specs.Spans.{EndsBody}
-use Rattle.adapt_hold.specs.Holding.{Holding, IsTied, IsRoomy, shows, shows_then, history_then, moved, original_in, adapted_in, Brings, BringsNone}
+use Rattle.adapt_hold.specs.Holding.{Holding, IsTied, IsRoomy, shows, shows_then, history_then, moved, original_in, adapted_in, Brings}
+use Rattle.adapt_hold.specs.Holding.{BringsNone}
 use Rattle.adapt_hold.specs.Steps.{brought, brought_all, HasRoomFor, MayRun, moved_all, history_all}
 use Rattle.adapt_hold.proofs.Tied.{brings, brings_none, moved-tied, still_fits, Steps}
 use Rattle.adapt_hold.proofs.Closes.{then_shows}
@@ -30,7 +33,8 @@ pub record Stays (h : Holding) (event : Event) (bytes : List ℕ) : Type 0 where
   pub tied : IsTied (moved h event bytes)
   pub roomy : IsRoomy (moved h event bytes)
 
-others_stay : (h : Holding) (event : Event) (bytes : List ℕ) → IsTied h → IsRoomy h → MayFollow h.history.plan h.history.events event → BringsNone event → length bytes ≡ 0 → Stays h event bytes
+others_stay : (h : Holding) (event : Event) (bytes : List ℕ) → IsTied h → IsRoomy h → MayFollow h.history.plan h.history.events event
+    → BringsNone event → length bytes ≡ 0 → Stays h event bytes
 others_stay h event bytes t r m b z =
     let s = brings_none h event m b in
     subst (λ (bs : List ℕ). Stays h event bs) (sym (no_bytes bytes z)) (record {
@@ -81,7 +85,8 @@ pub record Ran (h : Holding) (events : List Event) (bytes : List ℕ) : Type 0 w
   pub seen : shows (moved_all h events bytes).history ≡ after_all (shows h.history) events
   pub history : (moved_all h events bytes).history ≡ history_all h.history events
   pub limits : (moved_all h events bytes).limits ≡ h.limits
-  pub original : (body : List ℕ) → EndsBody h.original body → EndsBody (moved_all h events bytes).original (body ++ all_original events bytes)
+  pub original : (body : List ℕ) → EndsBody h.original body
+      → EndsBody (moved_all h events bytes).original (body ++ all_original events bytes)
   pub adapted : (body : List ℕ) → EndsBody h.adapted body → EndsBody (moved_all h events bytes).adapted (body ++ all_adapted events bytes)
 
 pub record Cut (n m : ℕ) (bs : List ℕ) : Type 0 where
@@ -108,7 +113,8 @@ ran h (event ∷ events) bytes t r m b w =
     let others = drop (brought event) bytes in
     let s = stays h event own t r (m.0, m.1) lengths.own w.0 in
     let stepped : Holding = moved h event own in
-    let same : shows stepped.history ≡ after (shows h.history) event = then_shows h event (history_then h.history event) t (m.0, m.1) refl in
+    let same : shows stepped.history ≡ after (shows h.history) event =
+    then_shows h event (history_then h.history event) t (m.0, m.1) refl in
     let rest = ran stepped events others s.tied s.roomy
     (subst (λ (x : Seen). MayAllFollow x events) (sym same) m.2)
     lengths.others
@@ -120,10 +126,12 @@ ran h (event ∷ events) bytes t r m b w =
       history = rest.history;
       limits = rest.limits;
       original = λ body f.
-          subst (λ (bs : List ℕ). EndsBody (moved_all stepped events others).original bs) (append_assoc body (original_in event own) (all_original events others))
+          subst (λ (bs : List ℕ). EndsBody (moved_all stepped events others).original bs)
+          (append_assoc body (original_in event own) (all_original events others))
           (rest.original (body ++ original_in event own) (original_follows h event own body t s.steps f));
       adapted = λ body f.
-          subst (λ (bs : List ℕ). EndsBody (moved_all stepped events others).adapted bs) (append_assoc body (adapted_in event own) (all_adapted events others))
+          subst (λ (bs : List ℕ). EndsBody (moved_all stepped events others).adapted bs)
+          (append_assoc body (adapted_in event own) (all_adapted events others))
           (rest.adapted (body ++ adapted_in event own) (adapted_follows h event own body t s.steps f));
     }
 
@@ -145,7 +153,8 @@ brings_length (Usr n) bytes b = elim b [ ]
 brings_length Done bytes b = elim b [ ]
 brings_length (Fail cause) bytes b = elim b [ ]
 
-pub fits_in : (h : Holding) (event : Event) (bytes : List ℕ) → IsTied h → IsRoomy h → Brings event bytes → IsWithinRoom (shows h.history) h.claim h.limits.window h.limits.turn event
+pub fits_in : (h : Holding) (event : Event) (bytes : List ℕ) → IsTied h → IsRoomy h → Brings event bytes
+    → IsWithinRoom (shows h.history) h.claim h.limits.window h.limits.turn event
     → MayFollow h.history.plan h.history.events event → held_places (shows_then h.history event) ≤ h.claim
 fits_in h (In n) bytes t r b w m = (room_in h n bytes t r m w).0
 fits_in h (Ad n) bytes t r b w m = (room_ad h n bytes t r m w).0
@@ -162,11 +171,14 @@ fits_in h (Usr n) bytes t r b w m = elim b [ ]
 fits_in h Done bytes t r b w m = elim b [ ]
 fits_in h (Fail cause) bytes t r b w m = elim b [ ]
 
-pub brought_roomy : (h k : Holding) (event : Event) (bytes : List ℕ) → IsTied h → IsRoomy h → Brings event bytes → IsWithinRoom (shows h.history) h.claim h.limits.window h.limits.turn event
+pub brought_roomy : (h k : Holding) (event : Event) (bytes : List ℕ) → IsTied h → IsRoomy h → Brings event bytes
+    → IsWithinRoom (shows h.history) h.claim h.limits.window h.limits.turn event
     → MayFollow h.history.plan h.history.events event → k ≡ moved h event bytes → IsRoomy k
-brought_roomy h k event bytes t r b w m e = subst (λ (x : Holding). IsRoomy x) (sym e) (stays h event bytes t r m (brings_length event bytes b) w).roomy
+brought_roomy h k event bytes t r b w m e = subst (λ (x : Holding). IsRoomy x) (sym e)
+    (stays h event bytes t r m (brings_length event bytes b) w).roomy
 
-pub gone_on_roomy : (h k : Holding) (event : Event) → IsTied h → IsRoomy h → BringsNone event → MayFollow h.history.plan h.history.events event → k ≡ moved h event [] → IsRoomy k
+pub gone_on_roomy : (h k : Holding) (event : Event) → IsTied h → IsRoomy h → BringsNone event
+    → MayFollow h.history.plan h.history.events event → k ≡ moved h event [] → IsRoomy k
 gone_on_roomy h k event t r b m e = subst (λ (x : Holding). IsRoomy x) (sym e) (room_others h event t r m b)
 
 -- what may follow isn't refused
@@ -175,7 +187,8 @@ pub never : (h : Holding) (event : Event) (fault : StepFault) → IsTied h → M
 never h event f t m r = refused h.history.plan h.history.events event f t.legal r m
 
 -- the rest of a row
-pub run_rest : (h k : Holding) (event : Event) (events : List Event) (bytes own others : List ℕ) → IsTied h → MayRun h (event ∷ events) bytes
+pub run_rest : (h k : Holding) (event : Event) (events : List Event) (bytes own others : List ℕ) → IsTied h
+    → MayRun h (event ∷ events) bytes
     → own ≡ take (brought event) bytes → others ≡ drop (brought event) bytes → k ≡ moved h event own → IsRoomy k → MayRun k events others
 run_rest h k event events bytes own others t m o d e r =
     let lengths = take_length (brought event) (brought_all events) bytes m.carried in
@@ -188,7 +201,8 @@ run_rest h k event events bytes own others t m o d e r =
       carried = subst (λ (bs : List ℕ). brought_all events ≤ length bs) (sym d) lengths.others;
       room = subst (λ (x : Seen). HasRoomFor x k.claim k.limits.window k.limits.turn events) (sym same)
           (subst (λ (c : ℕ). HasRoomFor (after (shows h.history) event) c k.limits.window k.limits.turn events) (sym claim)
-          (subst (λ (l : Limits). HasRoomFor (after (shows h.history) event) (claim_then (after (shows h.history) event) event h.claim h.limits.window) l.window l.turn events) (sym limits) m.room.1));
+          (subst (λ (l : Limits). HasRoomFor (after (shows h.history) event)
+          (claim_then (after (shows h.history) event) event h.claim h.limits.window) l.window l.turn events) (sym limits) m.room.1));
       roomy = r;
     }
 
@@ -207,9 +221,11 @@ none_left_at h (event ∷ events) bytes l = absurd (omega (arith, l))
 -- the same at a slice
 
 pub tail_is : (event : Event) (events : List Event) → take (length (event ∷ events) - 1) (drop 1 (event ∷ events)) ≡ events
-tail_is event events = let n : length (event ∷ events) - 1 ≡ length events = omega arith in ap (λ (k : ℕ). take k events) n ∙ take-length events
+tail_is event events = let n : length (event ∷ events) - 1 ≡ length events = omega arith in
+    ap (λ (k : ℕ). take k events) n ∙ take-length events
 
-pub run_rest_at : (h k : Holding) (events : List Event) (bytes own others : List ℕ) (n : ℕ) → IsTied h → MayRun h events bytes → 1 ≤ length events
+pub run_rest_at : (h k : Holding) (events : List Event) (bytes own others : List ℕ) (n : ℕ) → IsTied h → MayRun h events bytes
+    → 1 ≤ length events
     → n ≡ brought (get_or events 0 (In 0))
     → own ≡ take n bytes → others ≡ drop n bytes → k ≡ moved h (get_or events 0 (In 0)) own → IsRoomy k
     → MayRun k (take (length events - 1) (drop 1 events)) others

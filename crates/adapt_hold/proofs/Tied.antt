@@ -3,7 +3,8 @@ use Rattle.std.proofs.Common.{◌≡◌, ℕ, ◌+◌, ◌-◌, ◌<◌, ◌≤�
 use Rattle.std.proofs.lemmas.List.{length-drop, length-append, append-nil, drop_all, get_or-drop, get_or_append_left}
 use Rattle.trace_core.specs.declared.history.Seen.{Seen}
 use Rattle.trace_core.specs.declared.history.Event.{Event}
-use Rattle.trace_core.specs.declared.history.Event.TheVariants.{In, End, Svc, Stop, Heard, Continue, NoMod, Mod, Ad, AdEnd, Usr, Done, Fail, Retry}
+use Rattle.trace_core.specs.declared.history.Event.TheVariants.{In, End, Svc, Stop, Heard, Continue, NoMod, Mod, Ad, AdEnd, Usr, Done, Fail}
+use Rattle.trace_core.specs.declared.history.Event.TheVariants.{Retry}
 use Rattle.trace_core.specs.History.{in_bytes, ad_bytes}
 use Rattle.trace_core.specs.Legal.{IsLegal, MayFollow}
 use Rattle.trace_core.specs.Held.{original_from, adapted_from, held_original, held_adapted, held_places}
@@ -16,7 +17,8 @@ use Rattle.trace_core.proofs.Suffices.{original_grows, adapted_grows}
 use Rattle.adapt_hold.specs.Spans.{Span, span_end, span_from}
 use Rattle.plan_rules.specs.Claims.{claim_after, is_reply}
 use Rattle.plan_rules.proofs.Above.{above}
-use Rattle.adapt_hold.specs.Holding.{Holding, IsTied, shows, shows_then, history_then, original_in, adapted_in, Brings, BringsNone, then_from, moved, byte_at}
+use Rattle.adapt_hold.specs.Holding.{Holding, IsTied, shows, shows_then, history_then, original_in, adapted_in, Brings, BringsNone}
+use Rattle.adapt_hold.specs.Holding.{then_from, moved, byte_at}
 use Rattle.plan_rules.specs.Room.{claim_then}
 
 -- Tapes.
@@ -41,13 +43,16 @@ from_base t place e =
     let d : drop (place - t.base) t.bytes ≡ t.bytes = drop_none _ t.bytes (omega arith) in
     rw d (ap (λ (b : ℕ). record { base = b; bytes = t.bytes }) e)
 
-pub then_from-base : (t : Span) (bytes : List ℕ) (place : ℕ) → place ≡ t.base → then_from t bytes place ≡ record t { bytes = t.bytes ++ bytes }
+pub then_from-base : (t : Span) (bytes : List ℕ) (place : ℕ) → place ≡ t.base
+    → then_from t bytes place ≡ record t { bytes = t.bytes ++ bytes }
 then_from-base t bytes place e = from_base (record t { bytes = t.bytes ++ bytes }) place e
 
 -- all bytes of a tape, and those that come, are let go
-pub then_from-all : (t : Span) (bytes : List ℕ) (place : ℕ) → length t.bytes + length bytes + t.base ≤ place → then_from t bytes place ≡ span_from t place
+pub then_from-all : (t : Span) (bytes : List ℕ) (place : ℕ) → length t.bytes + length bytes + t.base ≤ place
+    → then_from t bytes place ≡ span_from t place
 then_from-all t bytes place h =
-    let all : drop (place - t.base) (t.bytes ++ bytes) ≡ [] = drop_all (place - t.base) (t.bytes ++ bytes) (rw (length-append t.bytes bytes) (omega arith)) in
+    let all : drop (place - t.base) (t.bytes ++ bytes) ≡ [] =
+    drop_all (place - t.base) (t.bytes ++ bytes) (rw (length-append t.bytes bytes) (omega arith)) in
     let own : drop (place - t.base) t.bytes ≡ [] = drop_all (place - t.base) t.bytes (omega arith) in
     ap (λ (bs : List ℕ). record { base = place; bytes = bs }) (all ∙ sym own)
 
@@ -59,7 +64,8 @@ pub record Steps (h : Holding) (event : Event) (bytes : List ℕ) : Type 0 where
   pub original : length (original_in event bytes) ≡ in_bytes event
   pub adapted : length (adapted_in event bytes) ≡ ad_bytes event
 
-pub brings : (h : Holding) (event : Event) (bytes : List ℕ) → MayFollow h.history.plan h.history.events event → Brings event bytes → Steps h event bytes
+pub brings : (h : Holding) (event : Event) (bytes : List ℕ) → MayFollow h.history.plan h.history.events event → Brings event bytes
+    → Steps h event bytes
 brings h (In n) bytes m b = record { may = m; original = b; adapted = refl }
 brings h (Ad n) bytes m b = record { may = m; original = refl; adapted = b }
 brings h End bytes m b = elim b [ ]
@@ -173,7 +179,8 @@ held_before h t =
     omega arith
 
 -- what a step that brings no bytes leaves is no more than before
-pub less_held : (h : Holding) (event : Event) → IsTied h → Steps h event [] → BringsNone event → held_places (shows_then h.history event) ≤ h.held
+pub less_held : (h : Holding) (event : Event) → IsTied h → Steps h event [] → BringsNone event
+    → held_places (shows_then h.history event) ≤ h.held
 less_held h event t s b =
     let n = numbers h event [] t s in
     let before = held_before h t in
@@ -189,7 +196,8 @@ less_held h event t s b =
     no_adapted (Ad n) = refl
     no_adapted _ = refl
 
-claim_fits : (x : Seen) (event : Event) (held claim window : ℕ) → (is_reply event ≡ true → held ≤ claim_after x claim window) → held ≤ claim → held ≤ claim_then x event claim window
+claim_fits : (x : Seen) (event : Event) (held claim window : ℕ) → (is_reply event ≡ true → held ≤ claim_after x claim window) → held ≤ claim
+    → held ≤ claim_then x event claim window
 claim_fits x Continue held claim window r h = r refl
 claim_fits x NoMod held claim window r h = r refl
 claim_fits x (Mod body) held claim window r h = r refl
@@ -208,13 +216,15 @@ still_fits h event t s b =
 
 -- Bytes that stay.
 
-pub original_low : (h : Holding) (event : Event) → IsTied h → MayFollow h.history.plan h.history.events event → h.original.base ≤ original_from (shows_then h.history event)
+pub original_low : (h : Holding) (event : Event) → IsTied h → MayFollow h.history.plan h.history.events event
+    → h.original.base ≤ original_from (shows_then h.history event)
 original_low h event t m =
     let ob : h.original.base ≡ original_from (shows h.history) = ap (λ (p : ℕ × ℕ). p.0) t.original in
     let rises = original_grows (shows h.history) event (sound h.history.plan h.history.events t.legal) m.0 m.1 in
     omega arith
 
-pub adapted_low : (h : Holding) (event : Event) → IsTied h → MayFollow h.history.plan h.history.events event → h.adapted.base ≤ adapted_from (shows_then h.history event)
+pub adapted_low : (h : Holding) (event : Event) → IsTied h → MayFollow h.history.plan h.history.events event
+    → h.adapted.base ≤ adapted_from (shows_then h.history event)
 adapted_low h event t m =
     let ob : h.adapted.base ≡ adapted_from (shows h.history) = ap (λ (p : ℕ × ℕ). p.0) t.adapted in
     let rises = adapted_grows (shows h.history) event (sound h.history.plan h.history.events t.legal) m.0 m.1 in

@@ -1,5 +1,6 @@
 -- What one turn of each side does, as a relation between histories and whole texts.
-use Rattle.std.specs.Prelude.{◌≡◌, ℕ, ◌<◌, ◌≤◌, ◌⊎◌, ◌||◌, Bool, true, false, List, [], ◌++◌, length, take, Option, Some, None, Result, Ok, Err}
+use Rattle.std.specs.Prelude.{◌≡◌, ℕ, ◌<◌, ◌≤◌, ◌⊎◌, ◌||◌, Bool, true, false, List, [], ◌++◌, length, take, Option, Some, None, Result, Ok}
+use Rattle.std.specs.Prelude.{Err}
 use Rattle.trace_core.specs.declared.history.Event.{Event}
 use Rattle.trace_core.specs.declared.history.Seen.{Seen}
 use Rattle.trace_core.specs.Turns.{after_all, MayAllFollow, AllAre, in_sum, ad_sum, is_of_source, is_of_sending, is_of_replies, is_of_hop}
@@ -35,7 +36,8 @@ OfClientWire fault p q = OfWire client.Device client.Closed fault p q
 
 -- Why a turn moved nothing, or failed: on a wire with the past p before and q after. `of_wire` says what a first fault shows of
 -- the wire, and `rests` that nothing was due.
-pub record HasReason {F : Type 0} (of_wire : F → Past → Past → Type 0) (p q : Past) (old_fault : Option F) (rests : Type 0) (waits : Past → ℕ) (result : Result Turn F) : Type 0 where
+pub record HasReason {F : Type 0} (of_wire : F → Past → Past → Type 0) (p q : Past) (old_fault : Option F) (rests : Type 0)
+    (waits : Past → ℕ) (result : Result Turn F) : Type 0 where
   pub failed : (fault : F) → result ≡ Err fault → old_fault ≡ None → of_wire fault p q
   pub waiting : waits_of result ≡ true → rests ⊎ (waits p < waits q)
 
@@ -66,14 +68,18 @@ given_then a b = record { bytes = a.bytes ++ b.bytes; ended = b.ended || a.ended
 -- A read of the source's wire, which gave this: In and End. `all_framed` says that none of the bytes that are kept can be framed, and
 -- `over` that the framing gives the body's end. End comes only if the body is over so, or the wire has ended in this call; and an
 -- end that the framing gives isn't withheld.
-pub record ReadsBody (old new : Seen → List ℕ → Given → Type 0) (agrees_old agrees_new : Seen → Type 0) (old_fault new_fault : Option RelayFault) (rests all_framed over : Type 0) (before after : Past → Type 0) (out : List ℕ) (result : Result Turn RelayFault) : Type 0 where
+pub record ReadsBody (old new : Seen → List ℕ → Given → Type 0) (agrees_old agrees_new : Seen → Type 0)
+    (old_fault new_fault : Option RelayFault) (rests all_framed over : Type 0) (before after : Past → Type 0) (out : List ℕ)
+    (result : Result Turn RelayFault) : Type 0 where
   pub delta : Given
-  pub wire : (p : Past) → before p → (q : Past) × after q × IsLater p delta.bytes [] q × HasReason OfRelayWire p q old_fault rests (λ past. past.read_waits) result × (delta.ended ≡ true → p.ends < q.ends)
+  pub wire : (p : Past) → before p → (q : Past) × after q × IsLater p delta.bytes [] q
+      × HasReason OfRelayWire p q old_fault rests (λ past. past.read_waits) result × (delta.ended ≡ true → p.ends < q.ends)
   pub only : AllAre is_of_source (events_of result)
   pub count : in_sum (events_of result) ≤ length out
   pub framed : waits_of result ≡ true → all_framed
   pub legal : (x : Seen) → agrees_old x → x.closed ≡ false → MayAllFollow x (events_of result) × agrees_new (after_all x (events_of result))
-  pub ends : (x : Seen) → agrees_old x → x.closed ≡ false → x.ended ≡ false → (after_all x (events_of result)).ended ≡ true → over ⊎ (delta.ended ≡ true)
+  pub ends : (x : Seen) → agrees_old x → x.closed ≡ false → x.ended ≡ false → (after_all x (events_of result)).ended ≡ true
+      → over ⊎ (delta.ended ≡ true)
   pub told : (turn : Turn) → result ≡ Ok turn → over → (x : Seen) → agrees_new x → x.ended ≡ true
   pub goes_on : (x : Seen) (body : List ℕ) (read : Given) → old x body read → x.closed ≡ false
       → new (after_all x (events_of result)) (body ++ take (in_sum (events_of result)) out) (given_then read delta)
@@ -81,19 +87,24 @@ pub record ReadsBody (old new : Seen → List ℕ → Given → Type 0) (agrees_
   pub fault : Remembers old_fault new_fault result
 
 -- A write to the service's wire, which took these bytes: Svc and Stop. Of a request with these heads.
-pub record Sends (x : Seen) (tape : Tape) (old new : List ℕ → Seen → List ℕ → List ℕ → Type 0) (old_fault new_fault : Option ClientFault) (rests : Type 0) (before after : Past → Type 0) (result : Result Turn ClientFault) : Type 0 where
+pub record Sends (x : Seen) (tape : Tape) (old new : List ℕ → Seen → List ℕ → List ℕ → Type 0) (old_fault new_fault : Option ClientFault)
+    (rests : Type 0) (before after : Past → Type 0) (result : Result Turn ClientFault) : Type 0 where
   pub delta : List ℕ
-  pub wire : (p : Past) → before p → (q : Past) × after q × IsLater p [] delta q × HasReason OfClientWire p q old_fault rests (λ past. past.write_waits) result
+  pub wire : (p : Past) → before p → (q : Past) × after q × IsLater p [] delta q
+      × HasReason OfClientWire p q old_fault rests (λ past. past.write_waits) result
   pub only : AllAre is_of_sending (events_of result)
   pub legal : MayAllFollow x (events_of result)
-  pub goes_on : (heads came taken : List ℕ) → Follows tape came → old heads x came taken → new heads (after_all x (events_of result)) came (taken ++ delta)
+  pub goes_on : (heads came taken : List ℕ) → Follows tape came → old heads x came taken
+      → new heads (after_all x (events_of result)) came (taken ++ delta)
   pub waiting : SaysWaiting (events_of result) delta result
   pub fault : Remembers old_fault new_fault result
 
 -- A read of the service's wire, which gave these bytes: Heard, the replies, Ad and AdEnd.
-pub record Hears (x : Seen) (old new : Seen → List ℕ → List ℕ → Type 0) (old_fault new_fault : Option ClientFault) (rests all_framed : Type 0) (before after : Past → Type 0) (out : List ℕ) (result : Result Turn ClientFault) : Type 0 where
+pub record Hears (x : Seen) (old new : Seen → List ℕ → List ℕ → Type 0) (old_fault new_fault : Option ClientFault)
+    (rests all_framed : Type 0) (before after : Past → Type 0) (out : List ℕ) (result : Result Turn ClientFault) : Type 0 where
   pub delta : List ℕ
-  pub wire : (p : Past) → before p → (q : Past) × after q × IsLater p delta [] q × HasReason OfClientWire p q old_fault rests (λ past. past.read_waits) result
+  pub wire : (p : Past) → before p → (q : Past) × after q × IsLater p delta [] q
+      × HasReason OfClientWire p q old_fault rests (λ past. past.read_waits) result
   pub only : AllAre is_of_replies (events_of result)
   pub count : ad_sum (events_of result) ≤ length out
   pub framed : waits_of result ≡ true → all_framed
@@ -120,9 +131,12 @@ wire_fault _ = None
 
 -- A write to the next hop's wire, which took these bytes: Usr and Done. Done stands only once the whole message is out.
 -- Of a message with this head; or aside, of a refusal.
-pub record Gives (x : Seen) (tape : Tape) (old new : Seen → List ℕ → List ℕ → List ℕ → Type 0) (old_aside new_aside : List ℕ → Type 0) (whole : List ℕ → List ℕ → List ℕ → Type 0) (old_fault new_fault : Option RelayFault) (rests : Type 0) (before after : Past → Type 0) (result : Result Turn RelayFault) : Type 0 where
+pub record Gives (x : Seen) (tape : Tape) (old new : Seen → List ℕ → List ℕ → List ℕ → Type 0) (old_aside new_aside : List ℕ → Type 0)
+    (whole : List ℕ → List ℕ → List ℕ → Type 0) (old_fault new_fault : Option RelayFault) (rests : Type 0) (before after : Past → Type 0)
+    (result : Result Turn RelayFault) : Type 0 where
   pub delta : List ℕ
-  pub wire : (p : Past) → before p → (q : Past) × after q × IsLater p [] delta q × HasReason OfRelayWire p q old_fault rests (λ past. past.write_waits) result
+  pub wire : (p : Past) → before p → (q : Past) × after q × IsLater p [] delta q
+      × HasReason OfRelayWire p q old_fault rests (λ past. past.write_waits) result
   pub only : AllAre is_of_hop (events_of result)
   pub legal : MayAllFollow x (events_of result)
   pub goes_on : x.closed ≡ false → (head body taken : List ℕ) → Follows tape body → old x head body taken

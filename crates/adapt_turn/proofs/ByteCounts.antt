@@ -17,7 +17,8 @@ moves_over before after_ c d f g = λ p q b a.
     ∙ ap (λ (k : ℕ). (d.0 - c.0) + (k - c.1)) (sym w.1)
 
 over_wire : {L : Type 0} (past : L → Past → Type 0) (line line' : Option L) (c d : ℕ × ℕ)
-    → MatchOption line ((c.0 ≡ 0) × (c.1 ≡ 0)) (λ l. AreCounts c (past l)) → MatchOption line' ((d.0 ≡ 0) × (d.1 ≡ 0)) (λ l. AreCounts d (past l)) → (line ≡ None → line' ≡ None)
+    → MatchOption line ((c.0 ≡ 0) × (c.1 ≡ 0)) (λ l. AreCounts c (past l))
+    → MatchOption line' ((d.0 ≡ 0) × (d.1 ≡ 0)) (λ l. AreCounts d (past l)) → (line ≡ None → line' ≡ None)
     → MatchOption line (counted c d ≡ 0) (λ l. MovesOver (past l) (λ p. MatchOption line' ⊥ (λ m. past m p)) (counted c d))
 over_wire past None None c d f g none = let f0 = f.0 in let f1 = f.1 in let g0 = g.0 in let g1 = g.1 in omega (arith, f0, f1, g0, g1)
 over_wire past None (Some m) c d f g none = absurd (let e : Some m ≡ None = none refl in cc)
@@ -25,7 +26,8 @@ over_wire past (Some l) None c d f g none = λ p q b a. absurd a
 over_wire past (Some l) (Some m) c d f g none = moves_over (past l) (past m) c d f g
 
 over_line : {V W : Type 0} (past : W → Past → Type 0) (line line' : Option (ServiceEnd V W)) (c d : ℕ × ℕ)
-    → on_held line ((c.0 ≡ 0) × (c.1 ≡ 0)) (λ w. AreCounts c (past w)) → on_held line' ((d.0 ≡ 0) × (d.1 ≡ 0)) (λ w. AreCounts d (past w)) → (wire_of line ≡ None → wire_of line' ≡ None)
+    → on_held line ((c.0 ≡ 0) × (c.1 ≡ 0)) (λ w. AreCounts c (past w)) → on_held line' ((d.0 ≡ 0) × (d.1 ≡ 0)) (λ w. AreCounts d (past w))
+    → (wire_of line ≡ None → wire_of line' ≡ None)
     → on_held line (counted c d ≡ 0) (λ w. MovesOver (past w) (λ p. on_held line' ⊥ (λ m. past m p)) (counted c d))
 over_line {V} {W} past None None c d f g none = over_wire past None None c d f g none
 over_line {V} {W} past None (Some m) c d f g none = over_wire past None m.wire c d f g none
@@ -33,7 +35,8 @@ over_line {V} {W} past (Some l) None c d f g none = over_wire past l.wire None c
 over_line {V} {W} past (Some l) (Some m) c d f g none = over_wire past l.wire m.wire c d f g none
 
 -- what went over the wires, by their pasts
-abbrev over_wires : {A C V W : Type 0} → (A → Past → Type 0) → (W → Past → Type 0) → (C → Past → Type 0) → A → A → Option (ServiceEnd V W) → Option (ServiceEnd V W) → C → C → Moves
+abbrev over_wires : {A C V W : Type 0} → (A → Past → Type 0) → (W → Past → Type 0) → (C → Past → Type 0) → A → A → Option (ServiceEnd V W)
+    → Option (ServiceEnd V W) → C → C → Moves
 over_wires on_source on_wire on_next a a' line line' x x' = record {
   source = MovesOver (on_source a) (on_source a');
   service = λ k. on_held line (k ≡ 0) (λ w. MovesOver (on_wire w) (λ p. on_held line' ⊥ (λ m. on_wire m p)) k);
@@ -41,9 +44,11 @@ over_wires on_source on_wire on_next a a' line line' x x' = record {
 }
 
 -- what the counts before and after a call say
-pub moves_of : {A C V W : Type 0} (on_source : A → Past → Type 0) (on_wire : W → Past → Type 0) (on_next : C → Past → Type 0) (a a' a2 : A) (line line' line2 : Option (ServiceEnd V W)) (x x' x2 : C) (c0 d0 c1 d1 c2 d2 : ℕ × ℕ) (n : ℕ)
+pub moves_of : {A C V W : Type 0} (on_source : A → Past → Type 0) (on_wire : W → Past → Type 0) (on_next : C → Past → Type 0) (a a' a2 : A)
+    (line line' line2 : Option (ServiceEnd V W)) (x x' x2 : C) (c0 d0 c1 d1 c2 d2 : ℕ × ℕ) (n : ℕ)
     → AreCounts c0 (on_source a) → AreCounts d0 (on_source a')
-    → on_held line ((c1.0 ≡ 0) × (c1.1 ≡ 0)) (λ w. AreCounts c1 (on_wire w)) → on_held line' ((d1.0 ≡ 0) × (d1.1 ≡ 0)) (λ w. AreCounts d1 (on_wire w))
+    → on_held line ((c1.0 ≡ 0) × (c1.1 ≡ 0)) (λ w. AreCounts c1 (on_wire w))
+    → on_held line' ((d1.0 ≡ 0) × (d1.1 ≡ 0)) (λ w. AreCounts d1 (on_wire w))
     → AreCounts c2 (on_next x) → AreCounts d2 (on_next x')
     → (wire_of line ≡ None → wire_of line' ≡ None) → a2 ≡ a' → line2 ≡ line' → x2 ≡ x'
     → n ≡ min (counted c0 d0 + counted c1 d1 + counted c2 d2) (2 ^ 64 - 1)
@@ -66,12 +71,14 @@ moves_of {A} {C} {V} {W} on_source on_wire on_next a a' a2 line line' line2 x x'
 none_counted : (c0 c1 c2 : ℕ × ℕ) → 0 ≡ min (counted c0 c0 + counted c1 c1 + counted c2 c2) (2 ^ 64 - 1)
 none_counted c0 c1 c2 = let e : 0 ≡ counted c0 c0 + counted c1 c1 + counted c2 c2 = omega arith in ap (λ (k : ℕ). min k (2 ^ 64 - 1)) e
 
-pub moves_none : {A C V W : Type 0} (on_source : A → Past → Type 0) (on_wire : W → Past → Type 0) (on_next : C → Past → Type 0) (a a' : A) (line line' : Option (ServiceEnd V W)) (x x' : C) (c0 c1 c2 : ℕ × ℕ) (n : ℕ)
+pub moves_none : {A C V W : Type 0} (on_source : A → Past → Type 0) (on_wire : W → Past → Type 0) (on_next : C → Past → Type 0) (a a' : A)
+    (line line' : Option (ServiceEnd V W)) (x x' : C) (c0 c1 c2 : ℕ × ℕ) (n : ℕ)
     → AreCounts c0 (on_source a) → on_held line ((c1.0 ≡ 0) × (c1.1 ≡ 0)) (λ w. AreCounts c1 (on_wire w)) → AreCounts c2 (on_next x)
     → a' ≡ a → line' ≡ line → x' ≡ x → n ≡ 0
     → SumsBytes (over_wires on_source on_wire on_next a a' line line' x x') n
 moves_none {A} {C} {V} {W} on_source on_wire on_next a a' line line' x x' c0 c1 c2 n f0 f1 f2 ea el ex e =
-    moves_of on_source on_wire on_next a a a' line line line' x x x' c0 c0 c1 c1 c2 c2 n f0 f0 f1 f1 f2 f2 (λ none. none) ea el ex (e ∙ none_counted c0 c1 c2)
+    moves_of on_source on_wire on_next a a a' line line line' x x x' c0 c0 c1 c1 c2 c2 n f0 f0 f1 f1 f2 f2 (λ none. none) ea el ex
+    (e ∙ none_counted c0 c1 c2)
 
 -- where none went over all of them, none went over each
 pub none_over : (over : Moves) (n : ℕ) → n ≡ 0 → SumsBytes over n → over.source 0 × over.service 0 × over.next 0
@@ -96,7 +103,8 @@ some_wire : {L : Type 0} (past : L → Past → Type 0) (line line' : Option L) 
 some_wire past None line' this p b k n act = absurd (n refl)
 some_wire past (Some l) line' this p b k n act = let v = act p b in v.4 (k p v.0 b v.1)
 
-pub some_line : {V W : Type 0} (past : W → Past → Type 0) (line line' : Option (ServiceEnd V W)) (this : Type 0) (p : Past) → on_held line ⊤ (λ w. past w p)
+pub some_line : {V W : Type 0} (past : W → Past → Type 0) (line line' : Option (ServiceEnd V W)) (this : Type 0) (p : Past)
+    → on_held line ⊤ (λ w. past w p)
     → on_held line (none_moved ≡ 0) (λ w. MovesOver (past w) (λ q. on_held line' ⊥ (λ m. past m q)) none_moved)
     → (wire_of line ≡ None → ⊥) → BytesOr this (λ q. on_held line ⊥ (λ w. past w q)) (λ q. on_held line' ⊥ (λ m. past m q)) → this
 some_line {V} {W} past None None this p b k n act = absurd (n refl)

@@ -7,7 +7,8 @@ unmarked_before false new now same n = refl
 unmarked_before true new now same n = let d : true ≡ false = sym (same.1 (inl refl)) ∙ n in absurd cc
 
 -- nor was it in this turn
-pub unmarked_now : (broken old new : Bool) (now : Type 0) → (broken ≡ true → now) → (new ≡ true ↔ (old ≡ true) ⊎ now) → new ≡ false → broken ≡ false
+pub unmarked_now : (broken old new : Bool) (now : Type 0) → (broken ≡ true → now) → (new ≡ true ↔ (old ≡ true) ⊎ now) → new ≡ false
+    → broken ≡ false
 unmarked_now false old new now breaks same n = refl
 unmarked_now true old new now breaks same n = let d : true ≡ false = sym (same.1 (inr (breaks refl))) ∙ n in absurd cc
 

@@ -36,10 +36,13 @@ none_given (Usr n) o = absurd (false≢true o)
 none_given _ o = refl
 
 none_out : (x : Seen) (event : Event) → off_hop event ≡ true → IsUndelivered x → IsUndelivered (after x event)
-none_out x event o u =
-    (zero_if (is_plain x.plan.kind || x.no_mod) (usr_bytes event) x.original_delivered (none_given event o) u.0, zero_if x.modified (usr_bytes event) x.adapted_delivered (none_given event o) u.1)
+none_out x event o u = (
+  zero_if (is_plain x.plan.kind || x.no_mod) (usr_bytes event) x.original_delivered (none_given event o) u.0,
+  zero_if x.modified (usr_bytes event) x.adapted_delivered (none_given event o) u.1,
+)
 
-pub hops_others : (next back : WriterView) → KeepsGiven next → KeepsGiven back → (to_next to_back : List ℕ) → KeepsChosen (λ x body. HopsAre next back x body to_next to_back)
+pub hops_others : (next back : WriterView) → KeepsGiven next → KeepsGiven back → (to_next to_back : List ℕ)
+    → KeepsChosen (λ x body. HopsAre next back x body to_next to_back)
 hops_others next back nk bk to_next to_back plan before event original adapted bytes more legal o lo la lb lm p =
     elim p [
       | inl none ↦ inl (record {
@@ -53,27 +56,41 @@ hops_others next back nk bk to_next to_back plan before event original adapted b
         begun = on.begun;
         alone = λ c. on.alone legal.0.0;
         head = on.head;
-        given_is = nk plan before event on.head original adapted bytes more to_next legal (not_true (is_of_hop event) o) lo la lb lm on.given_is;
+        given_is = nk plan before event on.head original adapted bytes more to_next legal (not_true (is_of_hop event) o) lo la lb lm
+            on.given_is;
         aside_is = on.aside_is;
       }))
       | inr (inr (inl on)) ↦ inr (inr (inl (record {
         begun = on.begun;
         alone = λ c. on.alone legal.0.0;
         head = on.head;
-        given_is = bk plan before event on.head original adapted bytes more to_back legal (not_true (is_of_hop event) o) lo la lb lm on.given_is;
+        given_is = bk plan before event on.head original adapted bytes more to_back legal (not_true (is_of_hop event) o) lo la lb lm
+            on.given_is;
         aside_is = on.aside_is;
       })))
       | inr (inr (inr over)) ↦ absurd (false≢true (sym legal.0.0 ∙ over.over))
     ]
 
 -- the two wires, named the other way round
-pub hops_swap : (next back : WriterView) (x : Seen) (body to_next to_back : List ℕ) → HopsAre next back x body to_next to_back → HopsAre back next x body to_back to_next
+pub hops_swap : (next back : WriterView) (x : Seen) (body to_next to_back : List ℕ) → HopsAre next back x body to_next to_back
+    → HopsAre back next x body to_back to_next
 hops_swap next back x body to_next to_back p =
     elim p [
-      | inl none ↦ inl (record { next_is = none.back_is; back_is = none.next_is; none = none.none; next_aside_is = none.back_aside_is; back_aside_is = none.next_aside_is })
+      | inl none ↦ inl (record {
+        next_is = none.back_is;
+        back_is = none.next_is;
+        none = none.none;
+        next_aside_is = none.back_aside_is;
+        back_aside_is = none.next_aside_is;
+      })
       | inr (inl on) ↦ inr (inr (inl on))
       | inr (inr (inl on)) ↦ inr (inl on)
-      | inr (inr (inr over)) ↦ inr (inr (inr (record { over = over.over; none = over.none; next_aside_is = over.back_aside_is; back_aside_is = over.next_aside_is })))
+      | inr (inr (inr over)) ↦ inr (inr (inr (record {
+        over = over.over;
+        none = over.none;
+        next_aside_is = over.back_aside_is;
+        back_aside_is = over.next_aside_is;
+      })))
     ]
 
 -- the source's wire took more of an answer
@@ -101,7 +118,8 @@ pub next_gives : (next next' back : WriterView) (x y : Seen) (body to_next to_ba
     → ((head taken : List ℕ) → next.given x head body taken → next'.given y head body (taken ++ delta))
     → HopsAre next back x body to_next to_back → HopsAre next' back y body (to_next ++ delta) to_back
 next_gives next next' back x y body to_next to_back delta c idle busy same on_ p =
-    hops_swap back next' y body to_back (to_next ++ delta) (back_gives back next next' x y body to_back to_next delta c busy same on_ (hops_swap next back x body to_next to_back p))
+    hops_swap back next' y body to_back (to_next ++ delta) (back_gives back next next' x y body to_back to_next delta c busy same on_
+    (hops_swap next back x body to_next to_back p))
 
 -- and where the history is closed by it, the whole message
 
@@ -117,7 +135,12 @@ next_whole refusing next next' back x y body to_next to_back delta c idle busy s
   not_refusing refusing next back x c r,
   elim p [
     | inl none ↦ absurd (busy none.next_is)
-    | inr (inl on) ↦ inl (record { begun = same ∙ on.begun; head = on.head; whole_is = on_ on.head to_next on.given_is; aside_is = on.aside_is })
+    | inr (inl on) ↦ inl (record {
+      begun = same ∙ on.begun;
+      head = on.head;
+      whole_is = on_ on.head to_next on.given_is;
+      aside_is = on.aside_is;
+    })
     | inr (inr (inl on)) ↦ absurd (let e : nothing ≡ message = sym idle ∙ on.begun in cc)
     | inr (inr (inr over)) ↦ absurd (false≢true (sym c ∙ over.over))
   ],
@@ -132,7 +155,12 @@ back_whole refusing next back back' x y body to_next to_back delta c busy same r
   elim p [
     | inl none ↦ absurd (busy none.back_is)
     | inr (inl on) ↦ absurd (busy (on.alone c))
-    | inr (inr (inl on)) ↦ inr (record { begun = same ∙ on.begun; head = on.head; whole_is = on_ on.head to_back on.given_is; aside_is = on.aside_is })
+    | inr (inr (inl on)) ↦ inr (record {
+      begun = same ∙ on.begun;
+      head = on.head;
+      whole_is = on_ on.head to_back on.given_is;
+      aside_is = on.aside_is;
+    })
     | inr (inr (inr over)) ↦ absurd (false≢true (sym c ∙ over.over))
   ],
 )
@@ -142,19 +170,23 @@ back_whole refusing next back back' x y body to_next to_back delta c busy same r
 unrefused : (gift gift' : Gift) (status : ℕ) → gift' ≡ message → gift' ≡ refusal status → ⊥
 unrefused gift gift' status m e = let d : message ≡ refusal status = sym m ∙ e in absurd cc
 
-pub other_of_next : (point : Point) (ng ng' bg : Gift) → ng' ≡ message → ((status : ℕ) → other_gift point ng bg ≡ refusal status → ⊥) → (status : ℕ) → other_gift point ng' bg ≡ refusal status → ⊥
+pub other_of_next : (point : Point) (ng ng' bg : Gift) → ng' ≡ message → ((status : ℕ) → other_gift point ng bg ≡ refusal status → ⊥)
+    → (status : ℕ) → other_gift point ng' bg ≡ refusal status → ⊥
 other_of_next Reqmod ng ng' bg m none status = unrefused ng ng' status m
 other_of_next Respmod ng ng' bg m none status = none status
 
-pub other_of_back : (point : Point) (ng bg bg' : Gift) → bg' ≡ message → ((status : ℕ) → other_gift point ng bg ≡ refusal status → ⊥) → (status : ℕ) → other_gift point ng bg' ≡ refusal status → ⊥
+pub other_of_back : (point : Point) (ng bg bg' : Gift) → bg' ≡ message → ((status : ℕ) → other_gift point ng bg ≡ refusal status → ⊥)
+    → (status : ℕ) → other_gift point ng bg' ≡ refusal status → ⊥
 other_of_back Reqmod ng bg bg' m none status = none status
 other_of_back Respmod ng bg bg' m none status = unrefused bg bg' status m
 
-pub other_at_respmod : (point : Point) (ng ng' bg : Gift) → point ≡ Respmod → ((status : ℕ) → other_gift point ng bg ≡ refusal status → ⊥) → (status : ℕ) → other_gift point ng' bg ≡ refusal status → ⊥
+pub other_at_respmod : (point : Point) (ng ng' bg : Gift) → point ≡ Respmod → ((status : ℕ) → other_gift point ng bg ≡ refusal status → ⊥)
+    → (status : ℕ) → other_gift point ng' bg ≡ refusal status → ⊥
 other_at_respmod Reqmod ng ng' bg e none status = let d : Reqmod ≡ Respmod = e in absurd cc
 other_at_respmod Respmod ng ng' bg e none status = none status
 
-pub other_at_reqmod : (point : Point) (ng bg bg' : Gift) → point ≡ Reqmod → ((status : ℕ) → other_gift point ng bg ≡ refusal status → ⊥) → (status : ℕ) → other_gift point ng bg' ≡ refusal status → ⊥
+pub other_at_reqmod : (point : Point) (ng bg bg' : Gift) → point ≡ Reqmod → ((status : ℕ) → other_gift point ng bg ≡ refusal status → ⊥)
+    → (status : ℕ) → other_gift point ng bg' ≡ refusal status → ⊥
 other_at_reqmod Reqmod ng bg bg' e none status = none status
 other_at_reqmod Respmod ng bg bg' e none status = let d : Respmod ≡ Reqmod = e in absurd cc
 
@@ -166,7 +198,8 @@ other_idle Respmod ng bg n b status e = let d : nothing ≡ refusal status = sym
 
 -- from nothing, a wire took a prefix of it
 abbrev pub BeginsWith : Seen → List ℕ → (own own' : WriterView) → Type 0
-BeginsWith x head own own' = (body taken : List ℕ) → own.aside taken → x.original_delivered ≡ 0 → x.adapted_delivered ≡ 0 → own'.given x head body taken
+BeginsWith x head own own' = (body taken : List ℕ) → own.aside taken → x.original_delivered ≡ 0 → x.adapted_delivered ≡ 0
+    → own'.given x head body taken
 
 -- the other writer stays, whatever heads are made for it
 pub record StaysAside (other other' : WriterView) : Type 0 where
@@ -174,7 +207,8 @@ pub record StaysAside (other other' : WriterView) : Type 0 where
   pub aside : (taken : List ℕ) → other.aside taken → other'.aside taken
 
 pub next_begins : (next next' back back' : WriterView) (x : Seen) (head body to_next to_back : List ℕ)
-    → x.closed ≡ false → next.gift ≡ nothing → back.gift ≡ nothing → next'.gift ≡ message → StaysAside back back' → BeginsWith x head next next'
+    → x.closed ≡ false → next.gift ≡ nothing → back.gift ≡ nothing → next'.gift ≡ message → StaysAside back back'
+    → BeginsWith x head next next'
     → HopsAre next back x body to_next to_back → HopsAre next' back' x body to_next to_back
 next_begins next next' back back' x head body to_next to_back c n b m stays begin p =
     elim p [
@@ -191,24 +225,33 @@ next_begins next next' back back' x head body to_next to_back c n b m stays begi
     ]
 
 pub back_begins : (next next' back back' : WriterView) (x : Seen) (head body to_next to_back : List ℕ)
-    → x.closed ≡ false → next.gift ≡ nothing → back.gift ≡ nothing → back'.gift ≡ message → StaysAside next next' → BeginsWith x head back back'
+    → x.closed ≡ false → next.gift ≡ nothing → back.gift ≡ nothing → back'.gift ≡ message → StaysAside next next'
+    → BeginsWith x head back back'
     → HopsAre next back x body to_next to_back → HopsAre next' back' x body to_next to_back
 back_begins next next' back back' x head body to_next to_back c n b m stays begin p =
-    hops_swap back' next' x body to_back to_next (next_begins back back' next next' x head body to_back to_next c b n m stays begin (hops_swap next back x body to_next to_back p))
+    hops_swap back' next' x body to_back to_next (next_begins back back' next next' x head body to_back to_next c b n m stays begin
+    (hops_swap next back x body to_next to_back p))
 
 -- a refusal is put in the message's place
 
 abbrev pub UntouchedGives : WriterView → Type 0
-UntouchedGives own = (x : Seen) (head body taken : List ℕ) → own.given x head body taken → (taken ≡ []) × (x.original_delivered ≡ 0) × (x.adapted_delivered ≡ 0)
+UntouchedGives own = (x : Seen) (head body taken : List ℕ) → own.given x head body taken
+    → (taken ≡ []) × (x.original_delivered ≡ 0) × (x.adapted_delivered ≡ 0)
 
 pub next_refuses : (next next' back : WriterView) (x : Seen) (body to_next to_back : List ℕ)
     → x.closed ≡ true → UntouchedGives next → ((taken : List ℕ) → next.aside taken → taken ≡ []) → next'.aside []
     → HopsAre next back x body to_next to_back → HopsAre next' back x body to_next to_back
 next_refuses next next' back x body to_next to_back c given aside none p =
     elim p [
-      | inl idle ↦ inr (inr (inr (record { over = c; none = idle.none; next_aside_is = empty to_next (aside to_next idle.next_aside_is); back_aside_is = idle.back_aside_is })))
+      | inl idle ↦ inr (inr (inr (record {
+        over = c;
+        none = idle.none;
+        next_aside_is = empty to_next (aside to_next idle.next_aside_is);
+        back_aside_is = idle.back_aside_is;
+      })))
       | inr (inl on) ↦
-          (let w = given x on.head body to_next on.given_is in inr (inr (inr (record { over = c; none = (w.1, w.2); next_aside_is = empty to_next w.0; back_aside_is = on.aside_is }))))
+          (let w = given x on.head body to_next on.given_is in
+          inr (inr (inr (record { over = c; none = (w.1, w.2); next_aside_is = empty to_next w.0; back_aside_is = on.aside_is }))))
       | inr (inr (inl on)) ↦ inr (inr (inl (record {
         begun = on.begun;
         alone = λ w. absurd (false≢true (sym w ∙ c));
@@ -216,7 +259,12 @@ next_refuses next next' back x body to_next to_back c given aside none p =
         given_is = on.given_is;
         aside_is = empty to_next (aside to_next on.aside_is);
       })))
-      | inr (inr (inr over)) ↦ inr (inr (inr (record { over = c; none = over.none; next_aside_is = empty to_next (aside to_next over.next_aside_is); back_aside_is = over.back_aside_is })))
+      | inr (inr (inr over)) ↦ inr (inr (inr (record {
+        over = c;
+        none = over.none;
+        next_aside_is = empty to_next (aside to_next over.next_aside_is);
+        back_aside_is = over.back_aside_is;
+      })))
     ]
   where
     empty : (taken : List ℕ) → taken ≡ [] → next'.aside taken
@@ -226,7 +274,8 @@ pub back_refuses : (next back back' : WriterView) (x : Seen) (body to_next to_ba
     → x.closed ≡ true → UntouchedGives back → ((taken : List ℕ) → back.aside taken → taken ≡ []) → back'.aside []
     → HopsAre next back x body to_next to_back → HopsAre next back' x body to_next to_back
 back_refuses next back back' x body to_next to_back c given aside none p =
-    hops_swap back' next x body to_back to_next (next_refuses back back' next x body to_back to_next c given aside none (hops_swap next back x body to_next to_back p))
+    hops_swap back' next x body to_back to_next (next_refuses back back' next x body to_back to_next c given aside none
+    (hops_swap next back x body to_next to_back p))
 
 -- more of a refusal goes out
 
@@ -235,14 +284,32 @@ pub next_refuses_on : (next next' back : WriterView) (x : Seen) (body to_next to
     → HopsAre next back x body to_next to_back → HopsAre next' back x body (to_next ++ delta) to_back
 next_refuses_on next next' back x body to_next to_back delta un same aside p =
     elim p [
-      | inl idle ↦ inl (record { next_is = same ∙ idle.next_is; back_is = idle.back_is; none = idle.none; next_aside_is = aside to_next idle.next_aside_is; back_aside_is = idle.back_aside_is })
+      | inl idle ↦ inl (record {
+        next_is = same ∙ idle.next_is;
+        back_is = idle.back_is;
+        none = idle.none;
+        next_aside_is = aside to_next idle.next_aside_is;
+        back_aside_is = idle.back_aside_is;
+      })
       | inr (inl on) ↦ absurd (un on.begun)
-      | inr (inr (inl on)) ↦ inr (inr (inl (record { begun = on.begun; alone = λ w. same ∙ on.alone w; head = on.head; given_is = on.given_is; aside_is = aside to_next on.aside_is })))
-      | inr (inr (inr over)) ↦ inr (inr (inr (record { over = over.over; none = over.none; next_aside_is = aside to_next over.next_aside_is; back_aside_is = over.back_aside_is })))
+      | inr (inr (inl on)) ↦ inr (inr (inl (record {
+        begun = on.begun;
+        alone = λ w. same ∙ on.alone w;
+        head = on.head;
+        given_is = on.given_is;
+        aside_is = aside to_next on.aside_is;
+      })))
+      | inr (inr (inr over)) ↦ inr (inr (inr (record {
+        over = over.over;
+        none = over.none;
+        next_aside_is = aside to_next over.next_aside_is;
+        back_aside_is = over.back_aside_is;
+      })))
     ]
 
 pub back_refuses_on : (next back back' : WriterView) (x : Seen) (body to_next to_back delta : List ℕ)
     → (back.gift ≡ message → ⊥) → back'.gift ≡ back.gift → ((taken : List ℕ) → back.aside taken → back'.aside (taken ++ delta))
     → HopsAre next back x body to_next to_back → HopsAre next back' x body to_next (to_back ++ delta)
 back_refuses_on next back back' x body to_next to_back delta un same aside p =
-    hops_swap back' next x body (to_back ++ delta) to_next (next_refuses_on back back' next x body to_back to_next delta un same aside (hops_swap next back x body to_next to_back p))
+    hops_swap back' next x body (to_back ++ delta) to_next (next_refuses_on back back' next x body to_back to_next delta un same aside
+    (hops_swap next back x body to_next to_back p))

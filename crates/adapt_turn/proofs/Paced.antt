@@ -67,7 +67,8 @@ reported_received {F} {v} {h} {k} {r} {passed} t p n few turn =
     let shown = reported_shows t p in
     let all = received_all (shows h.history) (stepped passed.failed r.events) in
     let less = in_stepped passed.failed r.events in
-    let at : (after_all (shows h.history) (stepped passed.failed r.events)).received ≤ (shows h.history).received + h.limits.turn = omega (arith, all, less, few, turn) in
+    let at : (after_all (shows h.history) (stepped passed.failed r.events)).received ≤ (shows h.history).received + h.limits.turn =
+    omega (arith, all, less, few, turn) in
     subst (λ (x : Seen). x.received ≤ (shows h.history).received + h.limits.turn) (sym shown) at
 
 pub reported_adapted : {F : Type 0} {v : View F} {h k : Holding} {r : Report} {passed : PassAnswer}
@@ -77,20 +78,25 @@ reported_adapted {F} {v} {h} {k} {r} {passed} t p n few =
     let shown = reported_shows t p in
     let all = adapted_all (shows h.history) (stepped passed.failed r.events) in
     let less = ad_stepped passed.failed r.events in
-    let at : (after_all (shows h.history) (stepped passed.failed r.events)).adapted_received ≤ (shows h.history).adapted_received + n = omega (arith, all, less, few) in
+    let at : (after_all (shows h.history) (stepped passed.failed r.events)).adapted_received ≤ (shows h.history).adapted_received + n =
+    omega (arith, all, less, few) in
     subst (λ (x : Seen). x.adapted_received ≤ (shows h.history).adapted_received + n) (sym shown) at
 
 -- closing brings no byte of either body
-fail_shows : (h k : Holding) (cause : Cause) → IsTied h → (shows h.history).closed ≡ false → k ≡ moved h (Fail cause) [] → shows k.history ≡ after (shows h.history) (Fail cause)
-fail_shows h k cause t c e = ap (λ (y : Holding). shows y.history) e ∙ then_shows h (Fail cause) (history_then h.history (Fail cause)) t (c, tt) refl
+fail_shows : (h k : Holding) (cause : Cause) → IsTied h → (shows h.history).closed ≡ false → k ≡ moved h (Fail cause) []
+    → shows k.history ≡ after (shows h.history) (Fail cause)
+fail_shows h k cause t c e = ap (λ (y : Holding). shows y.history) e ∙ then_shows h (Fail cause) (history_then h.history (Fail cause)) t
+    (c, tt) refl
 
-pub fail_received : (h k : Holding) (cause : Cause) (n : ℕ) → IsTied h → (shows h.history).closed ≡ false → k ≡ moved h (Fail cause) [] → (shows k.history).received ≤ (shows h.history).received + n
+pub fail_received : (h k : Holding) (cause : Cause) (n : ℕ) → IsTied h → (shows h.history).closed ≡ false → k ≡ moved h (Fail cause) []
+    → (shows k.history).received ≤ (shows h.history).received + n
 fail_received h k cause n t c e =
     let few = received_after (shows h.history) (Fail cause) in
     let at : (after (shows h.history) (Fail cause)).received ≤ (shows h.history).received + n = omega (arith, few) in
     subst (λ (x : Seen). x.received ≤ (shows h.history).received + n) (sym (fail_shows h k cause t c e)) at
 
-pub fail_adapted : (h k : Holding) (cause : Cause) (n : ℕ) → IsTied h → (shows h.history).closed ≡ false → k ≡ moved h (Fail cause) [] → (shows k.history).adapted_received ≤ (shows h.history).adapted_received + n
+pub fail_adapted : (h k : Holding) (cause : Cause) (n : ℕ) → IsTied h → (shows h.history).closed ≡ false → k ≡ moved h (Fail cause) []
+    → (shows k.history).adapted_received ≤ (shows h.history).adapted_received + n
 fail_adapted h k cause n t c e =
     let few = adapted_after (shows h.history) (Fail cause) in
     let at : (after (shows h.history) (Fail cause)).adapted_received ≤ (shows h.history).adapted_received + n = omega (arith, few) in

@@ -1,5 +1,6 @@
 -- Why a pass waits, or fails.
-use Rattle.std.proofs.Common.{◌≡◌, ℕ, ◌<◌, ◌≤◌, ◌⊎◌, inl, inr, Bool, true, false, List, [], Option, Some, None, Result, Ok, Err, arith, refl, sym, ◌∙◌, ap, subst}
+use Rattle.std.proofs.Common.{◌≡◌, ℕ, ◌<◌, ◌≤◌, ◌⊎◌, inl, inr, Bool, true, false, List, [], Option, Some, None, Result, Ok, Err, arith}
+use Rattle.std.proofs.Common.{refl, sym, ◌∙◌, ap, subst}
 use Rattle.std.proofs.lemmas.Bool.{false≢true}
 use Rattle.std.specs.Prelude.{MatchOption, ⊤}
 use Rattle.trace_core.specs.declared.history.Event.{Event}
@@ -24,18 +25,22 @@ use Rattle.adapt_sides.specs.declared.turn.Turn.{Turn}
 use Rattle.adapt_sides.specs.declared.fault.RelayFault.{RelayFault}
 use Rattle.adapt_sides.specs.declared.fault.RelayFault.TheVariants as relay
 use Rattle.adapt_sides.specs.Turns.{FailsGiving, Remembers, IsExplained}
-use Rattle.adapt_turn.specs.Reports.{IsOfSide, source_cause, service_cause, Breaks, HasFaultReason, FailsFor, Lent, lending, View, source_view, hear_view, hop_view, Report, Reported, stepped, hop_cause, outcome_by}
+use Rattle.adapt_turn.specs.Reports.{IsOfSide, source_cause, service_cause, Breaks, HasFaultReason, FailsFor, Lent, lending, View}
+use Rattle.adapt_turn.specs.Reports.{source_view, hear_view, hop_view, Report, Reported, stepped, hop_cause, outcome_by}
 use Rattle.adapt_turn.specs.Passes.{service_faults}
 use Rattle.adapt_turn.specs.Stands.{Waited, WaitedBeside, WaitedBoth, faults_in, Blamed, BlamedWriter}
 
-pub reported_waits : {F : Type 0} {v : View F} {h k : Holding} {r : Report} {passed : PassAnswer} → Reported v h k r passed → passed.waiting ≡ true → Waited v.rests v.waits v.before v.after
+pub reported_waits : {F : Type 0} {v : View F} {h k : Holding} {r : Report} {passed : PassAnswer} → Reported v h k r passed
+    → passed.waiting ≡ true → Waited v.rests v.waits v.before v.after
 reported_waits p e = λ past b. let w = p.wire past b in (w.0, w.1, w.3.waiting e)
 
-pub reported_blames : {F : Type 0} {v : View F} {h k : Holding} {r : Report} {passed : PassAnswer} → Reported v h k r passed → (cause : Cause) → passed.failed ≡ Some cause
+pub reported_blames : {F : Type 0} {v : View F} {h k : Holding} {r : Report} {passed : PassAnswer} → Reported v h k r passed
+    → (cause : Cause) → passed.failed ≡ Some cause
     → Blamed (faults_in v) cause
 reported_blames p cause e = λ past b. let w = p.wire past b in (w.0, w.1, w.3.failed cause e)
 
-pub reported_idle : {F : Type 0} {v : View F} {h k : Holding} {r : Report} {passed : PassAnswer} → Reported v h k r passed → passed.waiting ≡ true → passed.failed ≡ None
+pub reported_idle : {F : Type 0} {v : View F} {h k : Holding} {r : Report} {passed : PassAnswer} → Reported v h k r passed
+    → passed.waiting ≡ true → passed.failed ≡ None
 reported_idle p e = (p.tells.idle e).2
 
 -- the cause lies with the side, or with memory
@@ -44,54 +49,64 @@ source_side : (fault : RelayFault) → IsOfSide (source_cause fault)
 source_side relay.NoMemory = tt
 source_side _ = tt
 
-pub source_blame : {new : Option RelayFault} (cause : Cause) → (fault : RelayFault) × (new ≡ Some fault) × (cause ≡ source_cause fault) → IsOfSide cause
+pub source_blame : {new : Option RelayFault} (cause : Cause) → (fault : RelayFault) × (new ≡ Some fault) × (cause ≡ source_cause fault)
+    → IsOfSide cause
 source_blame cause w = subst IsOfSide (sym w.2) (source_side w.0)
 
 service_side : (fault : ClientFault) → IsOfSide (service_cause fault)
 service_side client.NoMemory = tt
 service_side _ = tt
 
-pub service_blame : {new : Option ClientFault} (cause : Cause) → (fault : ClientFault) × (new ≡ Some fault) × (cause ≡ service_cause fault) → IsOfSide cause
+pub service_blame : {new : Option ClientFault} (cause : Cause) → (fault : ClientFault) × (new ≡ Some fault) × (cause ≡ service_cause fault)
+    → IsOfSide cause
 service_blame cause w = subst IsOfSide (sym w.2) (service_side w.0)
 
 -- the same sides and wires, by other names
 
-pub waits_kept : {S A : Type 0} (rests : S → Type 0) (past : A → Past → Type 0) (waits : Past → ℕ) (before : Past → Type 0) (s s' : S) (a a' : A) → s' ≡ s → a' ≡ a
+pub waits_kept : {S A : Type 0} (rests : S → Type 0) (past : A → Past → Type 0) (waits : Past → ℕ) (before : Past → Type 0) (s s' : S)
+    (a a' : A) → s' ≡ s → a' ≡ a
     → Waited (rests s) waits before (past a) → Waited (rests s') waits before (past a')
 waits_kept {S} {A} rests past waits before s s' a a' e f w =
     subst (λ (z : S). Waited (rests z) waits before (past a')) (sym e) (subst (λ (z : A). Waited (rests s) waits before (past z)) (sym f) w)
 
-pub blamed_kept : {S H W : Type 0} (s : Source S H) (w : Wire W) (old mid new : Lent S W) (cause : Cause) → new.side ≡ mid.side → new.wire ≡ mid.wire
+pub blamed_kept : {S H W : Type 0} (s : Source S H) (w : Wire W) (old mid new : Lent S W) (cause : Cause) → new.side ≡ mid.side
+    → new.wire ≡ mid.wire
     → Blamed (faults_in (source_view s w old mid)) cause → Blamed (faults_in (source_view s w old new)) cause
 blamed_kept {S} {H} {W} s w old mid new cause e f b =
     subst (λ (z : S). Blamed (faults_in (source_view s w old (lending mid.hold z new.wire))) cause) (sym e)
     (subst (λ (z : W). Blamed (faults_in (source_view s w old (lending mid.hold mid.side z))) cause) (sym f) b)
 
 -- an outcome says why a pass failed
-pub outcome_fails : (failed : Option Cause) (r : Outcome) (cause : Cause) → r ≡ outcome_by failed → r ≡ outcomes.Fail cause → failed ≡ Some cause
+pub outcome_fails : (failed : Option Cause) (r : Outcome) (cause : Cause) → r ≡ outcome_by failed → r ≡ outcomes.Fail cause
+    → failed ≡ Some cause
 outcome_fails None r cause s e = absurd cc
 outcome_fails (Some c) r cause s e = cc
 
 -- the service's line
 
-pub reported_still : {F : Type 0} {v : View F} {h k : Holding} {r : Report} {passed : PassAnswer} → Reported v h k r passed → passed.waiting ≡ true → k ≡ h
+pub reported_still : {F : Type 0} {v : View F} {h k : Holding} {r : Report} {passed : PassAnswer} → Reported v h k r passed
+    → passed.waiting ≡ true → k ≡ h
 reported_still {F} {v} {h} {k} {r} {passed} p e =
     let i = p.tells.idle e in
     p.is ∙ ap (λ (f : Option Cause). moved_all h (stepped f r.events) r.out) i.2 ∙ ap (λ (es : List Event). moved_all h es r.out) i.1
 
 -- where a pass waits, the other answers of its wire that say so haven't become fewer
-pub writes_beside : {F : Type 0} {v : View F} {h k : Holding} {r : Report} {passed : PassAnswer} → Reported v h k r passed → passed.waiting ≡ true → WaitedBeside v.rests v.waits (λ q. q.read_waits) v.before v.after
+pub writes_beside : {F : Type 0} {v : View F} {h k : Holding} {r : Report} {passed : PassAnswer} → Reported v h k r passed
+    → passed.waiting ≡ true → WaitedBeside v.rests v.waits (λ q. q.read_waits) v.before v.after
 writes_beside part e = λ p b. let w = part.wire p b in (w.0, w.1, w.2.read_waits, w.3.waiting e)
 
-pub reads_beside : {F : Type 0} {v : View F} {h k : Holding} {r : Report} {passed : PassAnswer} → Reported v h k r passed → passed.waiting ≡ true → WaitedBeside v.rests v.waits (λ q. q.write_waits) v.before v.after
+pub reads_beside : {F : Type 0} {v : View F} {h k : Holding} {r : Report} {passed : PassAnswer} → Reported v h k r passed
+    → passed.waiting ≡ true → WaitedBeside v.rests v.waits (λ q. q.write_waits) v.before v.after
 reads_beside part e = λ p b. let w = part.wire p b in (w.0, w.1, w.2.write_waits, w.3.waiting e)
 
 -- a pass that failed did so by one step
-pub reported_fails : {F : Type 0} {v : View F} {h k : Holding} {r : Report} {passed : PassAnswer} → Reported v h k r passed → (cause : Cause) → passed.failed ≡ Some cause → k ≡ moved h (Fail cause) []
+pub reported_fails : {F : Type 0} {v : View F} {h k : Holding} {r : Report} {passed : PassAnswer} → Reported v h k r passed
+    → (cause : Cause) → passed.failed ≡ Some cause → k ≡ moved h (Fail cause) []
 reported_fails {F} {v} {h} {k} {r} {passed} p cause e = p.is ∙ ap (λ (f : Option Cause). moved_all h (stepped f r.events) r.out) e
 
 -- behind a pass that left no new fault
-pub blamed_then : {V W : Type 0} (v : Service V) (w : Wire W) (old mid new : Lent V W) (cause : Cause) (given taken : List ℕ) → (v.fault old.side ≡ None → v.fault mid.side ≡ None)
+pub blamed_then : {V W : Type 0} (v : Service V) (w : Wire W) (old mid new : Lent V W) (cause : Cause) (given taken : List ℕ)
+    → (v.fault old.side ≡ None → v.fault mid.side ≡ None)
     → ((p : Past) → w.past old.wire p → (q : Past) × w.past mid.wire q × IsLater p given taken q)
     → Blamed (faults_in (hear_view v w mid new)) cause → Blamed (faults_in (hear_view v w old new)) cause
 blamed_then v w old mid new cause given taken e goes blamed = λ p b.
@@ -99,8 +114,19 @@ blamed_then v w old mid new cause given taken e goes blamed = λ p b.
     let r = blamed u.0 u.1 in
     let l = u.2.faults in
     let k = u.2.ends in
-    let f = r.2 in
-    (r.0, r.1, (f.0, f.1, f.2, λ o. ((λ d. let m = (f.3 (e o)).0 d in omega (arith, m, l)), (λ c. let m = (f.3 (e o)).1 c in omega (arith, m, k)))))
+    let f = r.2 in (
+      r.0,
+      r.1,
+      (
+        f.0,
+        f.1,
+        f.2,
+        λ o. (
+          (λ d. let m = (f.3 (e o)).0 d in omega (arith, m, l)),
+          (λ c. let m = (f.3 (e o)).1 c in omega (arith, m, k)),
+        ),
+      ),
+    )
 
 -- A writer's.
 
@@ -111,28 +137,52 @@ pub same_err : (f g : RelayFault) → (let r : Result Turn RelayFault = Err f in
 same_err f g e = cc
 
 -- the message was begun before the pass: the writer's fault is that of the first moment
-pub writer_blamed : {K G W : Type 0} (k : Hop K G) (w : Wire W) (begun new : Lent K W) (first : K) (failed : Option Cause) (cause : Cause) → failed ≡ Some cause
+pub writer_blamed : {K G W : Type 0} (k : Hop K G) (w : Wire W) (begun new : Lent K W) (first : K) (failed : Option Cause) (cause : Cause)
+    → failed ≡ Some cause
     → Blamed (faults_in (hop_view k w begun new)) cause
-    → HasFaultReason (k.fault begun.side) (k.fault new.side) (FailsGiving (k.breaks_length (shows begun.hold.history) (k.body_framing new.side)))
+    → HasFaultReason (k.fault begun.side) (k.fault new.side) (FailsGiving
+    (k.breaks_length (shows begun.hold.history) (k.body_framing new.side)))
     → ((had : RelayFault) → k.fault begun.side ≡ Some had → failed ≡ Some (hop_cause had)) → k.fault begun.side ≡ k.fault first
     → BlamedWriter k w (lending begun.hold first begun.wire) new cause
 writer_blamed k w begun new first failed cause e blamed has again is = λ p b.
     let r = blamed p b in
-    let f = r.2 in
-    (r.0, r.1, (f.0, f.2, (λ had h. (let same : Some (hop_cause had) ≡ Some cause = sym (again had (is ∙ h)) ∙ e in cc)), λ n. (f.3 (is ∙ n), has (is ∙ n) f.0 f.1)))
+    let f = r.2 in (
+      r.0,
+      r.1,
+      (
+        f.0,
+        f.2,
+        (λ had h. (let same : Some (hop_cause had) ≡ Some cause = sym (again had (is ∙ h)) ∙ e in cc)),
+        λ n. (f.3 (is ∙ n), has (is ∙ n) f.0 f.1),
+      ),
+    )
 
 -- and before a refusal
-pub writer_kept : {K G W : Type 0} (k : Hop K G) (w : Wire W) (old mid new : Lent K W) (cause : Cause) → k.body_framing new.side ≡ k.body_framing mid.side → new.wire ≡ mid.wire
+pub writer_kept : {K G W : Type 0} (k : Hop K G) (w : Wire W) (old mid new : Lent K W) (cause : Cause)
+    → k.body_framing new.side ≡ k.body_framing mid.side → new.wire ≡ mid.wire
     → BlamedWriter k w old mid cause → BlamedWriter k w old new cause
 writer_kept {K} {G} {W} k w old mid new cause e same blamed = λ p b.
     let r = blamed p b in
-    let f = r.2 in
-    (r.0, subst (λ (z : W). w.past z r.0) (sym same) r.1, (f.0, f.1, f.2, λ n. ((f.3 n).0, subst (λ (z : G). FailsGiving (k.breaks_length (shows old.hold.history) z) f.0) (sym e) (f.3 n).1)))
+    let f = r.2 in (
+      r.0,
+      subst (λ (z : W). w.past z r.0) (sym same) r.1,
+      (
+        f.0,
+        f.1,
+        f.2,
+        λ n. (
+          (f.3 n).0,
+          subst (λ (z : G). FailsGiving (k.breaks_length (shows old.hold.history) z) f.0) (sym e)
+              (f.3 n).1,
+        ),
+      ),
+    )
 
 -- The reasons of first faults.
 
 -- a turn's, by what it answers
-pub cause_of : {F : Type 0} (old new : Option F) (reason : F → Type 0) (result : Result Turn F) → Remembers old new result → IsExplained old reason result → HasFaultReason old new reason
+pub cause_of : {F : Type 0} (old new : Option F) (reason : F → Type 0) (result : Result Turn F) → Remembers old new result
+    → IsExplained old reason result → HasFaultReason old new reason
 cause_of {F} old new reason (Ok turn) k r = λ none f n. let odd : Some f ≡ None = sym n ∙ k.sound turn refl in cc
 cause_of {F} old new reason (Err fault) k r = λ none f n.
     let is : Some fault ≡ Some f = sym (k.stays fault refl) ∙ n in
@@ -140,7 +190,8 @@ cause_of {F} old new reason (Err fault) k r = λ none f n.
     r none f (ap (λ (g : F). let e : Result Turn F = Err g in e) same)
 
 -- a weaker one
-pub cause_weaker : {F : Type 0} (old new : Option F) (reason wider : F → Type 0) → ((f : F) → reason f → wider f) → HasFaultReason old new reason → HasFaultReason old new wider
+pub cause_weaker : {F : Type 0} (old new : Option F) (reason wider : F → Type 0) → ((f : F) → reason f → wider f)
+    → HasFaultReason old new reason → HasFaultReason old new wider
 cause_weaker {F} old new reason wider k w = λ none f n. k f (w none f n)
 
 pub giving_weaker : (this breaks : Type 0) (f : RelayFault) → FailsGiving (this × breaks) f → FailsGiving breaks f
@@ -152,25 +203,32 @@ pub cause_none : {F : Type 0} (old new : Option F) (reason : F → Type 0) → n
 cause_none {F} old new reason e = λ none f n. let odd : Some f ≡ None = sym n ∙ (e ∙ none) in cc
 
 -- the fault behind it, and what has its reason, by other names
-pub cause_kept : {F G : Type 0} (reason : G → F → Type 0) (f0 f1 f2 : Option F) (g g' : G) → f2 ≡ f1 → g' ≡ g → HasFaultReason f0 f1 (reason g) → HasFaultReason f0 f2 (reason g')
+pub cause_kept : {F G : Type 0} (reason : G → F → Type 0) (f0 f1 f2 : Option F) (g g' : G) → f2 ≡ f1 → g' ≡ g
+    → HasFaultReason f0 f1 (reason g) → HasFaultReason f0 f2 (reason g')
 cause_kept {F} {G} reason f0 f1 f2 g g' e same w = λ none f n. subst (λ (z : G). reason z f) (sym same) (w none f (sym e ∙ n))
 
-pub not_failed : (failed : Option Cause) (closed : Bool) → ((cause : Cause) → failed ≡ Some cause → closed ≡ true) → closed ≡ false → failed ≡ None
+pub not_failed : (failed : Option Cause) (closed : Bool) → ((cause : Cause) → failed ≡ Some cause → closed ≡ true) → closed ≡ false
+    → failed ≡ None
 not_failed None closed over c = refl
 not_failed (Some cause) closed over c = absurd (false≢true (sym c ∙ over cause refl))
 
 pub line_blamed_kept : {V W : Type 0} (v : Service V) (w : Wire W) (old mid new : Option (ServiceEnd V W)) (cause : Cause) → new ≡ mid
     → Blamed (service_faults v w old mid) cause → Blamed (service_faults v w old new) cause
-line_blamed_kept {V} {W} v w old mid new cause e b = subst (λ (z : Option (ServiceEnd V W)). Blamed (service_faults v w old z) cause) (sym e) b
+line_blamed_kept {V} {W} v w old mid new cause e b =
+    subst (λ (z : Option (ServiceEnd V W)). Blamed (service_faults v w old z) cause) (sym e) b
 
-pub fails_kept : {V W : Type 0} (v : Service V) (cause : Cause) (reused : Bool) (old : Option V) (h h' : Holding) (l l' : Option (ServiceEnd V W)) → h' ≡ h → l' ≡ l
+pub fails_kept : {V W : Type 0} (v : Service V) (cause : Cause) (reused : Bool) (old : Option V) (h h' : Holding)
+    (l l' : Option (ServiceEnd V W)) → h' ≡ h → l' ≡ l
     → FailsFor v cause reused old (side_of l) h → FailsFor v cause reused old (side_of l') h'
 fails_kept {V} {W} v cause reused old h h' l l' e f w =
-    subst (λ (k : Holding). FailsFor v cause reused old (side_of l') k) (sym e) (subst (λ (z : Option (ServiceEnd V W)). FailsFor v cause reused old (side_of z) h) (sym f) w)
+    subst (λ (k : Holding). FailsFor v cause reused old (side_of l') k) (sym e)
+    (subst (λ (z : Option (ServiceEnd V W)). FailsFor v cause reused old (side_of z) h) (sym f) w)
 
 pub both_waited : (h m : Holding) (before mid after_ : Past → Type 0) (w0 w1 : Type 0) (r : Holding → Type 0) → m ≡ h → (w0 → w1)
-    → WaitedBeside w0 (λ q. q.write_waits) (λ q. q.read_waits) before mid → WaitedBeside (r m) (λ q. q.read_waits) (λ q. q.write_waits) mid after_ → WaitedBoth w1 (r h) before after_
-both_waited h m before mid after_ w0 w1 r e k s t = λ p b. let u = s p b in let v = t u.0 u.1 in (v.0, v.1, writes p u.0 v.0 v.2 u.3, reads p u.0 v.0 u.2 v.3)
+    → WaitedBeside w0 (λ q. q.write_waits) (λ q. q.read_waits) before mid
+    → WaitedBeside (r m) (λ q. q.read_waits) (λ q. q.write_waits) mid after_ → WaitedBoth w1 (r h) before after_
+both_waited h m before mid after_ w0 w1 r e k s t = λ p b. let u = s p b in let v = t u.0 u.1 in
+    (v.0, v.1, writes p u.0 v.0 v.2 u.3, reads p u.0 v.0 u.2 v.3)
   where
     writes : (a b c : Past) → b.write_waits ≤ c.write_waits → w0 ⊎ (a.write_waits < b.write_waits) → w1 ⊎ (a.write_waits < c.write_waits)
     writes a b c l (inl x) = inl (k x)
@@ -185,15 +243,21 @@ both_waited h m before mid after_ w0 w1 r e k s t = λ p b. let u = s p b in let
 -- the service's line behind a refusal
 
 pub both_kept : {L : Type 0} (w r : L → Type 0) (past : L → Past → Type 0) (before : Past → Type 0) (l l' : Option L) → l' ≡ l
-    → WaitedBoth (MatchOption l ⊤ w) (MatchOption l ⊤ r) before (λ p. MatchOption l ⊥ (λ z. past z p)) → WaitedBoth (MatchOption l' ⊤ w) (MatchOption l' ⊤ r) before (λ p. MatchOption l' ⊥ (λ z. past z p))
-both_kept {L} w r past before l l' e t = subst (λ (y : Option L). WaitedBoth (MatchOption y ⊤ w) (MatchOption y ⊤ r) before (λ p. MatchOption y ⊥ (λ z. past z p))) (sym e) t
+    → WaitedBoth (MatchOption l ⊤ w) (MatchOption l ⊤ r) before (λ p. MatchOption l ⊥ (λ z. past z p))
+    → WaitedBoth (MatchOption l' ⊤ w) (MatchOption l' ⊤ r) before (λ p. MatchOption l' ⊥ (λ z. past z p))
+both_kept {L} w r past before l l' e t = subst (λ (y : Option L). WaitedBoth (MatchOption y ⊤ w) (MatchOption y ⊤ r) before
+    (λ p. MatchOption y ⊥ (λ z. past z p))) (sym e) t
 
 pub breaks_kept : {L : Type 0} (fault : L → Option ClientFault) (reused : Bool) (h h' : Holding) (l l' : Option L) → l' ≡ l → h' ≡ h
-    → MatchOption l ⊥ (λ z. Breaks h.history reused (fault z)) → MayFollow h'.history.plan h'.history.events Retry × MatchOption l' ⊥ (λ z. Breaks h'.history reused (fault z))
+    → MatchOption l ⊥ (λ z. Breaks h.history reused (fault z))
+    → MayFollow h'.history.plan h'.history.events Retry × MatchOption l' ⊥ (λ z. Breaks h'.history reused (fault z))
 breaks_kept {L} fault reused h h' l l' e f b =
-    subst (λ (k : Holding). MayFollow k.history.plan k.history.events Retry × MatchOption l' ⊥ (λ z. Breaks k.history reused (fault z))) (sym f)
-    (subst (λ (y : Option L). MayFollow h.history.plan h.history.events Retry × MatchOption y ⊥ (λ z. Breaks h.history reused (fault z))) (sym e) (may_of l b, b))
+    subst (λ (k : Holding). MayFollow k.history.plan k.history.events Retry × MatchOption l' ⊥ (λ z. Breaks k.history reused (fault z)))
+    (sym f)
+    (subst (λ (y : Option L). MayFollow h.history.plan h.history.events Retry × MatchOption y ⊥ (λ z. Breaks h.history reused (fault z)))
+    (sym e) (may_of l b, b))
   where
-    may_of : (line : Option L) → MatchOption line ⊥ (λ z. Breaks h.history reused (fault z)) → MayFollow h.history.plan h.history.events Retry
+    may_of : (line : Option L) → MatchOption line ⊥ (λ z. Breaks h.history reused (fault z))
+        → MayFollow h.history.plan h.history.events Retry
     may_of None w = absurd w
     may_of (Some z) w = w.may

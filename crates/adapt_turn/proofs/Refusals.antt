@@ -29,7 +29,8 @@ wire_failed (Some relay.Device) s e = refl
 wire_failed _ s e = cc
 
 -- a first fault of a refusal is the wire's
-pub first_failed : (breaks : Type 0) (gift : Gift) (fault : RelayFault) → (gift ≡ message → ⊥) → FailsGiving ((gift ≡ message) × breaks) fault → fault ≡ relay.Device
+pub first_failed : (breaks : Type 0) (gift : Gift) (fault : RelayFault) → (gift ≡ message → ⊥)
+    → FailsGiving ((gift ≡ message) × breaks) fault → fault ≡ relay.Device
 first_failed breaks gift fault n (inl d) = d
 first_failed breaks gift fault n (inr l) = absurd (n l.1.0)
 
@@ -39,12 +40,19 @@ none_due closed this due o w = absurd (false≢true (sym o ∙ w.0))
 
 -- Its writing.
 
-gives_now : (h : Holding) (history : History) (tape : Tape) (result : Result Turn RelayFault) (so sn : Seen → List ℕ → List ℕ → List ℕ → Type 0) (ao an : List ℕ → Type 0) (whole : List ℕ → List ℕ → List ℕ → Type 0) (f0 f1 : Option RelayFault) (rests : Seen → Type 0) (before after_ : Past → Type 0)
-    → history ≡ h.history → Gives (shows history) tape so sn ao an whole f0 f1 (rests (shows history)) before after_ result → Gives (shows h.history) tape so sn ao an whole f0 f1 (rests (shows h.history)) before after_ result
-gives_now h history tape result so sn ao an whole f0 f1 rests before after_ he b = subst (λ (y : History). Gives (shows y) tape so sn ao an whole f0 f1 (rests (shows y)) before after_ result) he b
+gives_now : (h : Holding) (history : History) (tape : Tape) (result : Result Turn RelayFault)
+    (so sn : Seen → List ℕ → List ℕ → List ℕ → Type 0) (ao an : List ℕ → Type 0) (whole : List ℕ → List ℕ → List ℕ → Type 0)
+    (f0 f1 : Option RelayFault) (rests : Seen → Type 0) (before after_ : Past → Type 0)
+    → history ≡ h.history → Gives (shows history) tape so sn ao an whole f0 f1 (rests (shows history)) before after_ result
+    → Gives (shows h.history) tape so sn ao an whole f0 f1 (rests (shows h.history)) before after_ result
+gives_now h history tape result so sn ao an whole f0 f1 rests before after_ he b =
+    subst (λ (y : History). Gives (shows y) tape so sn ao an whole f0 f1 (rests (shows y)) before after_ result) he b
 
-pub refusal_waits : (h : Holding) (history : History) (tape : Tape) (turn : Turn) (so sn : Seen → List ℕ → List ℕ → List ℕ → Type 0) (ao an : List ℕ → Type 0) (whole : List ℕ → List ℕ → List ℕ → Type 0) (f0 f1 : Option RelayFault) (rests : Seen → Type 0) (before after_ : Past → Type 0)
-    → history ≡ h.history → Gives (shows history) tape so sn ao an whole f0 f1 (rests (shows history)) before after_ (Ok turn) → turn.waiting ≡ true
+pub refusal_waits : (h : Holding) (history : History) (tape : Tape) (turn : Turn) (so sn : Seen → List ℕ → List ℕ → List ℕ → Type 0)
+    (ao an : List ℕ → Type 0) (whole : List ℕ → List ℕ → List ℕ → Type 0) (f0 f1 : Option RelayFault) (rests : Seen → Type 0)
+    (before after_ : Past → Type 0)
+    → history ≡ h.history → Gives (shows history) tape so sn ao an whole f0 f1 (rests (shows history)) before after_ (Ok turn)
+    → turn.waiting ≡ true
     → Waited (rests (shows h.history)) (λ past. past.write_waits) before after_
 refusal_waits h history tape turn so sn ao an whole f0 f1 rests before after_ he b0 e = λ p here.
     let b = gives_now h history tape (Ok turn) so sn ao an whole f0 f1 rests before after_ he b0 in
@@ -56,8 +64,11 @@ none_follow x [] c m = refl
 none_follow x (event ∷ events) c m = absurd (false≢true (sym m.0 ∙ c))
 
 -- nothing is stepped of a closed one, so a turn that doesn't wait wrote a byte
-pub refusal_acts : (h : Holding) (history : History) (tape : Tape) (turn : Turn) (so sn : Seen → List ℕ → List ℕ → List ℕ → Type 0) (ao an : List ℕ → Type 0) (whole : List ℕ → List ℕ → List ℕ → Type 0) (f0 f1 : Option RelayFault) (rests : Seen → Type 0) (before after_ : Past → Type 0)
-    → history ≡ h.history → Gives (shows history) tape so sn ao an whole f0 f1 (rests (shows history)) before after_ (Ok turn) → (shows h.history).closed ≡ true → turn.waiting ≡ false
+pub refusal_acts : (h : Holding) (history : History) (tape : Tape) (turn : Turn) (so sn : Seen → List ℕ → List ℕ → List ℕ → Type 0)
+    (ao an : List ℕ → Type 0) (whole : List ℕ → List ℕ → List ℕ → Type 0) (f0 f1 : Option RelayFault) (rests : Seen → Type 0)
+    (before after_ : Past → Type 0)
+    → history ≡ h.history → Gives (shows history) tape so sn ao an whole f0 f1 (rests (shows history)) before after_ (Ok turn)
+    → (shows h.history).closed ≡ true → turn.waiting ≡ false
     → BytesOr ⊥ before after_
 refusal_acts h history tape turn so sn ao an whole f0 f1 rests before after_ he b0 c e = λ p here.
     let b = gives_now h history tape (Ok turn) so sn ao an whole f0 f1 rests before after_ he b0 in
@@ -69,7 +80,8 @@ refusal_acts h history tape turn so sn ao an whole f0 f1 rests before after_ he 
       w.1,
       omega (arith, gr),
       omega (arith, go),
-      λ z. false≢true (sym e ∙ b.waiting.waits turn refl (none_follow (shows h.history) turn.events.items c b.legal) (no_bytes b.delta (omega (arith, gr, go, z)))),
+      λ z. false≢true (sym e ∙ b.waiting.waits turn refl (none_follow (shows h.history) turn.events.items c b.legal)
+          (no_bytes b.delta (omega (arith, gr, go, z)))),
     )
 
 -- Whether it is closed.

@@ -1,5 +1,6 @@
 -- What a pass steps, and that one which moved no byte steps something.
-use Rattle.std.proofs.Common.{◌≡◌, ℕ, ◌+◌, Bool, true, false, ◌||◌, List, [], ◌∷◌, ◌++◌, length, take, drop, Option, Some, None, arith, refl, sym, ◌∙◌, ap, subst}
+use Rattle.std.proofs.Common.{◌≡◌, ℕ, ◌+◌, Bool, true, false, ◌||◌, List, [], ◌∷◌, ◌++◌, length, take, drop, Option, Some, None, arith}
+use Rattle.std.proofs.Common.{refl, sym, ◌∙◌, ap, subst}
 use Rattle.std.proofs.lemmas.Bool.{false≢true}
 use Rattle.std.proofs.lemmas.List.{length-append, length-drop, length-take-le}
 use Rattle.trace_core.specs.declared.history.Seen.{Seen}
@@ -22,14 +23,16 @@ use Rattle.adapt_turn.proofs.Carry.{all_then}
 
 -- Rows.
 
-pub took_all : (h : Holding) (events : List Event) (bytes : List ℕ) → IsTied h → MayRun h events bytes → TookAll h events (moved_all h events bytes)
+pub took_all : (h : Holding) (events : List Event) (bytes : List ℕ) → IsTied h → MayRun h events bytes
+    → TookAll h events (moved_all h events bytes)
 took_all h [] bytes t m = refl
 took_all h (event ∷ events) bytes t m =
     let n = m.carried in
     let own = take (brought event) bytes in
     let s = stays h event own t m.roomy (m.may.0, m.may.1) (length-take-le (brought event) bytes (omega (arith, n))) m.room.0 in
     let next : Holding = moved h event own in
-    let same : shows next.history ≡ after (shows h.history) event = then_shows h event (history_then h.history event) t (m.may.0, m.may.1) refl in (
+    let same : shows next.history ≡ after (shows h.history) event =
+    then_shows h event (history_then h.history event) t (m.may.0, m.may.1) refl in (
       own,
       next,
       ((m.may.0, m.may.1), refl),
@@ -52,15 +55,18 @@ all_both test (event ∷ events) others a b = (a.0, all_both test events others 
 advances_then : (test : Event → Bool) (h m k : Holding) → Advances test h m → TookBy test m k → Advances test h k
 advances_then test h m k a b = (a.0, a.1 ++ b.0, all_both test (a.0 ∷ a.1) b.0 a.2 b.1, took_then h m k (a.0 ∷ a.1) b.0 a.3 b.2)
 
-some_stepped : (test : Event → Bool) (h k : Holding) (events : List Event) → AllAre test events → TookAll h events k → (events ≡ [] → ⊥) → Advances test h k
+some_stepped : (test : Event → Bool) (h k : Holding) (events : List Event) → AllAre test events → TookAll h events k → (events ≡ [] → ⊥)
+    → Advances test h k
 some_stepped test h k [] o t n = absurd (n refl)
 some_stepped test h k (event ∷ events) o t n = (event, events, o, t)
 
 -- a failure is a step
-pub fail_advances : (side : Side) (h k : Holding) (cause : Cause) → (shows h.history).closed ≡ false → k ≡ moved h (Fail cause) [] → Advances (may_step side) h k
+pub fail_advances : (side : Side) (h k : Holding) (cause : Cause) → (shows h.history).closed ≡ false → k ≡ moved h (Fail cause) []
+    → Advances (may_step side) h k
 fail_advances side h k cause c e = (Fail cause, [], (refl, tt), ([], k, ((c, tt), e), refl))
 
-pub took_fail : (side : Side) (h k : Holding) (cause : Cause) → (shows h.history).closed ≡ false → k ≡ moved h (Fail cause) [] → TookBy (may_step side) h k
+pub took_fail : (side : Side) (h k : Holding) (cause : Cause) → (shows h.history).closed ≡ false → k ≡ moved h (Fail cause) []
+    → TookBy (may_step side) h k
 took_fail side h k cause c e = let a = fail_advances side h k cause c e in (a.0 ∷ a.1, a.2, a.3)
 
 pub took_both : (test : Event → Bool) (h m k : Holding) → TookBy test h m → TookBy test m k → TookBy test h k
@@ -80,10 +86,12 @@ pub of_source : (event : Event) → is_of_source event ≡ true → may_step Sou
 of_source event e = or_right (is_fail event) (is_of_source event) e
 
 pub of_sending : (event : Event) → is_of_sending event ≡ true → may_step Service event ≡ true
-of_sending event e = or_right (is_fail event) (is_of_sending event || is_of_replies event) (or_left (is_of_sending event) (is_of_replies event) e)
+of_sending event e = or_right (is_fail event) (is_of_sending event || is_of_replies event)
+    (or_left (is_of_sending event) (is_of_replies event) e)
 
 pub of_replies : (event : Event) → is_of_replies event ≡ true → may_step Service event ≡ true
-of_replies event e = or_right (is_fail event) (is_of_sending event || is_of_replies event) (or_right (is_of_sending event) (is_of_replies event) e)
+of_replies event e = or_right (is_fail event) (is_of_sending event || is_of_replies event)
+    (or_right (is_of_sending event) (is_of_replies event) e)
 
 pub of_hop : (event : Event) → is_of_hop event ≡ true → may_step NextHop event ≡ true
 of_hop event e = or_right (is_fail event) (is_of_hop event) e
@@ -94,7 +102,8 @@ pub reported_took : {F : Type 0} (side : Side) {v : View F} {h k : Holding} {r :
 reported_took {F} side {v} {h} {k} {r} {passed} i t p = (
   stepped passed.failed r.events,
   all_then v.events (may_step side) i (λ cause. refl) passed.failed r.events p.only,
-  subst (λ (y : Holding). TookAll h (stepped passed.failed r.events) y) (sym p.is) (took_all h (stepped passed.failed r.events) r.out t p.runs),
+  subst (λ (y : Holding). TookAll h (stepped passed.failed r.events) y) (sym p.is)
+      (took_all h (stepped passed.failed r.events) r.out t p.runs),
 )
 
 none_stepped : (failed : Option Cause) (reported : List Event) → stepped failed reported ≡ [] → (failed ≡ None) × (reported ≡ [])
@@ -124,9 +133,12 @@ reported_acts {F} side {v} {h} {k} {r} {passed} i t p w b = λ past here.
       u.1,
       omega (arith, gr),
       omega (arith, go),
-      λ z. some_stepped (may_step side) h k (stepped passed.failed r.events) (all_then v.events (may_step side) i (λ cause. refl) passed.failed r.events p.only)
-          (subst (λ (y : Holding). TookAll h (stepped passed.failed r.events) y) (sym p.is) (took_all h (stepped passed.failed r.events) r.out t p.runs)) (λ e.
-          let none = none_stepped passed.failed r.events e in p.tells.active w b (no_bytes r.given (omega (arith, gr, go, z)), no_bytes r.taken (omega (arith, gr, go, z))) none.1 none.0),
+      λ z. some_stepped (may_step side) h k (stepped passed.failed r.events)
+          (all_then v.events (may_step side) i (λ cause. refl) passed.failed r.events p.only)
+          (subst (λ (y : Holding). TookAll h (stepped passed.failed r.events) y) (sym p.is)
+          (took_all h (stepped passed.failed r.events) r.out t p.runs)) (λ e.
+          let none = none_stepped passed.failed r.events e in
+          p.tells.active w b (no_bytes r.given (omega (arith, gr, go, z)), no_bytes r.taken (omega (arith, gr, go, z))) none.1 none.0),
     )
 
 -- a wire that wasn't touched
@@ -136,7 +148,8 @@ untouched_or this before t = λ p b. (p, b, omega arith, omega arith, λ z. t)
 -- Two passes of the service's side.
 
 pub then_acts : (test : Event → Bool) (h m k : Holding) (before mid after_ : Past → Type 0) (given taken : List ℕ) → m ≡ h
-    → ((p : Past) → before p → (q : Past) × mid q × IsLater p given taken q) → BytesOr (Advances test m k) mid after_ → BytesOr (Advances test h k) before after_
+    → ((p : Past) → before p → (q : Past) × mid q × IsLater p given taken q) → BytesOr (Advances test m k) mid after_
+    → BytesOr (Advances test h k) before after_
 then_acts test h m k before mid after_ given taken e goes act = λ p b.
     let u = goes p b in
     let v = act u.0 u.1 in
@@ -144,10 +157,16 @@ then_acts test h m k before mid after_ given taken e goes act = λ p b.
     let gr = g.read in
     let go = g.out in
     let vr = v.2 in
-    let vo = v.3 in
-    (v.0, v.1, omega (arith, gr, vr), omega (arith, go, vo), λ z. subst (λ (y : Holding). Advances test y k) e (v.4 (omega (arith, gr, go, vr, vo, z))))
+    let vo = v.3 in (
+      v.0,
+      v.1,
+      omega (arith, gr, vr),
+      omega (arith, go, vo),
+      λ z. subst (λ (y : Holding). Advances test y k) e (v.4 (omega (arith, gr, go, vr, vo, z))),
+    )
 
-pub acts_then : (test : Event → Bool) (h m k : Holding) (before mid after_ : Past → Type 0) (given taken : List ℕ) → BytesOr (Advances test h m) before mid
+pub acts_then : (test : Event → Bool) (h m k : Holding) (before mid after_ : Past → Type 0) (given taken : List ℕ)
+    → BytesOr (Advances test h m) before mid
     → ((p : Past) → mid p → (q : Past) × after_ q × IsLater p given taken q) → TookBy test m k → BytesOr (Advances test h k) before after_
 acts_then test h m k before mid after_ given taken act goes later = λ p b.
     let v = act p b in
@@ -163,7 +182,8 @@ acts_then test h m k before mid after_ given taken act goes later = λ p b.
 
 -- Which side a turn is for.
 
-pub by_side : (side : Side) (this : Side → Type 0) → (side ≡ Source → this Source) → (side ≡ Service → this Service) → (side ≡ NextHop → this NextHop) → this side
+pub by_side : (side : Side) (this : Side → Type 0) → (side ≡ Source → this Source) → (side ≡ Service → this Service)
+    → (side ≡ NextHop → this NextHop) → this side
 by_side Source this a b c = a refl
 by_side Service this a b c = b refl
 by_side NextHop this a b c = c refl

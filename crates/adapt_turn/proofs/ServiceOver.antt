@@ -14,12 +14,15 @@ abbrev service_end : {V W : Type 0} → V → Option W → ServiceEnd V W
 service_end side wire = record { side = side; wire = wire }
 
 -- it is held
-pub held_is : {V W : Type 0} (service : Option (ServiceEnd V W)) (line : ServiceEnd V W) (wire : W) → service ≡ Some line → line.wire ≡ Some wire → service ≡ Some (record { side = line.side; wire = Some wire })
+pub held_is : {V W : Type 0} (service : Option (ServiceEnd V W)) (line : ServiceEnd V W) (wire : W) → service ≡ Some line
+    → line.wire ≡ Some wire → service ≡ Some (record { side = line.side; wire = Some wire })
 held_is {V} {W} service line wire s w = s ∙ ap (λ (z : Option W). Some (service_end line.side z)) w
 
 -- what stands is said of the service's side alone
-pub freed : {S H V W K G : Type 0} (s : Source S H) (v : Service V) (k : Hop K G) (makes : H → Seen → Option (List ℕ) → Bool → List ℕ → G → Type 0)
-    (h : Holding) (source : S) (line line' : Option (ServiceEnd V W)) (next back : K) (refusing : Bool) (request : List ℕ) (t : Texts) → line' ≡ without_wire line
+pub freed : {S H V W K G : Type 0} (s : Source S H) (v : Service V) (k : Hop K G)
+    (makes : H → Seen → Option (List ℕ) → Bool → List ℕ → G → Type 0)
+    (h : Holding) (source : S) (line line' : Option (ServiceEnd V W)) (next back : K) (refusing : Bool) (request : List ℕ) (t : Texts)
+    → line' ≡ without_wire line
     → Stands h (views_by s v k makes source line next back refusing) request t
     → Stands h (views_by s v k makes source line' next back refusing) request t
 freed {S} {H} {V} {W} s v k makes h source line line' next back refusing request t e p =

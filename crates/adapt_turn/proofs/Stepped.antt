@@ -14,7 +14,8 @@ use Rattle.adapt_turn.specs.Reports.{View, Report, Reported, stepped}
 pub reported_ran : {F : Type 0} {v : View F} {h k : Holding} {r : Report} {passed : PassAnswer}
     → IsTied h → Reported v h k r passed
     → Ran h (stepped passed.failed r.events) r.out
-reported_ran {F} {v} {h} {k} {r} {passed} t p = ran h (stepped passed.failed r.events) r.out t p.runs.roomy p.runs.may p.runs.carried p.runs.room
+reported_ran {F} {v} {h} {k} {r} {passed} t p = ran h (stepped passed.failed r.events) r.out t p.runs.roomy p.runs.may p.runs.carried
+    p.runs.room
 
 -- what is seen then
 pub reported_shows : {F : Type 0} {v : View F} {h k : Holding} {r : Report} {passed : PassAnswer}
@@ -23,7 +24,8 @@ pub reported_shows : {F : Type 0} {v : View F} {h k : Holding} {r : Report} {pas
 reported_shows {F} {v} {h} {k} {r} {passed} t p =
     ap (λ (y : Holding). shows y.history) p.is ∙ (reported_ran t p).seen
 
-over_by : (failed : Option Cause) (x y : Seen) (reported : List Event) (cause : Cause) → failed ≡ Some cause → y ≡ after_all x (stepped failed reported) → y.closed ≡ true
+over_by : (failed : Option Cause) (x y : Seen) (reported : List Event) (cause : Cause) → failed ≡ Some cause
+    → y ≡ after_all x (stepped failed reported) → y.closed ≡ true
 over_by None x y reported cause e s = absurd cc
 over_by (Some c) x y reported cause e s = ap (λ (z : Seen). z.closed) s
 
@@ -36,6 +38,8 @@ reported_over {F} {v} {h} {k} {r} {passed} t p cause e =
 
 -- Fail closes; Retry doesn't.
 
-pub failed_closed : (h k : Holding) (cause : Cause) → IsTied h → (shows h.history).closed ≡ false → k ≡ moved h (Fail cause) [] → (shows k.history).closed ≡ true
+pub failed_closed : (h k : Holding) (cause : Cause) → IsTied h → (shows h.history).closed ≡ false → k ≡ moved h (Fail cause) []
+    → (shows k.history).closed ≡ true
 failed_closed h k cause t c e =
-    ap (λ (x : Seen). x.closed) (ap (λ (y : Holding). shows y.history) e ∙ then_shows h (Fail cause) (history_then h.history (Fail cause)) t (c, tt) refl)
+    ap (λ (x : Seen). x.closed) (ap (λ (y : Holding). shows y.history) e
+    ∙ then_shows h (Fail cause) (history_then h.history (Fail cause)) t (c, tt) refl)

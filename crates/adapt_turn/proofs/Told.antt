@@ -48,7 +48,8 @@ pub record ClosedBy (history : History) (events : List Event) : Type 0 where
   pub close : is_close event ≡ true
   pub of : (test : Event → Bool) → AllAre test events → test event ≡ true
 
-pub closed_by : (history : History) (x : Seen) (events : List Event) → x.closed ≡ false → MayAllFollow x events → (after_all x events).closed ≡ true → ClosedBy history events
+pub closed_by : (history : History) (x : Seen) (events : List Event) → x.closed ≡ false → MayAllFollow x events
+    → (after_all x events).closed ≡ true → ClosedBy history events
 closed_by history x [] c m e = absurd (false≢true (sym c ∙ e))
 closed_by history x (event ∷ []) c m e =
     let k : is_close event ≡ true = closes_now (is_close event) x.closed c e in
@@ -59,12 +60,14 @@ closed_by history x (event ∷ (second ∷ events)) c m e =
 
 -- events of which none is the writer's end no history by Done
 
-never : (event : Event) (before : List Event) → is_close event ≡ true → off_hop event ≡ true → outcome_of (event ∷ before) ≡ outcomes.Done → ⊥
+never : (event : Event) (before : List Event) → is_close event ≡ true → off_hop event ≡ true → outcome_of (event ∷ before) ≡ outcomes.Done
+    → ⊥
 never (Fail cause) before c o e = let d : outcomes.Fail cause ≡ outcomes.Done = e in absurd cc
 never Done before c o e = absurd (false≢true o)
 never _ before c o e = absurd (false≢true c)
 
-pub never_done : (h : Holding) (events : List Event) (bytes : List ℕ) → (shows h.history).closed ≡ false → MayAllFollow (shows h.history) events → Ran h events bytes
+pub never_done : (h : Holding) (events : List Event) (bytes : List ℕ) → (shows h.history).closed ≡ false
+    → MayAllFollow (shows h.history) events → Ran h events bytes
     → AllAre off_hop events → IsDone (moved_all h events bytes).history → ⊥
 never_done h events bytes c m r o d =
     let w = closed_by h.history (shows h.history) events c m (sym (ap (λ (x : Seen). x.closed) r.seen) ∙ d.0) in
@@ -72,17 +75,21 @@ never_done h events bytes c m r o d =
 
 -- A pass ends a history as it says.
 
-done_close : (test : Event → Bool) → ((cause : Cause) → test (Fail cause) ≡ false) → (event : Event) (before : List Event) → is_close event ≡ true → test event ≡ true → outcome_of (event ∷ before) ≡ outcomes.Done
+done_close : (test : Event → Bool) → ((cause : Cause) → test (Fail cause) ≡ false) → (event : Event) (before : List Event)
+    → is_close event ≡ true → test event ≡ true → outcome_of (event ∷ before) ≡ outcomes.Done
 done_close test none (Fail cause) before c o = absurd (false≢true (sym (none cause) ∙ o))
 done_close test none (_) before c o = refl
 
-told_run : (test : Event → Bool) → ((cause : Cause) → test (Fail cause) ≡ false) → (h : Holding) (bytes : List ℕ) (failed : Option Cause) (reported : List Event)
-    → (shows h.history).closed ≡ false → MayAllFollow (shows h.history) (stepped failed reported) → Ran h (stepped failed reported) bytes → AllAre test reported
+told_run : (test : Event → Bool) → ((cause : Cause) → test (Fail cause) ≡ false)
+    → (h : Holding) (bytes : List ℕ) (failed : Option Cause) (reported : List Event)
+    → (shows h.history).closed ≡ false → MayAllFollow (shows h.history) (stepped failed reported) → Ran h (stepped failed reported) bytes
+    → AllAre test reported
     → outcome_by failed ≡ outcome_of (moved_all h (stepped failed reported) bytes).history.events
 told_run test none h bytes (Some cause) reported c m r o = refl
 told_run test none h bytes None reported c m r o = by_close (after_all (shows h.history) reported).closed refl
   where
-    by_close : (b : Bool) → (after_all (shows h.history) reported).closed ≡ b → outcomes.Done ≡ outcome_of (moved_all h reported bytes).history.events
+    by_close : (b : Bool) → (after_all (shows h.history) reported).closed ≡ b
+        → outcomes.Done ≡ outcome_of (moved_all h reported bytes).history.events
     by_close false e = sym (open_done (moved_all h reported bytes).history (ap (λ (x : Seen). x.closed) r.seen ∙ e))
     by_close true e =
         let w = closed_by h.history (shows h.history) reported c m e in
@@ -105,10 +112,12 @@ pub failed_told : (h k : Holding) (cause : Cause) → k ≡ moved h (Fail cause)
 failed_told h k cause e = sym (ap (λ (y : Holding). outcome_of y.history.events) e)
 
 -- a closed one that ended by Done
-pub done_told : (h k : Holding) (outcome : Outcome) → outcome ≡ outcome_of h.history.events → k ≡ h → (shows h.history).closed ≡ true → outcomes.Done ≡ outcome → IsDone k.history
+pub done_told : (h k : Holding) (outcome : Outcome) → outcome ≡ outcome_of h.history.events → k ≡ h → (shows h.history).closed ≡ true
+    → outcomes.Done ≡ outcome → IsDone k.history
 done_told h k outcome told same c e = subst (λ (y : Holding). IsDone y.history) (sym same) (c, sym told ∙ sym e)
 
-pub failed_undone : (history : History) (outcome : Outcome) (cause : Cause) → outcome ≡ outcome_of history.events → outcome ≡ outcomes.Fail cause → IsDone history → ⊥
+pub failed_undone : (history : History) (outcome : Outcome) (cause : Cause) → outcome ≡ outcome_of history.events
+    → outcome ≡ outcomes.Fail cause → IsDone history → ⊥
 failed_undone history outcome cause e f d = let g : outcomes.Fail cause ≡ outcomes.Done = sym f ∙ e ∙ d.1 in absurd cc
 
 over_of : (plan : Plan) (events : List Event) (cause : Cause) → outcome_of events ≡ outcomes.Fail cause → (seen plan events).closed ≡ true
@@ -117,7 +126,8 @@ over_of plan [] cause e = let d : outcomes.Done ≡ outcomes.Fail cause = e in a
 over_of plan (_ ∷ before) cause e = let d : outcomes.Done ≡ outcomes.Fail cause = e in absurd cc
 
 -- one that failed is closed
-pub failed_over : (history : History) (outcome : Outcome) (cause : Cause) → outcome ≡ outcome_of history.events → outcome ≡ outcomes.Fail cause → (shows history).closed ≡ true
+pub failed_over : (history : History) (outcome : Outcome) (cause : Cause) → outcome ≡ outcome_of history.events
+    → outcome ≡ outcomes.Fail cause → (shows history).closed ≡ true
 failed_over history outcome cause e f = over_of history.plan history.events cause (sym e ∙ f)
 
 -- a turn at the moment of the last moved byte
@@ -126,7 +136,8 @@ same_moment new old (inl e) = e
 same_moment new old (inr e) = e
 
 -- a schedule that ended by the deadline did so at its first turn, or at a later one
-pub timely_then : (closed : Bool) (seconds : ℕ) (mid new : Outcome) → (mid ≡ outcomes.Fail Deadline → seconds ≡ 0) → (closed ≡ true → new ≡ mid) → (closed ≡ false → seconds ≡ 0)
+pub timely_then : (closed : Bool) (seconds : ℕ) (mid new : Outcome) → (mid ≡ outcomes.Fail Deadline → seconds ≡ 0)
+    → (closed ≡ true → new ≡ mid) → (closed ≡ false → seconds ≡ 0)
     → new ≡ outcomes.Fail Deadline → seconds ≡ 0
 timely_then true seconds mid new first same later e = first (sym (same refl) ∙ e)
 timely_then false seconds mid new first same later e = later refl

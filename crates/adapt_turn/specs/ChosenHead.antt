@@ -52,16 +52,21 @@ answers_user x is_response = (is_response && x.modified) && is_reqmod x.plan.poi
 
 -- This maker makes this head, and says how the body goes with it, of the source's head, where this is seen: of the service's head only
 -- where its message was chosen.
-abbrev pub MakesAt : {M S K H G V W : Type 0} → MakesHead M S K H G → Service V → M → H → Option (ServiceEnd V W) → Seen → List ℕ → G → Type 0
-MakesAt m v maker source line x head framing = m.makes maker source x (if x.modified then adapted_of v.adapted_head line else None) (x.modified && response_of v.is_response line) head framing
+abbrev pub MakesAt : {M S K H G V W : Type 0} → MakesHead M S K H G → Service V → M → H → Option (ServiceEnd V W) → Seen → List ℕ → G
+    → Type 0
+MakesAt m v maker source line x head framing = m.makes maker source x (if x.modified then adapted_of v.adapted_head line else None)
+    (x.modified && response_of v.is_response line) head framing
 
 -- and why it makes none
-abbrev pub MakesNoneAt : {M S K H G V W : Type 0} → MakesHead M S K H G → Service V → M → H → Option (ServiceEnd V W) → Seen → Cause → Type 0
-MakesNoneAt m v maker source line x cause = m.makes_none maker source x (if x.modified then adapted_of v.adapted_head line else None) (x.modified && response_of v.is_response line) cause
+abbrev pub MakesNoneAt : {M S K H G V W : Type 0} → MakesHead M S K H G → Service V → M → H → Option (ServiceEnd V W) → Seen → Cause
+    → Type 0
+MakesNoneAt m v maker source line x cause = m.makes_none maker source x (if x.modified then adapted_of v.adapted_head line else None)
+    (x.modified && response_of v.is_response line) cause
 
 -- The head, and how the body goes with it, were made at a moment of a history that shows the same as this one, of the message that
 -- was chosen then.
-pub record IsMade {Framing : Type 0} (makes : Seen → Option (List ℕ) → Bool → List ℕ → Framing → Type 0) (adapted : Option (List ℕ)) (is_response : Bool) (framing : Framing) (x : Seen) (head : List ℕ) : Type 0 where
+pub record IsMade {Framing : Type 0} (makes : Seen → Option (List ℕ) → Bool → List ℕ → Framing → Type 0) (adapted : Option (List ℕ))
+    (is_response : Bool) (framing : Framing) (x : Seen) (head : List ℕ) : Type 0 where
   -- the events up to that moment, the newest one first, and those since, the newest one last
   pub before : List Event
   pub since : List Event
@@ -69,4 +74,5 @@ pub record IsMade {Framing : Type 0} (makes : Seen → Option (List ℕ) → Boo
   pub may : MayAllFollow (seen x.plan before) since
   pub now : x ≡ after_all (seen x.plan before) since
   pub chosen : IsChosen (seen x.plan before)
-  pub made : makes (seen x.plan before) (if (seen x.plan before).modified then adapted else None) ((seen x.plan before).modified && is_response) head framing
+  pub made : makes (seen x.plan before) (if (seen x.plan before).modified then adapted else None)
+      ((seen x.plan before).modified && is_response) head framing

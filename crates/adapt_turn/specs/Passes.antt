@@ -17,7 +17,9 @@ use Rattle.adapt_hold.specs.Holding.{Holding, IsTied, shows, moved}
 use Rattle.adapt_turn.specs.declared.pass.PassAnswer.{PassAnswer}
 use Rattle.adapt_turn.specs.declared.turn.Side.{Side}
 use Rattle.adapt_turn.specs.declared.turn.Side.TheVariants as sides
-use Rattle.adapt_turn.specs.Reports.{Lent, lending, SourceReported, SendReported, HearReported, HopReported, Breaks, HasFaultReason, FailsFor, IsOfSide, source_view, hear_view, source_room, service_room, service_cause, hop_cause, fault_of, outcome_by, outcome_of}
+use Rattle.adapt_turn.specs.Reports.{Lent, lending, SourceReported, SendReported, HearReported, HopReported, Breaks, HasFaultReason}
+use Rattle.adapt_turn.specs.Reports.{FailsFor, IsOfSide, source_view, hear_view, source_room, service_room, service_cause, hop_cause}
+use Rattle.adapt_turn.specs.Reports.{fault_of, outcome_by, outcome_of}
 use Rattle.adapt_turn.specs.Rows.{may_step, TookBy, Advances, BytesOr}
 use Rattle.adapt_turn.specs.Stands.{IsChosen, Waited, WaitedBoth, FaultView, faults_in, Blamed, BlamedWriter}
 use Rattle.adapt_turn.specs.TurnAnswers.{OfWriter}
@@ -40,7 +42,8 @@ pub record SourcePasses {S H W : Type 0} (s : Source S H) (w : Wire W) (old new 
   pub tied : IsTied old.hold
   pub idle : passed.waiting ≡ true → passed.failed ≡ None
   pub still : passed.waiting ≡ true → new.hold ≡ old.hold
-  pub waits : passed.waiting ≡ true → Waited (s.rests (source_room old.hold) new.side) (λ past. past.read_waits) (w.past old.wire) (w.past new.wire)
+  pub waits : passed.waiting ≡ true → Waited (s.rests (source_room old.hold) new.side) (λ past. past.read_waits) (w.past old.wire)
+      (w.past new.wire)
   pub framed : passed.waiting ≡ true → s.is_framed (source_room old.hold) new.side
   -- a pass brings no more of the body than a turn may
   pub paced : (shows new.hold.history).received ≤ (shows old.hold.history).received + old.hold.limits.turn
@@ -73,15 +76,17 @@ pub record WritesDue {V W : Type 0} (v : Service V) (w : Wire W) (reused : Bool)
   pub breaks : passed.broken ≡ true → Breaks new.hold.history reused (v.fault new.side)
 
 -- it read replies
-pub record ReadsReplies {V W : Type 0} (v : Service V) (w : Wire W) (reused : Bool) (old new : Lent V W) (passed : PassAnswer) : Type 0 where
-  pub reports : HearReported v w old new passed
-  pub reason : HasFaultReason (v.fault old.side) (v.fault new.side) (λ fault. v.has_reason fault (shows old.hold.history) new.side)
-  pub sent : (request came taken : List ℕ) → v.has_sent request (shows old.hold.history) came taken old.side → v.has_sent request (shows old.hold.history) came taken new.side
-  pub rests : (x : Seen) → v.rests_writing x old.side → v.rests_writing x new.side
-  pub head : (shows old.hold.history).modified ≡ true → v.adapted_head new.side ≡ v.adapted_head old.side
-  pub response : (shows old.hold.history).modified ≡ true → v.is_response new.side ≡ v.is_response old.side
-  pub unbroken : (cause : Cause) → passed.failed ≡ Some cause → Breaks old.hold.history reused (v.fault new.side) → ⊥
-  pub breaks : passed.broken ≡ true → Breaks new.hold.history reused (v.fault new.side)
+pub record ReadsReplies {V W : Type 0} (v : Service V) (w : Wire W) (reused : Bool) (old new : Lent V W) (passed : PassAnswer) : Type 0
+  where
+    pub reports : HearReported v w old new passed
+    pub reason : HasFaultReason (v.fault old.side) (v.fault new.side) (λ fault. v.has_reason fault (shows old.hold.history) new.side)
+    pub sent : (request came taken : List ℕ) → v.has_sent request (shows old.hold.history) came taken old.side
+        → v.has_sent request (shows old.hold.history) came taken new.side
+    pub rests : (x : Seen) → v.rests_writing x old.side → v.rests_writing x new.side
+    pub head : (shows old.hold.history).modified ≡ true → v.adapted_head new.side ≡ v.adapted_head old.side
+    pub response : (shows old.hold.history).modified ≡ true → v.is_response new.side ≡ v.is_response old.side
+    pub unbroken : (cause : Cause) → passed.failed ≡ Some cause → Breaks old.hold.history reused (v.fault new.side) → ⊥
+    pub breaks : passed.broken ≡ true → Breaks new.hold.history reused (v.fault new.side)
 
 -- it wrote, and then read
 pub record DoesBoth {V W : Type 0} (v : Service V) (w : Wire W) (reused : Bool) (old new : Lent V W) : Type 0 where
@@ -94,24 +99,27 @@ pub record DoesBoth {V W : Type 0} (v : Service V) (w : Wire W) (reused : Bool) 
   pub reads : ReadsReplies v w reused mid new second
 
 -- A pass of the service's side: it writes, and reads unless the write closed the transaction or met a broken connection.
-pub record ServicePasses {V W : Type 0} (v : Service V) (w : Wire W) (reused : Bool) (old new : Lent V W) (passed : PassAnswer) : Type 0 where
-  pub did : WritesDue v w reused old new passed ⊎ DoesBoth v w reused old new
-  pub tied : IsTied old.hold
-  pub idle : passed.waiting ≡ true → passed.failed ≡ None
-  pub still : passed.waiting ≡ true → new.hold ≡ old.hold
-  pub waits : passed.waiting ≡ true → WaitedBoth (v.rests_writing (shows old.hold.history) new.side) (v.rests_reading (shows old.hold.history) (service_room old.hold) new.side) (w.past old.wire) (w.past new.wire)
-  pub framed : passed.waiting ≡ true → v.is_framed (service_room old.hold) new.side
-  pub paced : (shows new.hold.history).adapted_received ≤ (shows old.hold.history).adapted_received + old.hold.limits.turn
-  pub took : TookBy (may_step sides.Service) old.hold new.hold
-  pub active : passed.waiting ≡ false → passed.broken ≡ false → BytesOr (Advances (may_step sides.Service) old.hold new.hold) (w.past old.wire) (w.past new.wire)
-  pub blames : (cause : Cause) → passed.failed ≡ Some cause → Blamed (faults_in (hear_view v w old new)) cause
-  -- it fails only where the request might not begin anew
-  pub unbroken : (cause : Cause) → passed.failed ≡ Some cause → FailsFor v cause reused (Some old.side) (Some new.side) new.hold
-  pub of_side : (cause : Cause) → passed.failed ≡ Some cause → IsOfSide cause
-  pub over : (cause : Cause) → passed.failed ≡ Some cause → (shows new.hold.history).closed ≡ true
-  pub ends : outcome_by passed.failed ≡ outcome_of new.hold.history.events
-  pub sound : passed.failed ≡ None → passed.broken ≡ false → v.fault old.side ≡ None → v.fault new.side ≡ None
-  pub breaks : passed.broken ≡ true → (passed.failed ≡ None) × Breaks new.hold.history reused (v.fault new.side)
+pub record ServicePasses {V W : Type 0} (v : Service V) (w : Wire W) (reused : Bool) (old new : Lent V W) (passed : PassAnswer) : Type 0
+  where
+    pub did : WritesDue v w reused old new passed ⊎ DoesBoth v w reused old new
+    pub tied : IsTied old.hold
+    pub idle : passed.waiting ≡ true → passed.failed ≡ None
+    pub still : passed.waiting ≡ true → new.hold ≡ old.hold
+    pub waits : passed.waiting ≡ true → WaitedBoth (v.rests_writing (shows old.hold.history) new.side)
+        (v.rests_reading (shows old.hold.history) (service_room old.hold) new.side) (w.past old.wire) (w.past new.wire)
+    pub framed : passed.waiting ≡ true → v.is_framed (service_room old.hold) new.side
+    pub paced : (shows new.hold.history).adapted_received ≤ (shows old.hold.history).adapted_received + old.hold.limits.turn
+    pub took : TookBy (may_step sides.Service) old.hold new.hold
+    pub active : passed.waiting ≡ false → passed.broken ≡ false
+        → BytesOr (Advances (may_step sides.Service) old.hold new.hold) (w.past old.wire) (w.past new.wire)
+    pub blames : (cause : Cause) → passed.failed ≡ Some cause → Blamed (faults_in (hear_view v w old new)) cause
+    -- it fails only where the request might not begin anew
+    pub unbroken : (cause : Cause) → passed.failed ≡ Some cause → FailsFor v cause reused (Some old.side) (Some new.side) new.hold
+    pub of_side : (cause : Cause) → passed.failed ≡ Some cause → IsOfSide cause
+    pub over : (cause : Cause) → passed.failed ≡ Some cause → (shows new.hold.history).closed ≡ true
+    pub ends : outcome_by passed.failed ≡ outcome_of new.hold.history.events
+    pub sound : passed.failed ≡ None → passed.broken ≡ false → v.fault old.side ≡ None → v.fault new.side ≡ None
+    pub breaks : passed.broken ≡ true → (passed.failed ≡ None) × Breaks new.hold.history reused (v.fault new.side)
 
 abbrev pub service_end : {V W : Type 0} → V → W → ServiceEnd V W
 service_end side wire = record { side = side; wire = Some wire }
@@ -128,7 +136,8 @@ service_faults v w old new = record {
 }
 
 -- A pass of the service's line: where no connection is held nothing is due, else it is the side's pass.
-pub record ServiceEndPasses {V W : Type 0} (v : Service V) (w : Wire W) (reused : Bool) (old : Holding) (line : Option (ServiceEnd V W)) (new : Holding) (line' : Option (ServiceEnd V W)) (passed : PassAnswer) : Type 0 where
+pub record ServiceEndPasses {V W : Type 0} (v : Service V) (w : Wire W) (reused : Bool) (old : Holding) (line : Option (ServiceEnd V W))
+    (new : Holding) (line' : Option (ServiceEnd V W)) (passed : PassAnswer) : Type 0 where
   pub did : ((wire_of line ≡ None) × (line' ≡ line) × (new ≡ old) × (passed ≡ record { waiting = true; failed = None; broken = false }))
       ⊎ ((side side' : V) × (wire wire' : W) × (line ≡ Some (service_end side wire)) × (line' ≡ Some (service_end side' wire'))
       × ServicePasses v w reused (lending old side wire) (lending new side' wire') passed)
@@ -152,7 +161,8 @@ pub record Choice (G : Type 0) : Type 1 where
   pub makes : List ℕ → G → Type 0
   pub none : Cause → Type 0
 
-abbrev pub choice_of : {M S K H G V W : Type 0} → MakesHead M S K H G → Service V → (old_maker maker : M) → H → Option (ServiceEnd V W) → Seen → Choice G
+abbrev pub choice_of : {M S K H G V W : Type 0} → MakesHead M S K H G → Service V → (old_maker maker : M) → H → Option (ServiceEnd V W)
+    → Seen → Choice G
 choice_of m v old_maker maker source line x = record {
   answers = answers_user x (response_of v.is_response line);
   unasked = maker ≡ old_maker;
@@ -181,12 +191,14 @@ pub record BeginsOn {K G : Type 0} (k : Hop K G) (choice : Choice G) (answers : 
 
 -- it goes back to the user exactly where it answers the user
 abbrev pub Begins : {K G : Type 0} → Hop K G → Choice G → (next back next' back' : K) → Type 0
-Begins k choice next back next' back' = HadMessage k choice next back next' back' ⊎ (BeginsOn k choice false next next' back back' ⊎ BeginsOn k choice true back back' next next')
+Begins k choice next back next' back' = HadMessage k choice next back next' back'
+    ⊎ (BeginsOn k choice false next next' back back' ⊎ BeginsOn k choice true back back' next next')
 
 -- a writer gave of the message that it has
 pub record GivesOn {K G W : Type 0} (k : Hop K G) (w : Wire W) (old new : Lent K W) (passed : PassAnswer) : Type 0 where
   pub reports : HopReported k w old new passed
-  pub reason : HasFaultReason (k.fault old.side) (k.fault new.side) (FailsGiving (k.breaks_length (shows old.hold.history) (k.body_framing new.side)))
+  pub reason : HasFaultReason (k.fault old.side) (k.fault new.side) (FailsGiving
+      (k.breaks_length (shows old.hold.history) (k.body_framing new.side)))
   pub again : (had : RelayFault) → k.fault old.side ≡ Some had → passed.failed ≡ Some (hop_cause had)
   pub gift : k.gift new.side ≡ k.gift old.side
   pub framing : k.body_framing new.side ≡ k.body_framing old.side
@@ -195,8 +207,10 @@ pub record GivesOn {K G W : Type 0} (k : Hop K G) (w : Wire W) (old new : Lent K
 -- that of the two which has a message: the one back to the user where that was begun; the other one and its wire stay
 abbrev pub GivesOne : {K G A C : Type 0} → Hop K G → Wire A → Wire C → (old new : Writers K A C) → PassAnswer → Type 0
 GivesOne k a c old new passed =
-    ((k.gift old.back ≡ nothing) × GivesOn k c (lending old.hold old.next old.next_wire) (lending new.hold new.next new.next_wire) passed × (new.back ≡ old.back) × (new.back_wire ≡ old.back_wire))
-    ⊎ ((k.gift old.back ≡ nothing → ⊥) × GivesOn k a (lending old.hold old.back old.back_wire) (lending new.hold new.back new.back_wire) passed × (new.next ≡ old.next) × (new.next_wire ≡ old.next_wire))
+    ((k.gift old.back ≡ nothing) × GivesOn k c (lending old.hold old.next old.next_wire) (lending new.hold new.next new.next_wire) passed
+    × (new.back ≡ old.back) × (new.back_wire ≡ old.back_wire))
+    ⊎ ((k.gift old.back ≡ nothing → ⊥) × GivesOn k a (lending old.hold old.back old.back_wire) (lending new.hold new.back new.back_wire)
+    passed × (new.next ≡ old.next) × (new.next_wire ≡ old.next_wire))
 
 -- no message is chosen, and nothing is done
 pub record HasNoChoice {K G A C : Type 0} (choice : Choice G) (old new : Writers K A C) : Type 0 where
@@ -213,7 +227,8 @@ pub record FailsToBegin {K G A C : Type 0} (k : Hop K G) (choice : Choice G) (ol
   pub new_is : new ≡ writers (moved old.hold (Fail cause) []) old.next old.next_wire old.back old.back_wire
 
 -- the chosen message goes out, and is begun where it wasn't
-pub record BeginsAndGives {K G A C : Type 0} (k : Hop K G) (a : Wire A) (c : Wire C) (choice : Choice G) (old new : Writers K A C) (passed : PassAnswer) : Type 0 where
+pub record BeginsAndGives {K G A C : Type 0} (k : Hop K G) (a : Wire A) (c : Wire C) (choice : Choice G) (old new : Writers K A C)
+    (passed : PassAnswer) : Type 0 where
   pub next : K
   pub back : K
   pub chosen : IsChosen (shows old.hold.history)
@@ -221,37 +236,45 @@ pub record BeginsAndGives {K G A C : Type 0} (k : Hop K G) (a : Wire A) (c : Wir
   pub gives : GivesOne k a c (writers old.hold next old.next_wire back old.back_wire) new passed
 
 -- A pass of the next hop's side.
-pub record NextPasses {K G A C : Type 0} (k : Hop K G) (a : Wire A) (c : Wire C) (choice : Choice G) (old new : Writers K A C) (passed : PassAnswer) : Type 0 where
+pub record NextPasses {K G A C : Type 0} (k : Hop K G) (a : Wire A) (c : Wire C) (choice : Choice G) (old new : Writers K A C)
+    (passed : PassAnswer) : Type 0 where
   pub did : HasNoChoice choice old new ⊎ (FailsToBegin k choice old new ⊎ BeginsAndGives k a c choice old new passed)
   pub tied : IsTied old.hold
   pub whole : passed.broken ≡ false
   pub idle : passed.waiting ≡ true → passed.failed ≡ None
   pub still : passed.waiting ≡ true → new.hold ≡ old.hold
   -- no message is chosen; or nothing of it is due, or its wire answered Wait
-  pub waits : passed.waiting ≡ true → (IsChosen (shows old.hold.history) → ⊥) ⊎ ((k.gift new.next ≡ nothing → k.gift new.back ≡ nothing → ⊥) × OfWriter (k.gift new.back)
+  pub waits : passed.waiting ≡ true → (IsChosen (shows old.hold.history) → ⊥)
+      ⊎ ((k.gift new.next ≡ nothing → k.gift new.back ≡ nothing → ⊥) × OfWriter (k.gift new.back)
       (Waited (k.rests (shows old.hold.history) new.next) (λ past. past.write_waits) (c.past old.next_wire) (c.past new.next_wire))
       (Waited (k.rests (shows old.hold.history) new.back) (λ past. past.write_waits) (a.past old.back_wire) (a.past new.back_wire)))
   pub took : TookBy (may_step sides.NextHop) old.hold new.hold
-  pub active : passed.waiting ≡ false → OfWriter (k.gift new.back) (BytesOr (Advances (may_step sides.NextHop) old.hold new.hold) (c.past old.next_wire) (c.past new.next_wire))
+  pub active : passed.waiting ≡ false → OfWriter (k.gift new.back) (BytesOr (Advances (may_step sides.NextHop) old.hold new.hold)
+      (c.past old.next_wire) (c.past new.next_wire))
       (BytesOr (Advances (may_step sides.NextHop) old.hold new.hold) (a.past old.back_wire) (a.past new.back_wire))
   -- a message is begun back to the user exactly where it answers the user
-  pub way : (k.gift old.back ≡ nothing → k.gift new.back ≡ message → choice.answers ≡ true) × (k.gift old.next ≡ nothing → k.gift new.next ≡ message → choice.answers ≡ false)
-  pub blames : (cause : Cause) → passed.failed ≡ Some cause → (IsChosen (shows old.hold.history) × (k.gift old.next ≡ nothing) × (k.gift old.back ≡ nothing) × choice.none cause)
+  pub way : (k.gift old.back ≡ nothing → k.gift new.back ≡ message → choice.answers ≡ true)
+      × (k.gift old.next ≡ nothing → k.gift new.next ≡ message → choice.answers ≡ false)
+  pub blames : (cause : Cause) → passed.failed ≡ Some cause
+      → (IsChosen (shows old.hold.history) × (k.gift old.next ≡ nothing) × (k.gift old.back ≡ nothing) × choice.none cause)
       ⊎ (BlamedWriter k c (lending old.hold old.next old.next_wire) (lending new.hold new.next new.next_wire) cause
       ⊎ BlamedWriter k a (lending old.hold old.back old.back_wire) (lending new.hold new.back new.back_wire) cause)
   pub of_side : (cause : Cause) → passed.failed ≡ Some cause → IsOfSide cause ⊎ choice.none cause
   pub over : (cause : Cause) → passed.failed ≡ Some cause → (shows new.hold.history).closed ≡ true
   pub ends : outcome_by passed.failed ≡ outcome_of new.hold.history.events
-  pub sound : passed.failed ≡ None → (k.fault old.next ≡ None → k.fault new.next ≡ None) × (k.fault old.back ≡ None → k.fault new.back ≡ None)
+  pub sound : passed.failed ≡ None → (k.fault old.next ≡ None → k.fault new.next ≡ None)
+      × (k.fault old.back ≡ None → k.fault new.back ≡ None)
   -- the wire of the writer without a message isn't touched
   pub elsewhere : OfWriter (k.gift new.back) (new.back_wire ≡ old.back_wire) (new.next_wire ≡ old.next_wire)
 
 -- A pass of any side: `none` says why the head of the chosen message couldn't be made, and the line is the service's after the pass.
-pub record AnyPasses {V W : Type 0} (v : Service V) (reused : Bool) (none : Cause → Type 0) (side : Side) (old new : Holding) (line : Option (ServiceEnd V W)) (passed : PassAnswer) : Type 0 where
+pub record AnyPasses {V W : Type 0} (v : Service V) (reused : Bool) (none : Cause → Type 0) (side : Side) (old new : Holding)
+    (line : Option (ServiceEnd V W)) (passed : PassAnswer) : Type 0 where
   -- one that fails closes the transaction, and one that waits does nothing
   pub over : (cause : Cause) → passed.failed ≡ Some cause → (shows new.history).closed ≡ true
   pub idle : passed.waiting ≡ true → passed.failed ≡ None
   pub still : passed.waiting ≡ true → new ≡ old
   -- the cause is of a side, or the maker's
   pub of_side : (cause : Cause) → passed.failed ≡ Some cause → IsOfSide cause ⊎ ((side ≡ sides.NextHop) × none cause)
-  pub breaks : passed.broken ≡ true → (side ≡ sides.Service) × (passed.failed ≡ None) × MatchOption line ⊥ (λ l. Breaks new.history reused (v.fault l.side))
+  pub breaks : passed.broken ≡ true → (side ≡ sides.Service) × (passed.failed ≡ None)
+      × MatchOption line ⊥ (λ l. Breaks new.history reused (v.fault l.side))

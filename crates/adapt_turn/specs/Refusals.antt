@@ -34,7 +34,11 @@ pub record UserView : Type 0 where
 
 -- that of the two writers
 abbrev pub user_view : {K G : Type 0} → Hop K G → Point → (refusing : Bool) → (next back : K) → UserView
-user_view k point refusing next back = record { refusing = refusing; gift = user_gift point (k.gift next) (k.gift back); untouched = user_untouched point (k.untouched next) (k.untouched back) }
+user_view k point refusing next back = record {
+  refusing = refusing;
+  gift = user_gift point (k.gift next) (k.gift back);
+  untouched = user_untouched point (k.untouched next) (k.untouched back);
+}
 
 -- the user's writer has the refusal of this status; or a byte of an answer has gone out, and no refusal is due
 abbrev pub HasRefusal : (status : ℕ) → UserView → Type 0

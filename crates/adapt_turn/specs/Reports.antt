@@ -225,7 +225,8 @@ pub record SourceReported {S H W : Type 0} (s : Source S H) (w : Wire W) (old ne
   pub reports : Reported (source_view s w old new) old.hold new.hold (reading reported out delta.bytes) passed
   pub few : in_sum reported ≤ source_room old.hold
   pub framed : passed.waiting ≡ true → s.is_framed (source_room old.hold) new.side
-  pub wire : (p : Past) → w.past old.wire p → (q : Past) × w.past new.wire q × IsLater p delta.bytes [] q × (delta.ended ≡ true → p.ends < q.ends)
+  pub wire : (p : Past) → w.past old.wire p → (q : Past) × w.past new.wire q × IsLater p delta.bytes [] q
+      × (delta.ended ≡ true → p.ends < q.ends)
   pub told : passed.failed ≡ None → s.is_over new.side → (after_all (shows old.hold.history) reported).ended ≡ true
   pub agrees : s.agrees (after_all (shows old.hold.history) reported) new.side
   pub goes_on : (body : List ℕ) (read : Given) → s.has_read (shows old.hold.history) body read old.side
@@ -236,7 +237,8 @@ pub record SendReported {V W : Type 0} (v : Service V) (w : Wire W) (old new : L
   pub delta : List ℕ
   pub reported : List Event
   pub reports : Reported (send_view v w old new) old.hold new.hold (writing reported delta) passed
-  pub goes_on : (request came taken : List ℕ) → EndsBody old.hold.original came → v.has_sent request (shows old.hold.history) came taken old.side
+  pub goes_on : (request came taken : List ℕ) → EndsBody old.hold.original came
+      → v.has_sent request (shows old.hold.history) came taken old.side
       → v.has_sent request (after_all (shows old.hold.history) reported) came (taken ++ delta) new.side
 
 -- The service's wire gave these bytes, of the adapted body no more than there was room for; where it waits, all is framed that may be.
@@ -257,7 +259,8 @@ pub record HopReported {K G W : Type 0} (k : Hop K G) (w : Wire W) (old new : Le
   pub reports : Reported (hop_view k w old new) old.hold new.hold (writing reported delta) passed
   pub goes_on : (original adapted head taken : List ℕ) → EndsBody old.hold.original original → EndsBody old.hold.adapted adapted
       → k.has_given (shows old.hold.history) head (chosen (shows old.hold.history) original adapted) taken old.side
-      → k.has_given (after_all (shows old.hold.history) reported) head (chosen (shows old.hold.history) original adapted) (taken ++ delta) new.side
+      → k.has_given (after_all (shows old.hold.history) reported) head (chosen (shows old.hold.history) original adapted) (taken ++ delta)
+      new.side
   pub done : (original adapted head taken : List ℕ) → EndsBody old.hold.original original → EndsBody old.hold.adapted adapted
       → (after_all (shows old.hold.history) reported).closed ≡ true
       → k.has_given (shows old.hold.history) head (chosen (shows old.hold.history) original adapted) taken old.side

@@ -38,4 +38,5 @@ Advances test old new = (event : Event) × (events : List Event) × AllAre test 
 -- a byte went over the wire, or this is so
 abbrev pub BytesOr : Type 0 → (before after : Past → Type 0) → Type 0
 BytesOr this before after =
-    (p : Past) → before p → (q : Past) × after q × (length p.read ≤ length q.read) × (length p.taken ≤ length q.taken) × (bytes_between p q ≡ 0 → this)
+    (p : Past) → before p → (q : Past) × after q × (length p.read ≤ length q.read) × (length p.taken ≤ length q.taken)
+    × (bytes_between p q ≡ 0 → this)

@@ -99,7 +99,8 @@ pub record TurnMoves (on : OnMove) (side : Side) (old new : Holding) (n : ℕ) :
   pub active : n ≡ 0 → (p q r : Past) → on.before.source p → on.before.service q → on.before.next r → StepsOne side old new
 
 -- A turn answers Broken.
-pub record TurnBreaks {V W : Type 0} (v : Service V) (pace : Pace) (side : Side) (old new : Holding) (service : Option (ServiceEnd V W)) : Type 0 where
+pub record TurnBreaks {V W : Type 0} (v : Service V) (pace : Pace) (side : Side) (old new : Holding) (service : Option (ServiceEnd V W)) :
+    Type 0 where
   -- it was the service's
   pub of_service : side ≡ sides.Service
   -- of an open transaction
@@ -143,7 +144,8 @@ pub record TxView (S V K A C : Type 0) : Type 0 where
   pub back : K
   pub outcome : Outcome
 
-abbrev pub tx_view : {T S V K M A W C H G : Type 0} → Holding → Ends T S V K M A W C H G → Outcome → TxView S (Option (ServiceEnd V W)) K A C
+abbrev pub tx_view : {T S V K M A W C H G : Type 0} → Holding → Ends T S V K M A W C H G → Outcome
+    → TxView S (Option (ServiceEnd V W)) K A C
 tx_view hold ends outcome = record {
   hold = hold;
   source = ends.source;
@@ -191,15 +193,18 @@ pub record NextKeeps {S V K A C G : Type 0} (k : Hop K G) (old new : TxView S V 
   pub other_wire : HasNotFailed new.outcome → OfWriter (k.gift new.back) (new.source_wire ≡ old.source_wire) (new.next_wire ≡ old.next_wire)
 
 -- what a turn of an open transaction keeps
-pub record KeepsOpen {S V W K G A C : Type 0} (v : Service V) (k : Hop K G) (side : Side) (old new : TxView S (Option (ServiceEnd V W)) K A C) : Type 0 where
+pub record KeepsOpen {S V W K G A C : Type 0} (v : Service V) (k : Hop K G) (side : Side)
+    (old new : TxView S (Option (ServiceEnd V W)) K A C) : Type 0 where
   -- it steps events of its side, or Fail
   pub took : TookBy (may_step side) old.hold new.hold
   -- the other sides, and their wires
   pub others : BySide side (SourceKeeps old new) (ServiceKeeps old new) (NextKeeps k old new)
   -- a message that is begun back to the user answers a request that was offered
-  pub back : k.gift old.back ≡ nothing → k.gift new.back ≡ message → answers_user (shows old.hold.history) (response_of v.is_response old.service) ≡ true
+  pub back : k.gift old.back ≡ nothing → k.gift new.back ≡ message
+      → answers_user (shows old.hold.history) (response_of v.is_response old.service) ≡ true
   -- and one that is begun to the next hop doesn't
-  pub next : k.gift old.next ≡ nothing → k.gift new.next ≡ message → answers_user (shows old.hold.history) (response_of v.is_response old.service) ≡ false
+  pub next : k.gift old.next ≡ nothing → k.gift new.next ≡ message
+      → answers_user (shows old.hold.history) (response_of v.is_response old.service) ≡ false
 
 -- what a turn of a closed transaction keeps of its sides and wires: all but the user's writer, and the user's wire
 pub record KeepsClosed {S V K A C : Type 0} (old new : TxView S V K A C) : Type 0 where
@@ -210,7 +215,8 @@ pub record KeepsClosed {S V K A C : Type 0} (old new : TxView S V K A C) : Type 
   pub next_wire : old.hold.history.plan.point ≡ Reqmod → new.next_wire ≡ old.next_wire
 
 -- What a turn of a side keeps.
-pub record TurnKeeps {S V W K G A C : Type 0} (v : Service V) (k : Hop K G) (side : Side) (old new : TxView S (Option (ServiceEnd V W)) K A C) : Type 0 where
+pub record TurnKeeps {S V W K G A C : Type 0} (v : Service V) (k : Hop K G) (side : Side)
+    (old new : TxView S (Option (ServiceEnd V W)) K A C) : Type 0 where
   pub running : (shows old.hold.history).closed ≡ false → KeepsOpen v k side old new
   pub closed : (shows old.hold.history).closed ≡ true → KeepsClosed old new
 
@@ -231,7 +237,8 @@ pub record SourceFails {S H W : Type 0} (s : Source S H) (w : Wire W) (old new :
   pub reason : HasFaultReason (s.fault old.side) (s.fault new.side) (λ fault. s.has_reason fault new.side)
 
 -- it failed for the service
-pub record ServiceFails {V W : Type 0} (v : Service V) (w : Wire W) (reused : Bool) (old new : Option (ServiceEnd V W)) (hold : Holding) (cause : Cause) : Type 0 where
+pub record ServiceFails {V W : Type 0} (v : Service V) (w : Wire W) (reused : Bool) (old new : Option (ServiceEnd V W)) (hold : Holding)
+    (cause : Cause) : Type 0 where
   -- there is one, and its connection was held
   pub held : wire_of old ≡ None → ⊥
   -- the cause is that of the side's fault

@@ -51,7 +51,8 @@ pub record IsAnswerTo (passed : PassAnswer) (bytes : ℕ) (said : TurnAnswer) : 
 -- that isn't closed it counts the bytes that moved, as many as the turn says; of a closed one the clock stands.
 pub record Paces (closed : Bool) (old new : Pace) (now : ℕ) (moves : ℕ → Type 0) (said : TurnAnswer) : Type 0 where
   pub moment : (new.last_moved ≡ old.last_moved) ⊎ (new.last_moved ≡ now)
-  pub clock : closed ≡ false → (n : ℕ) × moves n × (n ≡ 0 → new.last_moved ≡ old.last_moved) × (0 < n → new.last_moved ≡ now) × ((m : ℕ) → said ≡ answers.Moved m → m ≡ n)
+  pub clock : closed ≡ false → (n : ℕ) × moves n × (n ≡ 0 → new.last_moved ≡ old.last_moved) × (0 < n → new.last_moved ≡ now)
+      × ((m : ℕ) → said ≡ answers.Moved m → m ≡ n)
   pub still : said ≡ answers.Waiting → new.last_moved ≡ old.last_moved
   pub rests : closed ≡ true → new.last_moved ≡ old.last_moved
   pub limit : new.deadline ≡ old.deadline
@@ -69,7 +70,8 @@ pub record Ending : Type 1 where
   -- the user has the refusal of this cause, or a byte of an answer has gone out
   pub refuses : Cause → Type 0
 
--- What a turn leaves of a transaction that was closed: how it ended, and whether a refusal is due, and which. It answers Finished once none is due, or
+-- What a turn leaves of a transaction that was closed: how it ended, and whether a refusal is due, and which. It answers Finished
+-- once none is due, or
 -- the one that is due is over.
 pub record StaysClosed (old new : Ending) (said : TurnAnswer) : Type 0 where
   pub hold : new.hold ≡ old.hold

@@ -5,7 +5,8 @@ use Rattle.chunk_writer.specs.Behind.{IsBehind, WaitsBehind}
 use Rattle.chunk_writer.specs.Behind.IsBehind.{nothing, chunk_end, next_chunk, the_last_chunk}
 
 -- a part of what waited went out
-pub waits_passed : (HasBody : List ℕ → ℕ → Type 0) (fixed part waits old : List ℕ) → part ++ waits ≡ old → WaitsBehind HasBody fixed old → WaitsBehind HasBody fixed waits
+pub waits_passed : (HasBody : List ℕ → ℕ → Type 0) (fixed part waits old : List ℕ) → part ++ waits ≡ old → WaitsBehind HasBody fixed old
+    → WaitsBehind HasBody fixed waits
 waits_passed HasBody fixed part waits old e w =
     let same : (w.out ++ part) ++ waits ≡ w.out ++ old = append_assoc w.out part waits ∙ ap (λ (xs : List ℕ). w.out ++ xs) e in
     record {
@@ -20,7 +21,8 @@ pub waits_none : (HasBody : List ℕ → ℕ → Type 0) (fixed : List ℕ) (lef
 waits_none HasBody fixed left h = record { body_text = fixed; out = []; fixed_is = sym (append-nil fixed); framing = nothing h }
 
 -- a framing text waits, whole
-pub waits_end : (HasBody : List ℕ → ℕ → Type 0) (text d : List ℕ) → HasBody (text ++ (d ++ crlf)) 0 → WaitsBehind HasBody (text ++ (d ++ crlf)) crlf
+pub waits_end : (HasBody : List ℕ → ℕ → Type 0) (text d : List ℕ) → HasBody (text ++ (d ++ crlf)) 0
+    → WaitsBehind HasBody (text ++ (d ++ crlf)) crlf
 waits_end HasBody text d h = record {
   body_text = text ++ d;
   out = [];
@@ -28,8 +30,10 @@ waits_end HasBody text d h = record {
   framing = chunk_end (subst (λ (xs : List ℕ). HasBody xs 0) (sym (append_assoc text d crlf)) h);
 }
 
-pub waits_next : (HasBody : List ℕ → ℕ → Type 0) (text : List ℕ) (n : ℕ) → HasBody text 0 → WaitsBehind HasBody (text ++ chunk_head n) (chunk_head n)
+pub waits_next : (HasBody : List ℕ → ℕ → Type 0) (text : List ℕ) (n : ℕ) → HasBody text 0
+    → WaitsBehind HasBody (text ++ chunk_head n) (chunk_head n)
 waits_next HasBody text n h = record { body_text = text; out = []; fixed_is = refl; framing = next_chunk h n }
 
-pub waits_last : (HasBody : List ℕ → ℕ → Type 0) (text : List ℕ) (ieof : Bool) → HasBody text 0 → WaitsBehind HasBody (text ++ last_chunk ieof) (last_chunk ieof)
+pub waits_last : (HasBody : List ℕ → ℕ → Type 0) (text : List ℕ) (ieof : Bool) → HasBody text 0
+    → WaitsBehind HasBody (text ++ last_chunk ieof) (last_chunk ieof)
 waits_last HasBody text ieof h = record { body_text = text; out = []; fixed_is = refl; framing = the_last_chunk h ieof }

@@ -1,5 +1,6 @@
 -- Text that goes out by turns, and what comes next of it.
-use Rattle.std.specs.Prelude.{◌≡◌, ℕ, ◌+◌, ◌-◌, ◌<◌, ◌≤◌, Bool, true, false, List, [], ◌++◌, length, take, drop, if◌then◌else◌, nat_lt, ◌==◌, ◌&&◌, vec_capacity}
+use Rattle.std.specs.Prelude.{◌≡◌, ℕ, ◌+◌, ◌-◌, ◌<◌, ◌≤◌, Bool, true, false, List, [], ◌++◌, length, take, drop, if◌then◌else◌, nat_lt}
+use Rattle.std.specs.Prelude.{◌==◌, ◌&&◌, vec_capacity}
 use Rattle.icap_chunks.specs.Grammar.{chunk_head, last_chunk, crlf}
 use Rattle.span_tape.specs.Tape.{Tape}
 use Rattle.chunk_writer.specs.declared.draft.TheConstants.{LONG_HEAD}

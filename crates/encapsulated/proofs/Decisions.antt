@@ -1,5 +1,6 @@
 -- Each text has an answer: a layout, or a fault that stands.
-use Rattle.std.proofs.Common.{◌≡◌, ◌≢◌, ℕ, zero, suc, ◌^◌, ◌<◌, ◌⊎◌, inl, inr, Bool, true, false, List, [], ◌∷◌, ◌++◌, length, map, refl, sym, ap, ◌∙◌, subst, arith, All, IsTrue, bytes_eq}
+use Rattle.std.proofs.Common.{◌≡◌, ◌≢◌, ℕ, zero, suc, ◌^◌, ◌<◌, ◌⊎◌, inl, inr, Bool, true, false, List, [], ◌∷◌, ◌++◌, length, map, refl}
+use Rattle.std.proofs.Common.{sym, ap, ◌∙◌, subst, arith, All, IsTrue, bytes_eq}
 use Rattle.std.proofs.lemmas.Bool.{ltb-true, lt-ltb}
 use Rattle.std.proofs.lemmas.Bool.Decides.{eqb_tells}
 use Rattle.std.proofs.lemmas.List.Sums.{AllPass-from_list_all, list_all-from_AllPass}
@@ -38,7 +39,8 @@ digits_known (d ∷ ds) = both_known (digit_value d < 10) (AllDigits 10 ds) (lt_
 token_known : (name : List ℕ) → Known (IsToken name)
 token_known name =
     both_known (0 < length name) (All (λ b. IsTrue (is_token_byte b)) name) (lt_known 0 (length name))
-    (from_test (All (λ b. IsTrue (is_token_byte b)) name) (list_all is_token_byte name) (AllPass-from_list_all is_token_byte name) (list_all-from_AllPass is_token_byte name))
+    (from_test (All (λ b. IsTrue (is_token_byte b)) name) (list_all is_token_byte name) (AllPass-from_list_all is_token_byte name)
+    (list_all-from_AllPass is_token_byte name))
 
 -- what is before and behind the first c
 abbrev CutAt : ℕ → List ℕ → Type 0
@@ -48,7 +50,8 @@ lacks_more : (c b : ℕ) (text : List ℕ) → b ≢ c → Lacks c text → Lack
 lacks_more c b text other lacks zero inside is = other is
 lacks_more c b text other lacks (suc k) inside is = lacks k (omega arith) is
 
-cut_step : (c b : ℕ) (text : List ℕ) → ((eqb b c ≡ true) × (b ≡ c)) ⊎ ((eqb b c ≡ false) × (b ≢ c)) → CutAt c text ⊎ Lacks c text → CutAt c (b ∷ text) ⊎ Lacks c (b ∷ text)
+cut_step : (c b : ℕ) (text : List ℕ) → ((eqb b c ≡ true) × (b ≡ c)) ⊎ ((eqb b c ≡ false) × (b ≢ c)) → CutAt c text ⊎ Lacks c text
+    → CutAt c (b ∷ text) ⊎ Lacks c (b ∷ text)
 cut_step c b text (inl same) rest = inl ([], text, λ k inside is. absurd (omega arith), ap (λ x. x ∷ text) same.1)
 cut_step c b text (inr other) (inl cut) = inl (b ∷ cut.0, cut.1, lacks_more c b cut.0 other.1 cut.2, ap (λ x. b ∷ x) cut.3)
 cut_step c b text (inr other) (inr lacks) = inr (lacks_more c b text other.1 lacks)
@@ -70,7 +73,8 @@ good_known name digits =
     (both_known (0 < length digits) (AllDigits 10 digits × (digits_value 10 digits < 2 ^ 64)) (lt_known 0 (length digits))
     (both_known (AllDigits 10 digits) (digits_value 10 digits < 2 ^ 64) (digits_known digits) (lt_known (digits_value 10 digits) (2 ^ 64))))
 
-cut_item : (text front behind : List ℕ) → Lacks 61 front → text ≡ front ++ 61 ∷ behind → Known (GoodParts front behind) → Known (SomeItem text)
+cut_item : (text front behind : List ℕ) → Lacks 61 front → text ≡ front ++ 61 ∷ behind → Known (GoodParts front behind)
+    → Known (SomeItem text)
 cut_item text front behind lacks cut (inl good) = inl (
   (front, digits_value 10 behind),
   record {
@@ -100,8 +104,12 @@ SomePart text = (part : Part × ℕ) × IsPart text part.0 part.1
 abbrev lower : List ℕ → List ℕ
 lower name = map to_ascii_lowercase name
 
-named_known : (text name : List ℕ) (offset : ℕ) → IsItem text name offset → Known (lower name ≡ lower (name_of (part_of_name (lower name)))) → Known (SomePart text)
-named_known text name offset item (inl named) = inl ((part_of_name (lower name), offset), record { name = name; item = item; named = named })
+named_known : (text name : List ℕ) (offset : ℕ) → IsItem text name offset → Known (lower name ≡ lower (name_of (part_of_name (lower name))))
+    → Known (SomePart text)
+named_known text name offset item (inl named) = inl (
+  (part_of_name (lower name), offset),
+  record { name = name; item = item; named = named },
+)
 named_known text name offset item (inr other) = inr (λ h.
     let same = item_unique text name h.1.name offset h.0.1 item h.1.item in
     let named : lower name ≡ lower (name_of h.0.0) = ap lower same.0 ∙ h.1.named in
@@ -112,22 +120,26 @@ part_step : (text : List ℕ) → Known (SomeItem text) → Known (SomePart text
 part_step text (inl h) =
     let name = h.0.0 in
     let test = bytes_eq-Decides (lower name) (lower (name_of (part_of_name (lower name)))) in
-    named_known text name h.0.1 h.1 (from_test (lower name ≡ lower (name_of (part_of_name (lower name)))) (bytes_eq (lower name) (lower (name_of (part_of_name (lower name))))) test.0 test.1)
+    named_known text name h.0.1 h.1 (from_test (lower name ≡ lower (name_of (part_of_name (lower name))))
+    (bytes_eq (lower name) (lower (name_of (part_of_name (lower name))))) test.0 test.1)
 part_step text (inr none) = inr (λ h. none ((h.1.name, h.0.1), h.1.item))
 
 part_known : (text : List ℕ) → Known (SomePart text)
 part_known text = part_step text (item_known text)
 
-first_zip : {A B : Type 0} (R : A → B → Type 0) (x : A) (xs : List A) (ys : List B) → AllZip R (x ∷ xs) ys → ((y : B) × R x y) × ((rest : List B) × AllZip R xs rest)
+first_zip : {A B : Type 0} (R : A → B → Type 0) (x : A) (xs : List A) (ys : List B) → AllZip R (x ∷ xs) ys
+    → ((y : B) × R x y) × ((rest : List B) × AllZip R xs rest)
 first_zip R x xs [] h = absurd h
 first_zip R x xs (y ∷ ys) h = ((y, h.0), (ys, h.1))
 
-zip_step : {A B : Type 0} (R : A → B → Type 0) (x : A) (xs : List A) → Known ((y : B) × R x y) → Known ((ys : List B) × AllZip R xs ys) → Known ((ys : List B) × AllZip R (x ∷ xs) ys)
+zip_step : {A B : Type 0} (R : A → B → Type 0) (x : A) (xs : List A) → Known ((y : B) × R x y) → Known ((ys : List B) × AllZip R xs ys)
+    → Known ((ys : List B) × AllZip R (x ∷ xs) ys)
 zip_step R x xs (inl h) (inl rest) = inl (h.0 ∷ rest.0, (h.1, rest.1))
 zip_step R x xs (inl h) (inr none) = inr (λ g. none (first_zip R x xs g.0 g.1).1)
 zip_step R x xs (inr none) rest = inr (λ g. none (first_zip R x xs g.0 g.1).0)
 
-zip_known : {A B : Type 0} (R : A → B → Type 0) → ((x : A) → Known ((y : B) × R x y)) → (xs : List A) → Known ((ys : List B) × AllZip R xs ys)
+zip_known : {A B : Type 0} (R : A → B → Type 0) → ((x : A) → Known ((y : B) × R x y)) → (xs : List A)
+    → Known ((ys : List B) × AllZip R xs ys)
 zip_known R known [] = inl ([], tt)
 zip_known R known (x ∷ xs) = zip_step R x xs (known x) (zip_known R known xs)
 

@@ -1,5 +1,6 @@
 -- At most one answer fits a list.
-use Rattle.std.proofs.Common.{◌≡◌, ℕ, ◌↔◌, Bool, true, false, cond, List, [], ◌∷◌, ◌++◌, refl, sym, ap, ap₂, ◌∙◌, subst, Option, Some, None, Result, Ok, Err, IfOk, IfErr, Contains, append-nil, map, codes, bytes_eq}
+use Rattle.std.proofs.Common.{◌≡◌, ℕ, ◌↔◌, Bool, true, false, cond, List, [], ◌∷◌, ◌++◌, refl, sym, ap, ap₂, ◌∙◌, subst, Option, Some, None}
+use Rattle.std.proofs.Common.{Result, Ok, Err, IfOk, IfErr, Contains, append-nil, map, codes, bytes_eq}
 use Rattle.std.specs.List.{AllZip}
 use Rattle.std.specs.Char.{to_ascii_lowercase}
 use Rattle.adapt_bytes.specs.Text.{comma_parts}
@@ -39,7 +40,8 @@ named_so (Body NullBody) = refl
 part_unique : (text : List ℕ) (x y : Part × ℕ) → IsPart text x.0 x.1 → IsPart text y.0 y.1 → x ≡ y
 part_unique text x y h g =
     let same = item_unique text h.name g.name x.1 y.1 h.item g.item in
-    let names_same : map to_ascii_lowercase (name_of x.0) ≡ map to_ascii_lowercase (name_of y.0) = sym h.named ∙ ap (map to_ascii_lowercase) same.0 ∙ g.named in
+    let names_same : map to_ascii_lowercase (name_of x.0) ≡ map to_ascii_lowercase (name_of y.0) =
+    sym h.named ∙ ap (map to_ascii_lowercase) same.0 ∙ g.named in
     let part_same : x.0 ≡ y.0 = sym (named_so x.0) ∙ ap part_of_name names_same ∙ named_so y.0 in
     ap₂ (λ p o. (p, o)) part_same same.1
 
@@ -88,9 +90,15 @@ last_offset o [] = o
 last_offset o (p ∷ parts) = last_offset p.1 parts
 
 layout_from : List (Part × ℕ) → Layout
-layout_from parts = record { req_hdr = offset_at is_req parts; res_hdr = offset_at is_res parts; body = body_in parts; offset = last_offset 0 parts }
+layout_from parts = record {
+  req_hdr = offset_at is_req parts;
+  res_hdr = offset_at is_res parts;
+  body = body_in parts;
+  offset = last_offset 0 parts;
+}
 
-back : (q r : Option ℕ) (b : BodyPart) (o : ℕ) → layout_from (if_there ReqHdr q ++ if_there ResHdr r ++ (Body b, o) ∷ []) ≡ record { req_hdr = q; res_hdr = r; body = b; offset = o }
+back : (q r : Option ℕ) (b : BodyPart) (o : ℕ) → layout_from (if_there ReqHdr q ++ if_there ResHdr r ++ (Body b, o) ∷ [])
+    ≡ record { req_hdr = q; res_hdr = r; body = b; offset = o }
 unfolding layout_from offset_at is_req is_res body_or body_in last_offset
 back None None b o = refl
 back None (Some r) b o = refl
@@ -112,7 +120,8 @@ whole_body_at m d text parts others h g whole =
 pub no_fault : (m : Method) (d : Direction) (text : List ℕ) (l : Layout) (e : EncFault) → IsLayout m d text l → RefusesList e m d text → ⊥
 no_fault m d text l Syntax h s = let items = items_of (comma_parts text) (parts_of l) h.parts in s items.0 items.1
 no_fault m d text l Name h s = s.2 (parts_of l) h.parts
-no_fault m d text l Order h s = s.2 (subst (λ parts. IsFront (allowed m d) (names parts)) (parts_unique text (parts_of l) s.0 h.parts s.1) (front_of_whole (allowed m d) (names (parts_of l)) h.may.whole))
+no_fault m d text l Order h s = s.2 (subst (λ parts. IsFront (allowed m d) (names parts)) (parts_unique text (parts_of l) s.0 h.parts s.1)
+    (front_of_whole (allowed m d) (names (parts_of l)) h.may.whole))
 no_fault m d text l NoBodyPart h s = let has = whole_body_at m d text (parts_of l) s.0 h.parts s.1 h.may.whole in s.2.1 has.0 has.1
 no_fault m d text l Offset h s = s.2.1 (subst (λ parts. Rises (offsets parts)) (parts_unique text (parts_of l) s.0 h.parts s.1) h.may.rises)
 
@@ -133,27 +142,35 @@ one_fault m d text Name Offset x y = absurd (x.2 y.0 y.1)
 one_fault m d text Order Syntax x y = absurd (parts_excl text x.0 x.1 y)
 one_fault m d text Order Name x y = absurd (y.2 x.0 x.1)
 one_fault m d text Order Order x y = refl
-one_fault m d text Order NoBodyPart x y = absurd (x.2 (subst (λ p. IsFront (allowed m d) (names p)) (parts_unique text y.0 x.0 y.1 x.1) y.2.0))
-one_fault m d text Order Offset x y = absurd (x.2 (subst (λ p. IsFront (allowed m d) (names p)) (parts_unique text y.0 x.0 y.1 x.1) (front_of_whole (allowed m d) (names y.0) y.2.0)))
+one_fault m d text Order NoBodyPart x y = absurd (x.2 (subst (λ p. IsFront (allowed m d) (names p)) (parts_unique text y.0 x.0 y.1 x.1)
+    y.2.0))
+one_fault m d text Order Offset x y = absurd (x.2 (subst (λ p. IsFront (allowed m d) (names p)) (parts_unique text y.0 x.0 y.1 x.1)
+    (front_of_whole (allowed m d) (names y.0) y.2.0)))
 one_fault m d text NoBodyPart Syntax x y = absurd (parts_excl text x.0 x.1 y)
 one_fault m d text NoBodyPart Name x y = absurd (y.2 x.0 x.1)
-one_fault m d text NoBodyPart Order x y = absurd (y.2 (subst (λ p. IsFront (allowed m d) (names p)) (parts_unique text x.0 y.0 x.1 y.1) x.2.0))
+one_fault m d text NoBodyPart Order x y = absurd (y.2 (subst (λ p. IsFront (allowed m d) (names p)) (parts_unique text x.0 y.0 x.1 y.1)
+    x.2.0))
 one_fault m d text NoBodyPart NoBodyPart x y = refl
 one_fault m d text NoBodyPart Offset x y = let has = whole_body_at m d text y.0 x.0 y.1 x.1 y.2.0 in absurd (x.2.1 has.0 has.1)
 one_fault m d text Offset Syntax x y = absurd (parts_excl text x.0 x.1 y)
 one_fault m d text Offset Name x y = absurd (y.2 x.0 x.1)
-one_fault m d text Offset Order x y = absurd (y.2 (subst (λ p. IsFront (allowed m d) (names p)) (parts_unique text x.0 y.0 x.1 y.1) (front_of_whole (allowed m d) (names x.0) x.2.0)))
+one_fault m d text Offset Order x y = absurd (y.2 (subst (λ p. IsFront (allowed m d) (names p)) (parts_unique text x.0 y.0 x.1 y.1)
+    (front_of_whole (allowed m d) (names x.0) x.2.0)))
 one_fault m d text Offset NoBodyPart x y = let has = whole_body_at m d text x.0 y.0 x.1 y.1 x.2.0 in absurd (y.2.1 has.0 has.1)
 one_fault m d text Offset Offset x y = refl
 
 -- an answer that fits is the only one
-pub only_layout : (m : Method) (d : Direction) (text : List ℕ) (r : Result Layout EncFault) → IfOk r (IsLayout m d text) → IfErr r (λ e. RefusesList e m d text)
+pub only_layout : (m : Method) (d : Direction) (text : List ℕ) (r : Result Layout EncFault) → IfOk r (IsLayout m d text)
+    → IfErr r (λ e. RefusesList e m d text)
     → (l : Layout) → (r ≡ Ok l) ↔ IsLayout m d text l
-only_layout m d text (Ok k) ok err l =
-    (λ e. let same : k ≡ l = cc in subst (IsLayout m d text) same ok, λ h. ap Ok (layout_unique k l (parts_unique text (parts_of k) (parts_of l) ok.parts h.parts)))
+only_layout m d text (Ok k) ok err l = (
+  λ e. let same : k ≡ l = cc in subst (IsLayout m d text) same ok,
+  λ h. ap Ok (layout_unique k l (parts_unique text (parts_of k) (parts_of l) ok.parts h.parts)),
+)
 only_layout m d text (Err f) ok err l = (λ e. absurd (cc), λ h. absurd (no_fault m d text l f h err))
 
-pub only_fault : (m : Method) (d : Direction) (text : List ℕ) (r : Result Layout EncFault) → IfOk r (IsLayout m d text) → IfErr r (λ e. RefusesList e m d text)
+pub only_fault : (m : Method) (d : Direction) (text : List ℕ) (r : Result Layout EncFault) → IfOk r (IsLayout m d text)
+    → IfErr r (λ e. RefusesList e m d text)
     → (f : EncFault) → (r ≡ Err f) ↔ RefusesList f m d text
 only_fault m d text (Ok k) ok err f = (λ e. absurd (cc), λ s. absurd (no_fault m d text k f ok s))
 only_fault m d text (Err g) ok err f =

@@ -1,5 +1,6 @@
 -- What holds of every allowed list.
-use Rattle.std.proofs.Common.{◌≡◌, ℕ, zero, suc, ◌<◌, Bool, true, false, ◌&&◌, cond, IsTrue, List, [], ◌∷◌, ◌++◌, length, get_or, refl, sym, ap, ap₂, ◌∙◌, subst, arith, Contains, nat_eq, nat_lt, append-nil, eqb-true}
+use Rattle.std.proofs.Common.{◌≡◌, ℕ, zero, suc, ◌<◌, Bool, true, false, ◌&&◌, cond, IsTrue, List, [], ◌∷◌, ◌++◌, length, get_or, refl, sym}
+use Rattle.std.proofs.Common.{ap, ap₂, ◌∙◌, subst, arith, Contains, nat_eq, nat_lt, append-nil, eqb-true}
 use Rattle.std.specs.List.{list_any, list_all}
 use Rattle.std.proofs.lemmas.List.{map-append}
 use Rattle.adapt_bytes.specs.declared.method.Method.{Method}
@@ -17,7 +18,8 @@ use Rattle.encapsulated.specs.Order.{rank, rises_from, ascends, part_number, is_
 
 -- the part with this number
 part_at : ℕ → Part
-part_at n = cond (nat_eq n 0) ReqHdr (cond (nat_eq n 1) ResHdr (cond (nat_eq n 2) (Body ReqBody) (cond (nat_eq n 3) (Body ResBody) (cond (nat_eq n 4) (Body OptBody) (Body NullBody)))))
+part_at n = cond (nat_eq n 0) ReqHdr (cond (nat_eq n 1) ResHdr (cond (nat_eq n 2) (Body ReqBody)
+    (cond (nat_eq n 3) (Body ResBody) (cond (nat_eq n 4) (Body OptBody) (Body NullBody)))))
 
 numbered : (part : Part) → part_at (part_number part) ≡ part
 unfolding part_at
@@ -55,7 +57,8 @@ is_front-whole : (parts more : List Part) → is_front parts (parts ++ more) ≡
 is_front-whole [] more = refl
 is_front-whole (p ∷ parts) more = ap (λ b. b && is_front parts (parts ++ more)) (own_number p) ∙ is_front-whole parts more
 
-some_step : {X : Type 0} (p : X → Bool) (l : X) (lists : List X) → (list_any p lists ≡ true → (list : X) × Contains lists list × (p list ≡ true))
+some_step : {X : Type 0} (p : X → Bool) (l : X) (lists : List X)
+    → (list_any p lists ≡ true → (list : X) × Contains lists list × (p list ≡ true))
     → list_any p (l ∷ lists) ≡ true → (t : Bool) → p l ≡ t → (list : X) × Contains (l ∷ lists) list × (p list ≡ true)
 some_step p l lists later e true here = (l, (0, omega arith, refl), here)
 some_step p l lists later e false other =
@@ -67,11 +70,13 @@ some_list : {X : Type 0} (p : X → Bool) (lists : List X) → list_any p lists 
 some_list p [] e = absurd (cc)
 some_list p (l ∷ lists) e = some_step p l lists (some_list p lists) e (p l) refl
 
-there_step : {X : Type 0} (p : X → Bool) (l : X) (lists : List X) → list_any p lists ≡ true → (t : Bool) → p l ≡ t → list_any p (l ∷ lists) ≡ true
+there_step : {X : Type 0} (p : X → Bool) (l : X) (lists : List X) → list_any p lists ≡ true → (t : Bool) → p l ≡ t
+    → list_any p (l ∷ lists) ≡ true
 there_step p l lists later true here = rw here refl
 there_step p l lists later false other = rw other later
 
-list_there : {X : Type 0} (p : X → Bool) (lists : List X) (list : X) (k : ℕ) → k < length lists → get_or lists k list ≡ list → p list ≡ true → list_any p lists ≡ true
+list_there : {X : Type 0} (p : X → Bool) (lists : List X) (list : X) (k : ℕ) → k < length lists → get_or lists k list ≡ list → p list ≡ true
+    → list_any p lists ≡ true
 list_there p [] list k inside is pass = absurd (omega arith)
 list_there p (l ∷ lists) list zero inside is pass = there_here p l lists (ap p is ∙ pass)
   where
@@ -89,7 +94,8 @@ pub any_front-whole : (lists : List (List Part)) (parts : List Part) → IsFront
 any_front-whole lists parts h = list_there (is_front parts) lists (parts ++ h.0) h.1.0 h.1.1 h.1.2 (is_front-whole parts h.0)
 
 -- what holds of every list holds of one of them
-each_list : (p : List Part → Bool) (lists : List (List Part)) (list : List Part) (k : ℕ) → k < length lists → get_or lists k list ≡ list → list_all p lists ≡ true → p list ≡ true
+each_list : (p : List Part → Bool) (lists : List (List Part)) (list : List Part) (k : ℕ) → k < length lists → get_or lists k list ≡ list
+    → list_all p lists ≡ true → p list ≡ true
 each_list p [] list k inside is all = absurd (omega arith)
 each_list p (l ∷ lists) list zero inside is all = ap p (sym is) ∙ (both _ _ all).0
 each_list p (l ∷ lists) list (suc k) inside is all = each_list p lists list k (omega arith) is (both _ _ all).1
@@ -134,7 +140,8 @@ nothing_higher body (ReqHdr ∷ more) e = absurd (cc)
 nothing_higher body (ResHdr ∷ more) e = absurd (cc)
 nothing_higher body (Body b ∷ more) e = absurd (cc)
 
-last_body : (p : Part) (parts : List Part) (body : BodyPart) (more : List Part) → rises_from p ((parts ++ Body body ∷ []) ++ more) ≡ true → more ≡ []
+last_body : (p : Part) (parts : List Part) (body : BodyPart) (more : List Part) → rises_from p ((parts ++ Body body ∷ []) ++ more) ≡ true
+    → more ≡ []
 last_body p [] body more e = nothing_higher body more (both _ _ e).1
 last_body p (q ∷ parts) body more e = last_body q parts body more (both _ _ e).1
 
@@ -143,7 +150,8 @@ ascends-last [] body more e = nothing_higher body more e
 ascends-last (p ∷ parts) body more e = last_body p parts body more e
 
 -- an allowed list that begins with parts up to a body has no more
-pub whole_with_body : (m : Method) (d : Direction) (parts : List Part) (body : BodyPart) → IsFront (allowed m d) (parts ++ Body body ∷ []) → Contains (allowed m d) (parts ++ Body body ∷ [])
+pub whole_with_body : (m : Method) (d : Direction) (parts : List Part) (body : BodyPart) → IsFront (allowed m d) (parts ++ Body body ∷ [])
+    → Contains (allowed m d) (parts ++ Body body ∷ [])
 whole_with_body m d parts body h =
     let up = each_list ascends (allowed m d) ((parts ++ Body body ∷ []) ++ h.0) h.1.0 h.1.1 h.1.2 (allowed-ascends m d) in
     let none = ascends-last parts body h.0 up in
@@ -155,7 +163,8 @@ body_of ResHdr e = absurd (cc)
 body_of (Body body) e = (body, refl)
 
 -- an allowed list has a body
-pub whole_body : (m : Method) (d : Direction) (parts : List Part) → Contains (allowed m d) parts → (body : BodyPart) × Contains parts (Body body)
+pub whole_body : (m : Method) (d : Direction) (parts : List Part) → Contains (allowed m d) parts
+    → (body : BodyPart) × Contains parts (Body body)
 whole_body m d parts h =
     let some = each_list has_body (allowed m d) parts h.0 h.1 h.2 (allowed-has_body m d) in
     let there = some_list is_body parts some in
@@ -169,12 +178,15 @@ no_body parts none body h =
     let wrong : true ≡ false = sym some ∙ none in absurd (cc)
 
 -- an allowed front that is a layout's parts is whole
-pub whole_layout : (m : Method) (d : Direction) (l : Layout) → IsFront (allowed m d) (names (parts_of l)) → Contains (allowed m d) (names (parts_of l))
+pub whole_layout : (m : Method) (d : Direction) (l : Layout) → IsFront (allowed m d) (names (parts_of l))
+    → Contains (allowed m d) (names (parts_of l))
 whole_layout m d l h =
     let heads = if_there ReqHdr l.req_hdr ++ if_there ResHdr l.res_hdr in
-    let e : names (parts_of l) ≡ names heads ++ Body l.body ∷ [] = map-append (λ (p : Part × ℕ). p.0) heads ((Body l.body, l.offset) ∷ []) in
+    let e : names (parts_of l) ≡ names heads ++ Body l.body ∷ [] =
+    map-append (λ (p : Part × ℕ). p.0) heads ((Body l.body, l.offset) ∷ []) in
     subst (Contains (allowed m d)) (sym e) (whole_with_body m d (names heads) l.body (subst (IsFront (allowed m d)) e h))
 
 -- a layout whose parts are known may be written: the first premise computes, as `refl`
-pub may_have : (m : Method) (d : Direction) (l : Layout) → any_front (allowed m d) (names (parts_of l)) ≡ true → Rises (offsets (parts_of l)) → MayHave m d l
+pub may_have : (m : Method) (d : Direction) (l : Layout) → any_front (allowed m d) (names (parts_of l)) ≡ true
+    → Rises (offsets (parts_of l)) → MayHave m d l
 may_have m d l front rises = record { whole = whole_layout m d l (any_front-sound _ _ front); rises = rises }

@@ -1,5 +1,6 @@
 -- A text whose parts are known is a layout, or some fault stands.
-use Rattle.std.proofs.Common.{◌≡◌, ℕ, ◌<◌, ◌≤◌, ◌⊎◌, ◌≢◌, ◌&&◌, inl, inr, Bool, true, false, List, [], ◌∷◌, refl, sym, ap, ◌∙◌, subst, arith, Option, Some, None}
+use Rattle.std.proofs.Common.{◌≡◌, ℕ, ◌<◌, ◌≤◌, ◌⊎◌, ◌≢◌, ◌&&◌, inl, inr, Bool, true, false, List, [], ◌∷◌, refl, sym, ap, ◌∙◌, subst}
+use Rattle.std.proofs.Common.{arith, Option, Some, None}
 use Rattle.std.proofs.lemmas.Bool.Decides.{eqb_tells}
 use Rattle.std.proofs.Math.Dec.{eqb}
 use Rattle.encapsulated.specs.declared.fault.EncFault.{EncFault}
@@ -39,21 +40,27 @@ from_body : (b : BodyPart) (o : ℕ) (rest : List (Part × ℕ)) → rises_from 
 unfolding layout_of
 from_body b o rest up = (layout_of None None b o, ap (λ l. (Body b, o) ∷ l) (sym (no_more b rest up)))
 
-from_res : (r : ℕ) (rest : List (Part × ℕ)) → rises_from ResHdr (names rest) ≡ true → has_body (names rest) ≡ true → IsSomeLayout ((ResHdr, r) ∷ rest)
+from_res : (r : ℕ) (rest : List (Part × ℕ)) → rises_from ResHdr (names rest) ≡ true → has_body (names rest) ≡ true
+    → IsSomeLayout ((ResHdr, r) ∷ rest)
 unfolding layout_of
 from_res r [] up body = absurd (cc)
 from_res r ((ReqHdr, o) ∷ rest) up body = absurd (cc)
 from_res r ((ResHdr, o) ∷ rest) up body = absurd (cc)
 from_res r ((Body b, o) ∷ rest) up body = (layout_of None (Some r) b o, ap (λ l. (ResHdr, r) ∷ (Body b, o) ∷ l) (sym (no_more b rest up)))
 
-behind_res : (q r : ℕ) (rest : List (Part × ℕ)) → rises_from ResHdr (names rest) ≡ true → has_body (names rest) ≡ true → IsSomeLayout ((ReqHdr, q) ∷ (ResHdr, r) ∷ rest)
+behind_res : (q r : ℕ) (rest : List (Part × ℕ)) → rises_from ResHdr (names rest) ≡ true → has_body (names rest) ≡ true
+    → IsSomeLayout ((ReqHdr, q) ∷ (ResHdr, r) ∷ rest)
 unfolding layout_of
 behind_res q r [] up body = absurd (cc)
 behind_res q r ((ReqHdr, o) ∷ rest) up body = absurd (cc)
 behind_res q r ((ResHdr, o) ∷ rest) up body = absurd (cc)
-behind_res q r ((Body b, o) ∷ rest) up body = (layout_of (Some q) (Some r) b o, ap (λ l. (ReqHdr, q) ∷ (ResHdr, r) ∷ (Body b, o) ∷ l) (sym (no_more b rest up)))
+behind_res q r ((Body b, o) ∷ rest) up body = (
+  layout_of (Some q) (Some r) b o,
+  ap (λ l. (ReqHdr, q) ∷ (ResHdr, r) ∷ (Body b, o) ∷ l) (sym (no_more b rest up)),
+)
 
-from_req : (q : ℕ) (rest : List (Part × ℕ)) → rises_from ReqHdr (names rest) ≡ true → has_body (names rest) ≡ true → IsSomeLayout ((ReqHdr, q) ∷ rest)
+from_req : (q : ℕ) (rest : List (Part × ℕ)) → rises_from ReqHdr (names rest) ≡ true → has_body (names rest) ≡ true
+    → IsSomeLayout ((ReqHdr, q) ∷ rest)
 unfolding layout_of
 from_req q [] up body = absurd (cc)
 from_req q ((ReqHdr, o) ∷ rest) up body = absurd (cc)
@@ -79,34 +86,52 @@ rises_known : (numbers : List ℕ) → Known (Rises numbers)
 rises_known [] = inl tt
 rises_known (first ∷ numbers) = step (eqb_tells first 0) (none_falls_known first numbers)
   where
-    step : ((eqb first 0 ≡ true) × (first ≡ 0)) ⊎ ((eqb first 0 ≡ false) × (first ≢ 0)) → Known (NoneFalls first numbers) → Known ((first ≡ 0) × NoneFalls first numbers)
+    step : ((eqb first 0 ≡ true) × (first ≡ 0)) ⊎ ((eqb first 0 ≡ false) × (first ≢ 0)) → Known (NoneFalls first numbers)
+        → Known ((first ≡ 0) × NoneFalls first numbers)
     step (inl zero) (inl rest) = inl (zero.1, rest)
     step (inl zero) (inr fall) = inr (λ h. fall h.1)
     step (inr above) rest = inr (λ h. above.1 h.0)
 
 -- a layout of the text, or a fault that stands
 abbrev pub Answer : Method → Direction → List ℕ → Type 0
-Answer method direction text = ((layout : Layout) × IsLayout method direction text layout) ⊎ ((fault : EncFault) × RefusesList fault method direction text)
+Answer method direction text = ((layout : Layout) × IsLayout method direction text layout)
+    ⊎ ((fault : EncFault) × RefusesList fault method direction text)
 
-by_offsets : (m : Method) (d : Direction) (text : List ℕ) (l : Layout) → AreParts text (parts_of l) → any_front (allowed m d) (names (parts_of l)) ≡ true
+by_offsets : (m : Method) (d : Direction) (text : List ℕ) (l : Layout) → AreParts text (parts_of l)
+    → any_front (allowed m d) (names (parts_of l)) ≡ true
     → Known (Rises (offsets (parts_of l))) → Answer m d text
 by_offsets m d text l parts front (inl rises) = inl (l, record { parts = parts; may = may_have m d l front rises })
-by_offsets m d text l parts front (inr falls) = inr (Offset, (parts_of l, parts, (whole_layout m d l (any_front-sound (allowed m d) (names (parts_of l)) front), falls)))
+by_offsets m d text l parts front (inr falls) = inr (
+  Offset,
+  (parts_of l, parts, (whole_layout m d l (any_front-sound (allowed m d) (names (parts_of l)) front), falls)),
+)
 
-by_body : (m : Method) (d : Direction) (text : List ℕ) (parts : List (Part × ℕ)) → AreParts text parts → any_front (allowed m d) (names parts) ≡ true
+by_body : (m : Method) (d : Direction) (text : List ℕ) (parts : List (Part × ℕ)) → AreParts text parts
+    → any_front (allowed m d) (names parts) ≡ true
     → (t : Bool) → has_body (names parts) ≡ t → Answer m d text
 by_body m d text parts are front true body =
     let some = in_order parts (front_ascends m d (names parts) (any_front-sound (allowed m d) (names parts) front)) body in
-    by_offsets m d text some.0 (subst (AreParts text) (sym some.1) are) (ap (λ p. any_front (allowed m d) (names p)) some.1 ∙ front) (rises_known (offsets (parts_of some.0)))
+    by_offsets m d text some.0 (subst (AreParts text) (sym some.1) are) (ap (λ p. any_front (allowed m d) (names p)) some.1 ∙ front)
+    (rises_known (offsets (parts_of some.0)))
 by_body m d text parts are front false body =
     inr (NoBodyPart, (parts, are, (any_front-sound (allowed m d) (names parts) front, no_body (names parts) body)))
 
-by_front : (m : Method) (d : Direction) (text : List ℕ) (parts : List (Part × ℕ)) → AreParts text parts → (t : Bool) → any_front (allowed m d) (names parts) ≡ t → Answer m d text
+by_front : (m : Method) (d : Direction) (text : List ℕ) (parts : List (Part × ℕ)) → AreParts text parts → (t : Bool)
+    → any_front (allowed m d) (names parts) ≡ t → Answer m d text
 by_front m d text parts are true front = by_body m d text parts are front (has_body (names parts)) refl
 by_front m d text parts are false other =
-    inr (Order, (parts, are, λ h. let front = any_front-whole (allowed m d) (names parts) h in let wrong : true ≡ false = sym front ∙ other in absurd (cc)))
+    inr (
+      Order,
+      (
+        parts,
+        are,
+        λ h. let front = any_front-whole (allowed m d) (names parts) h in
+            let wrong : true ≡ false = sym front ∙ other in absurd (cc),
+      ),
+    )
 
-by_parts : (m : Method) (d : Direction) (text : List ℕ) → ((items : List (List ℕ × ℕ)) × AreItems text items) → Known ((parts : List (Part × ℕ)) × AreParts text parts) → Answer m d text
+by_parts : (m : Method) (d : Direction) (text : List ℕ) → ((items : List (List ℕ × ℕ)) × AreItems text items)
+    → Known ((parts : List (Part × ℕ)) × AreParts text parts) → Answer m d text
 by_parts m d text items (inl parts) = by_front m d text parts.0 parts.1 (any_front (allowed m d) (names parts.0)) refl
 by_parts m d text items (inr none) = inr (Name, (items.0, items.1, λ parts are. none (parts, are)))
 

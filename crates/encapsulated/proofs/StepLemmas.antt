@@ -16,6 +16,7 @@ pub from_none : {A : Type 0} (P : Type 0) (r : Option A) → is_none r ≡ true 
 from_none P None e h = h
 from_none P (Some x) e h = absurd (cc)
 
-pub finish : (seen : Option Seen) (text : List ℕ) (parts : List (Part × ℕ)) → AreParts text parts → HasSeen seen parts → IfErr (ok_or seen Order) (λ fault. Unread fault text)
+pub finish : (seen : Option Seen) (text : List ℕ) (parts : List (Part × ℕ)) → AreParts text parts → HasSeen seen parts
+    → IfErr (ok_or seen Order) (λ fault. Unread fault text)
 finish None text parts are out = (parts, are, λ up. out [] (ap ascends (append-nil (names parts)) ∙ up))
 finish (Some seen) text parts are out = tt

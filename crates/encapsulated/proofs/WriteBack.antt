@@ -1,5 +1,6 @@
 -- What is written is read again.
-use Rattle.std.proofs.Common.{◌≡◌, ℕ, ◌^◌, ◌<◌, true, List, [], ◌∷◌, ◌++◌, length, refl, sym, ap, ◌∙◌, subst, Option, Some, None, append_assoc, append-nil, codes, lit<, lit≤, IfSome}
+use Rattle.std.proofs.Common.{◌≡◌, ℕ, ◌^◌, ◌<◌, true, List, [], ◌∷◌, ◌++◌, length, refl, sym, ap, ◌∙◌, subst, Option, Some, None}
+use Rattle.std.proofs.Common.{append_assoc, append-nil, codes, lit<, lit≤, IfSome}
 use Rattle.std.specs.List.{AllZip, list_all, join_by}
 use Rattle.std.proofs.lemmas.List.Sums.{AllPass-from_list_all}
 use Rattle.adapt_bytes.specs.Numeral.{numeral}
@@ -66,12 +67,15 @@ item_first : (part : Part) (offset : ℕ) (rest : List ℕ) (parts : List (Part 
 item_first part offset rest parts fits are =
     let text = item_text (part, offset) in
     let cut : comma_parts ((text ++ 44 ∷ 32 ∷ []) ++ rest) ≡ text ∷ comma_parts rest =
-    ap comma_parts (append_assoc text (44 ∷ 32 ∷ []) rest) ∙ comma_parts_plain text (32 ∷ rest) (item_plain part offset) ∙ ap (λ l. text ∷ l) (comma_parts_space rest) in
-    subst (λ l. AllZip {B = Part × ℕ} (λ item p. IsPart item p.0 p.1) l ((part, offset) ∷ parts)) (sym cut) (reads_item part offset fits, are)
+    ap comma_parts (append_assoc text (44 ∷ 32 ∷ []) rest) ∙ comma_parts_plain text (32 ∷ rest) (item_plain part offset)
+    ∙ ap (λ l. text ∷ l) (comma_parts_space rest) in
+    subst (λ l. AllZip {B = Part × ℕ} (λ item p. IsPart item p.0 p.1) l ((part, offset) ∷ parts)) (sym cut)
+    (reads_item part offset fits, are)
 
 item_last : (part : Part) (offset : ℕ) → offset < 2 ^ 64 → AreParts (item_text (part, offset)) ((part, offset) ∷ [])
 item_last part offset fits =
-    subst (λ l. AllZip {B = Part × ℕ} (λ item p. IsPart item p.0 p.1) l ((part, offset) ∷ [])) (sym (comma_parts_last (item_text (part, offset)) (item_plain part offset))) (reads_item part offset fits, tt)
+    subst (λ l. AllZip {B = Part × ℕ} (λ item p. IsPart item p.0 p.1) l ((part, offset) ∷ []))
+    (sym (comma_parts_last (item_text (part, offset)) (item_plain part offset))) (reads_item part offset fits, tt)
 
 abbrev pub Below : Option ℕ → Type 0
 Below offset = IfSome offset (λ n. n < 2 ^ 64)
@@ -88,10 +92,12 @@ three_joined : (a b c sep : List ℕ) → a ++ ((sep ++ b) ++ ((sep ++ c) ++ [])
 three_joined a b c sep = simp (append-nil, append_assoc) refl
 
 -- the text, item by item
-joined : (q r : Option ℕ) (b : Part) (o : ℕ) → join_by item_text (codes ", ") (if_there ReqHdr q ++ if_there ResHdr r ++ (b, o) ∷ []) ≡ head_text ReqHdr q ++ head_text ResHdr r ++ item_text (b, o)
+joined : (q r : Option ℕ) (b : Part) (o : ℕ) → join_by item_text (codes ", ") (if_there ReqHdr q ++ if_there ResHdr r ++ (b, o) ∷ [])
+    ≡ head_text ReqHdr q ++ head_text ResHdr r ++ item_text (b, o)
 joined None None b o = append-nil (item_text (b, o))
 joined None (Some r) b o = two_joined (item_text (ResHdr, r)) (item_text (b, o)) (codes ", ")
-joined (Some q) None b o = two_joined (item_text (ReqHdr, q)) (item_text (b, o)) (codes ", ") ∙ ap (λ t. t ++ item_text (b, o)) (sym (append-nil (item_text (ReqHdr, q) ++ codes ", ")))
+joined (Some q) None b o = two_joined (item_text (ReqHdr, q)) (item_text (b, o)) (codes ", ")
+    ∙ ap (λ t. t ++ item_text (b, o)) (sym (append-nil (item_text (ReqHdr, q) ++ codes ", ")))
 joined (Some q) (Some r) b o = three_joined (item_text (ReqHdr, q)) (item_text (ResHdr, r)) (item_text (b, o)) (codes ", ")
 
 pub written_is : (l : Layout) → written l ≡ head_text ReqHdr l.req_hdr ++ head_text ResHdr l.res_hdr ++ item_text (Body l.body, l.offset)
@@ -105,4 +111,5 @@ reads_back l req res offset =
     let all = head_first ReqHdr l.req_hdr _ _ req two in
     let text = sym (append_assoc (head_text ReqHdr l.req_hdr) (head_text ResHdr l.res_hdr) (item_text (Body l.body, l.offset))) in
     let parts = sym (append_assoc (if_there ReqHdr l.req_hdr) (if_there ResHdr l.res_hdr) ((Body l.body, l.offset) ∷ [])) in
-    subst (λ t. AreParts t (parts_of l)) (text ∙ sym (written_is l)) (subst (AreParts (head_text ReqHdr l.req_hdr ++ (head_text ResHdr l.res_hdr ++ item_text (Body l.body, l.offset)))) parts all)
+    subst (λ t. AreParts t (parts_of l)) (text ∙ sym (written_is l)) (subst
+    (AreParts (head_text ReqHdr l.req_hdr ++ (head_text ResHdr l.res_hdr ++ item_text (Body l.body, l.offset)))) parts all)

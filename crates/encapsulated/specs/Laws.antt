@@ -11,7 +11,8 @@ use Rattle.encapsulated.specs.Faults.{RefusesList}
 pub record HasOneAnswer (method : Method) (direction : Direction) (text : List ℕ) : Type 0 where
   pub some : ((layout : Layout) × IsLayout method direction text layout) ⊎ ((fault : EncFault) × RefusesList fault method direction text)
   pub one_layout : (layout other : Layout) → IsLayout method direction text layout → IsLayout method direction text other → layout ≡ other
-  pub one_fault : (fault other : EncFault) → RefusesList fault method direction text → RefusesList other method direction text → fault ≡ other
+  pub one_fault : (fault other : EncFault) → RefusesList fault method direction text → RefusesList other method direction text
+      → fault ≡ other
   pub not_both : (layout : Layout) (fault : EncFault) → IsLayout method direction text layout → ¬ (RefusesList fault method direction text)
 
 -- each offset is a number that a list can say

@@ -1,5 +1,6 @@
 -- Users that are handed out, one after another.
-use Rattle.std.proofs.Common.{◌≡◌, ℕ, zero, suc, ◌+◌, ◌<◌, ◌≤◌, ◌%◌, ◌⊎◌, inl, inr, Bool, false, List, [], ◌++◌, refl, ap, sym, ◌∙◌, subst, append_assoc, append-nil, arith}
+use Rattle.std.proofs.Common.{◌≡◌, ℕ, zero, suc, ◌+◌, ◌<◌, ◌≤◌, ◌%◌, ◌⊎◌, inl, inr, Bool, false, List, [], ◌++◌, refl, ap, sym, ◌∙◌, subst}
+use Rattle.std.proofs.Common.{append_assoc, append-nil, arith}
 use Rattle.std.specs.Prelude.{nat_eq}
 use Rattle.event_loop.specs.declared.mail.Mail.{Ghosts as Mail}
 use Rattle.event_loop.specs.Sendings.{Sending}
@@ -10,21 +11,26 @@ le_or_less zero m = inl (omega arith)
 le_or_less (suc n) zero = inr (omega arith)
 le_or_less (suc n) (suc m) = elim (le_or_less n m) [ inl h ↦ inl (omega (arith, h)) | inr h ↦ inr (omega (arith, h)) ]
 
-pub sends_then : {M : Type 0} (w : Mail M) (a b c : M) (first second : List Sending) → Sends w a b first → Sends w b c second → Sends w a c (second ++ first)
-sends_then w a b c first second f s past h = subst (λ (sent : List Sending). w.past c sent) (sym (append_assoc second first past)) (s (first ++ past) (f past h))
+pub sends_then : {M : Type 0} (w : Mail M) (a b c : M) (first second : List Sending) → Sends w a b first → Sends w b c second
+    → Sends w a c (second ++ first)
+sends_then w a b c first second f s past h = subst (λ (sent : List Sending). w.past c sent) (sym (append_assoc second first past))
+    (s (first ++ past) (f past h))
 
 pub sends_same : {M : Type 0} (w : Mail M) (a b : M) → b ≡ a → Sends w a b []
 sends_same {M} w a b e past h = subst (λ (m : M). w.past m past) (sym e) h
 
-handed_more : (own to number : ℕ) (sendings more : List Sending) → IsHandedTo own to number sendings → IsHandedTo own to number (more ++ sendings)
+handed_more : (own to number : ℕ) (sendings more : List Sending) → IsHandedTo own to number sendings
+    → IsHandedTo own to number (more ++ sendings)
 handed_more own to number sendings more h = record {
   alone = h.alone;
   later = more ++ h.later;
   before = h.before;
-  is = ap (λ (sent : List Sending). more ++ sent) h.is ∙ sym (append_assoc more h.later (hands (nat_eq to own) to number h.alone ++ h.before));
+  is = ap (λ (sent : List Sending). more ++ sent) h.is ∙ sym (append_assoc more h.later
+      (hands (nat_eq to own) to number h.alone ++ h.before));
 }
 
-handed_older : (own to number : ℕ) (sendings older : List Sending) → IsHandedTo own to number sendings → IsHandedTo own to number (sendings ++ older)
+handed_older : (own to number : ℕ) (sendings older : List Sending) → IsHandedTo own to number sendings
+    → IsHandedTo own to number (sendings ++ older)
 handed_older own to number sendings older h = record {
   alone = h.alone;
   later = h.later;
@@ -94,20 +100,25 @@ hands_then w a b c own loops first mid last one two came f s both = record {
 }
 
 -- so where the loop whose turn it is has a name
-pub one_handed_to : {M : Type 0} (w : Mail M) (a b : M) (own loops first last : ℕ) (came : Bool) (to : ℕ) → last ≤ first + 1 → to ≡ last % loops
-    → (alone : Bool) × Sends w a b (hands (nat_eq to own) to last alone) → (came ≡ false → to ≡ own → ⊥) → HandsOut w a b own loops first last came
+pub one_handed_to : {M : Type 0} (w : Mail M) (a b : M) (own loops first last : ℕ) (came : Bool) (to : ℕ) → last ≤ first + 1
+    → to ≡ last % loops
+    → (alone : Bool) × Sends w a b (hands (nat_eq to own) to last alone) → (came ≡ false → to ≡ own → ⊥)
+    → HandsOut w a b own loops first last came
 one_handed_to w a b own loops first last came to one e sent other =
-    one_handed w a b own loops first last came one (subst (λ (t : ℕ). (alone : Bool) × Sends w a b (hands (nat_eq t own) t last alone)) e sent)
+    one_handed w a b own loops first last came one (subst (λ (t : ℕ). (alone : Bool) × Sends w a b (hands (nat_eq t own) t last alone)) e
+    sent)
     (λ none same. other none (e ∙ same))
 
 -- a loop was asked for room, if there is one
 pub asked_for_room : {M : Type 0} (w : Mail M) (a b : M) (own loops first last : ℕ) (came : Bool) (to : ℕ) → last ≡ first
     → (0 < loops → Sends w a b (asks (nat_eq to own) to)) → (loops ≡ 0 → Sends w a b []) → HandsOut w a b own loops first last came
 asked_for_room w a b own zero first last came to same some none = none_handed w a b own zero first last came [] same (none refl)
-asked_for_room w a b own (suc n) first last came to same some none = none_handed w a b own (suc n) first last came (asks (nat_eq to own) to) same (some (omega arith))
+asked_for_room w a b own (suc n) first last came to same some none =
+    none_handed w a b own (suc n) first last came (asks (nat_eq to own) to) same (some (omega arith))
 
 -- others after some, where the numbers go on
-pub hands_on : {M : Type 0} (w : Mail M) (a b c : M) (own loops others first mid from last : ℕ) (one two came : Bool) → others ≡ loops → from ≡ mid
+pub hands_on : {M : Type 0} (w : Mail M) (a b c : M) (own loops others first mid from last : ℕ) (one two came : Bool) → others ≡ loops
+    → from ≡ mid
     → HandsOut w a b own loops first mid one → HandsOut w b c own others from last two → (came ≡ false → (one ≡ false) × (two ≡ false))
     → HandsOut w a c own loops first last came
 hands_on w a b c own loops others first mid from last one two came e1 e2 f s both =

@@ -1,5 +1,6 @@
 -- The turns of a loop, one after another.
-use Rattle.std.proofs.Common.{◌≡◌, ℕ, ◌≤◌, ◌⊎◌, inl, inr, Bool, true, false, cond, List, [], ◌∷◌, ◌++◌, refl, ap, sym, ◌∙◌, subst, append_assoc, arith}
+use Rattle.std.proofs.Common.{◌≡◌, ℕ, ◌≤◌, ◌⊎◌, inl, inr, Bool, true, false, cond, List, [], ◌∷◌, ◌++◌, refl, ap, sym, ◌∙◌, subst}
+use Rattle.std.proofs.Common.{append_assoc, arith}
 use Rattle.std.specs.Prelude.{nat_eq, ⊤}
 use Rattle.std.proofs.lemmas.Bool.Decides.{eqb_tells}
 use Rattle.event_loop.specs.Marks.{is_marked, count}
@@ -8,7 +9,8 @@ use Rattle.event_loop.specs.declared.work.Work.{Ghosts as Work}
 use Rattle.event_loop.specs.declared.looping.EventLoop.{EventLoop}
 use Rattle.event_loop.specs.Deeds.{Deed, is_end}
 use Rattle.event_loop.specs.Deeds.Deed.{Drove, EndedTurn, Halted}
-use Rattle.event_loop.specs.Turns.{owes, ends, waits, drives, AreOrderly, IsTied, Works, WorksOn, Ran, Does, Did, Stands, IsDriven, ServesRound, polled}
+use Rattle.event_loop.specs.Turns.{owes, ends, waits, drives, AreOrderly, IsTied, Works, WorksOn, Ran, Does, Did, Stands, IsDriven}
+use Rattle.event_loop.specs.Turns.{ServesRound, polled}
 use Rattle.event_loop.proofs.Turning.{no, neither, ends_then, orderly_more, owes_then, works_then, works_same, stands_more, stands_newest}
 
 cond_false : (b x : Bool) → x ≡ false → cond b false x ≡ false
@@ -103,7 +105,8 @@ run_turn w a b c d h tied did ended ready =
     record {
       deeds = EndedTurn ∷ (round ++ before);
       runs = record {
-        works = works_then w a.work c.work d.work (round ++ before) (EndedTurn ∷ []) (works_then w a.work b.work c.work before round r.works did.does.works) ended;
+        works = works_then w a.work c.work d.work (round ++ before) (EndedTurn ∷ [])
+            (works_then w a.work b.work c.work before round r.works did.does.works) ended;
         marks = ap (λ m. count m) ready ∙ (did.does.marks ∙ r.marks);
         owed = owed;
         waiting = owed;
@@ -112,7 +115,8 @@ run_turn w a b c d h tied did ended ready =
     }
 
 -- a round that is the last one
-pub run_over : {K : Type 0} (w : Work K) (a b c : EventLoop K) {P : List Deed → Type 0} → HasRun w a b → Did w (polled b c) c P → Ran w a.work c.work (λ deeds. ⊤)
+pub run_over : {K : Type 0} (w : Work K) (a b c : EventLoop K) {P : List Deed → Type 0} → HasRun w a b → Did w (polled b c) c P
+    → Ran w a.work c.work (λ deeds. ⊤)
 run_over w a b c h did = record {
   deeds = did.deeds ++ h.deeds;
   works = works_then w a.work b.work c.work h.deeds did.deeds h.runs.works did.does.works;
@@ -121,7 +125,8 @@ run_over w a b c h did = record {
 }
 
 -- all exchanges were ended after that, and some were driven on
-pub ran_out : {K : Type 0} (w : Work K) (a b c d : K) {P : List Deed → Type 0} → Ran w a b P → Works w b c (Halted ∷ []) → WorksOn w c d → Ran w a d (Stands Halted)
+pub ran_out : {K : Type 0} (w : Work K) (a b c d : K) {P : List Deed → Type 0} → Ran w a b P → Works w b c (Halted ∷ []) → WorksOn w c d
+    → Ran w a d (Stands Halted)
 ran_out w a b c d r halted on = record {
   deeds = on.deeds ++ (Halted ∷ r.deeds);
   works = works_then w a c d (Halted ∷ r.deeds) on.deeds (works_then w a b c r.deeds (Halted ∷ []) r.works halted) on.works;
@@ -152,7 +157,8 @@ pub on_did : {K : Type 0} (w : Work K) (a b : EventLoop K) {P : List Deed → Ty
 on_did w a b d = on_does w a b d.does
 
 -- the same of works that are the same
-pub ran_same : {K : Type 0} (w : Work K) (a b c d : K) {P Q : List Deed → Type 0} → b ≡ a → d ≡ c → ((deeds : List Deed) → P deeds → Q deeds) → Ran w b c P → Ran w a d Q
+pub ran_same : {K : Type 0} (w : Work K) (a b c d : K) {P Q : List Deed → Type 0} → b ≡ a → d ≡ c
+    → ((deeds : List Deed) → P deeds → Q deeds) → Ran w b c P → Ran w a d Q
 ran_same {K} w a b c d from to holds r = record {
   deeds = r.deeds;
   works = subst (λ (k : K). Works w k d r.deeds) from (subst (λ (k : K). Works w b k r.deeds) (sym to) r.works);

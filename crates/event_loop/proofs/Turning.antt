@@ -1,5 +1,7 @@
 -- Calls of a loop, one after another.
-use Rattle.std.proofs.Common.{◌≡◌, ℕ, ◌+◌, ◌<◌, ◌≤◌, ◌⊎◌, ◌||◌, below_more, zero, suc, get_or, Result, Ok, Err, IsErr, OnOk, IfOk, inl, inr, Some, None, Bool, true, false, cond, List, [], ◌∷◌, ◌++◌, length, refl, ap, sym, ◌∙◌, subst, append_assoc, arith}
+use Rattle.std.proofs.Common.{◌≡◌, ℕ, ◌+◌, ◌<◌, ◌≤◌, ◌⊎◌, ◌||◌, below_more, zero, suc, get_or, Result, Ok, Err, IsErr, OnOk, IfOk, inl, inr}
+use Rattle.std.proofs.Common.{Some, None, Bool, true, false, cond, List, [], ◌∷◌, ◌++◌, length, refl, ap, sym, ◌∙◌, subst, append_assoc}
+use Rattle.std.proofs.Common.{arith}
 use Rattle.std.specs.Prelude.{nat_eq, slice_index_or, ⊤}
 use Rattle.std.proofs.lemmas.Bool.Decides.{eqb_tells}
 use Rattle.event_loop.specs.declared.ready_list.ReadyList.{ReadyList}
@@ -10,10 +12,12 @@ use Rattle.event_loop.specs.declared.work.Work.{Ghosts as Work}
 use Rattle.event_loop.specs.declared.looping.EventLoop.{EventLoop}
 use Rattle.event_loop.specs.Deeds.{Deed, Adds, has_more, is_end, blocker}
 use Rattle.event_loop.specs.Deeds.Deed.{TookIn, MadeRoom, Heard, Noted, Drove, GaveWay, Asked, Answered, EndedTurn, Drained, Halted}
-use Rattle.event_loop.specs.Turns.{owes, owes_after, ends, Follows, AreOrderly, IsTied, Works, Does, Did, Answers, Stands, IsDriven, Drives, Gets, IsDue, ways}
+use Rattle.event_loop.specs.Turns.{owes, owes_after, ends, Follows, AreOrderly, IsTied, Works, Does, Did, Answers, Stands, IsDriven, Drives}
+use Rattle.event_loop.specs.Turns.{Gets, IsDue, ways}
 
 -- deeds of a work, one after another
-pub works_then : {K : Type 0} (w : Work K) (a b c : K) (first second : List Deed) → Works w a b first → Works w b c second → Works w a c (second ++ first)
+pub works_then : {K : Type 0} (w : Work K) (a b c : K) (first second : List Deed) → Works w a b first → Works w b c second
+    → Works w a c (second ++ first)
 works_then {K} w a b c first second f s = record {
   past = λ past h. subst (λ (ds : List Deed). w.past c ds) (sym (append_assoc second first past)) (s.past (first ++ past) (f.past past h));
   bound = s.bound ∙ f.bound;
@@ -27,7 +31,8 @@ works_same {K} w a b e = record {
   queues = ap (λ (k : K). w.queues k) e;
 }
 
-pub works_one : {K : Type 0} (w : Work K) (a b : K) (deed : Deed) → Adds (w.past a) (w.past b) deed → (w.bound b ≡ w.bound a) × (w.queues b ≡ w.queues a) → Works w a b (deed ∷ [])
+pub works_one : {K : Type 0} (w : Work K) (a b : K) (deed : Deed) → Adds (w.past a) (w.past b) deed
+    → (w.bound b ≡ w.bound a) × (w.queues b ≡ w.queues a) → Works w a b (deed ∷ [])
 works_one w a b deed past kept = record { past = past; bound = kept.0; queues = kept.1 }
 
 pub no : false ≡ true → ⊥
@@ -118,7 +123,8 @@ tied_then w a b d tied =
     after
 
 -- a loop whose work, marks and reports stay did nothing
-pub does_nothing : {K : Type 0} (w : Work K) (a b : EventLoop K) → b.work ≡ a.work → b.ready ≡ a.ready → b.reports ≡ a.reports → Does w a b []
+pub does_nothing : {K : Type 0} (w : Work K) (a b : EventLoop K) → b.work ≡ a.work → b.ready ≡ a.ready → b.reports ≡ a.reports
+    → Does w a b []
 does_nothing w a b work ready reports = record {
   works = works_same w a.work b.work work;
   owed = λ tied key h. ap (λ r. is_marked r key) ready ∙ h;
@@ -129,7 +135,8 @@ does_nothing w a b work ready reports = record {
 }
 
 -- one call after another
-pub does_then : {K : Type 0} (w : Work K) (a b c : EventLoop K) (first second : List Deed) → Does w a b first → Does w b c second → Does w a c (second ++ first)
+pub does_then : {K : Type 0} (w : Work K) (a b c : EventLoop K) (first second : List Deed) → Does w a b first → Does w b c second
+    → Does w a c (second ++ first)
 does_then w a b c first second f s = record {
   works = works_then w a.work b.work c.work first second f.works s.works;
   owed = λ tied key h.
@@ -142,7 +149,8 @@ does_then w a b c first second f s = record {
 
 -- so for deeds of which something is known
 pub did_then : {K : Type 0} (w : Work K) (a b c : EventLoop K) {P Q R : List Deed → Type 0} → Did w a b P → Did w b c Q
-    → ((first second : List Deed) → Does w a b first → Does w b c second → IsTied w b → P first → Q second → R (second ++ first)) → Did w a c R
+    → ((first second : List Deed) → Does w a b first → Does w b c second → IsTied w b → P first → Q second → R (second ++ first))
+    → Did w a c R
 did_then w a b c f s both = record {
   deeds = s.deeds ++ f.deeds;
   does = does_then w a b c f.deeds s.deeds f.does s.does;
@@ -151,13 +159,15 @@ did_then w a b c f s both = record {
       both f.deeds s.deeds f.does s.does after (f.holds tied) (s.holds after);
 }
 
-pub did_is : {K : Type 0} (w : Work K) (a b : EventLoop K) {P : List Deed → Type 0} (deeds : List Deed) → Does w a b deeds → P deeds → Did w a b P
+pub did_is : {K : Type 0} (w : Work K) (a b : EventLoop K) {P : List Deed → Type 0} (deeds : List Deed) → Does w a b deeds → P deeds
+    → Did w a b P
 did_is w a b deeds d p = record { deeds = deeds; does = d; holds = λ tied. p }
 
 pub did_start : {K : Type 0} (w : Work K) (a : EventLoop K) {P : List Deed → Type 0} → P [] → Did w a a P
 did_start w a p = did_is w a a [] (does_nothing w a a refl refl refl) p
 
-pub did_same : {K : Type 0} (w : Work K) (a b : EventLoop K) {P Q : List Deed → Type 0} → Did w a b P → ((deeds : List Deed) → P deeds → Q deeds) → Did w a b Q
+pub did_same : {K : Type 0} (w : Work K) (a b : EventLoop K) {P Q : List Deed → Type 0} → Did w a b P
+    → ((deeds : List Deed) → P deeds → Q deeds) → Did w a b Q
 did_same w a b d h = record { deeds = d.deeds; does = d.does; holds = λ tied. h d.deeds (d.holds tied) }
 
 -- two calls, of which nothing is asked
@@ -165,11 +175,13 @@ pub did_and : {K : Type 0} (w : Work K) (a b c : EventLoop K) {P Q : List Deed �
 did_and w a b c f s = did_then w a b c f s (λ first second f d tied p q. tt)
 
 -- a call of which the deeds are known, after others
-pub did_more : {K : Type 0} (w : Work K) (a b c : EventLoop K) {deeds : List Deed} {P : List Deed → Type 0} → Did w a b P → Does w b c deeds → Did w a c (λ _. ⊤)
+pub did_more : {K : Type 0} (w : Work K) (a b c : EventLoop K) {deeds : List Deed} {P : List Deed → Type 0} → Did w a b P → Does w b c deeds
+    → Did w a c (λ _. ⊤)
 did_more w a b c {deeds = ds} f d = record { deeds = ds ++ f.deeds; does = does_then w a b c f.deeds ds f.does d; holds = λ tied. tt }
 
 -- a call of which the deeds are known, and then others
-pub did_behind : {K : Type 0} (w : Work K) (a b c : EventLoop K) {deeds : List Deed} {P : List Deed → Type 0} → Does w a b deeds → Did w b c P → Did w a c (λ _. ⊤)
+pub did_behind : {K : Type 0} (w : Work K) (a b c : EventLoop K) {deeds : List Deed} {P : List Deed → Type 0} → Does w a b deeds
+    → Did w b c P → Did w a c (λ _. ⊤)
 did_behind w a b c {deeds = ds} d s = record { deeds = s.deeds ++ ds; does = does_then w a b c ds s.deeds d s.does; holds = λ tied. tt }
 
 pub vacuous : {T E : Type 0} (P : Type 0) (r : Result T E) → IsErr r → OnOk r P
@@ -181,11 +193,13 @@ vacuous_if P (Ok x) h = absurd (no h)
 vacuous_if P (Err e) h = tt
 
 -- a call failed
-pub did_fail : {K : Type 0} (w : Work K) (a b : EventLoop K) {P : List Deed → Type 0} (R : List Deed → Type 0) {T E : Type 0} (r : Result T E) → IsErr r
+pub did_fail : {K : Type 0} (w : Work K) (a b : EventLoop K) {P : List Deed → Type 0} (R : List Deed → Type 0) {T E : Type 0}
+    (r : Result T E) → IsErr r
     → Did w a b P → Did w a b (λ deeds. OnOk r (R deeds))
 did_fail w a b R r err f = did_same w a b f (λ deeds p. vacuous (R deeds) r err)
 
-pub did_fail_if : {K : Type 0} (w : Work K) (a b : EventLoop K) {P : List Deed → Type 0} {T E : Type 0} (R : List Deed → T → Type 0) (r : Result T E) → IsErr r
+pub did_fail_if : {K : Type 0} (w : Work K) (a b : EventLoop K) {P : List Deed → Type 0} {T E : Type 0} (R : List Deed → T → Type 0)
+    (r : Result T E) → IsErr r
     → Did w a b P → Did w a b (λ deeds. IfOk r (R deeds))
 did_fail_if w a b R r err f = did_same w a b f (λ deeds p. vacuous_if (R deeds) r err)
 
@@ -293,7 +307,8 @@ did_mark w a b deed key past still kept there marked others marks reports due =
     }
 
 -- answers to the administrator change no mark
-pub did_answer : {K : Type 0} (w : Work K) (a b : EventLoop K) → Answers w a.work b.work → b.ready ≡ a.ready → b.reports ≡ a.reports → Did w a b (λ _. ⊤)
+pub did_answer : {K : Type 0} (w : Work K) (a b : EventLoop K) → Answers w a.work b.work → b.ready ≡ a.ready → b.reports ≡ a.reports
+    → Did w a b (λ _. ⊤)
 did_answer w a b h ready reports = record {
   deeds = h.deeds;
   does = record {
@@ -323,7 +338,8 @@ answers_then w a b c f s = record {
   orderly = orderly_more s.deeds f.deeds s.within s.orderly f.orderly;
 }
 
-pub answers_one : {K : Type 0} (w : Work K) (a b : K) (deed : Deed) → Adds (w.past a) (w.past b) deed → ((x : Bool) (key : ℕ) → (owes_after x key deed ≡ x) × (is_end deed ≡ false) × Follows deed [])
+pub answers_one : {K : Type 0} (w : Work K) (a b : K) (deed : Deed) → Adds (w.past a) (w.past b) deed
+    → ((x : Bool) (key : ℕ) → (owes_after x key deed ≡ x) × (is_end deed ≡ false) × Follows deed [])
     → (w.bound b ≡ w.bound a) × (w.queues b ≡ w.queues a) → Answers w a b
 answers_one w a b deed past still kept = record {
   deeds = deed ∷ [];
@@ -362,10 +378,12 @@ pub drives_driven : (key : ℕ) {deeds : List Deed} → Drives key deeds → IsD
 drives_driven key d = (d.driven, record { later = ways d.driven; before = []; is = d.is })
 
 driven_now : (other key : ℕ) (driven : Driven) (deeds : List Deed) → other ≡ key → IsDriven key (Drove other driven ∷ deeds)
-driven_now other key driven deeds e = subst (λ (n : ℕ). IsDriven n (Drove other driven ∷ deeds)) e (driven, stands_newest (Drove other driven) deeds)
+driven_now other key driven deeds e = subst (λ (n : ℕ). IsDriven n (Drove other driven ∷ deeds)) e
+    (driven, stands_newest (Drove other driven) deeds)
 
 -- one that is owed a turn was driven in the meantime, or is owed its turn still
-owed_step : (x : Bool) (key : ℕ) (deed : Deed) (deeds : List Deed) → IsDriven key deeds ⊎ (owes x key deeds ≡ true) → IsDriven key (deed ∷ deeds) ⊎ (owes x key (deed ∷ deeds) ≡ true)
+owed_step : (x : Bool) (key : ℕ) (deed : Deed) (deeds : List Deed) → IsDriven key deeds ⊎ (owes x key deeds ≡ true)
+    → IsDriven key (deed ∷ deeds) ⊎ (owes x key (deed ∷ deeds) ≡ true)
 owed_step x key deed deeds (inl d) = inl (driven_more key (deed ∷ []) d)
 owed_step x key (Drove other driven) deeds (inr e) =
     elim (eqb_tells other key) [
@@ -388,7 +406,8 @@ driven_or_owed x key [] e = inr e
 driven_or_owed x key (deed ∷ deeds) e = owed_step x key deed deeds (driven_or_owed x key deeds e)
 
 -- one with a mark gets its turn in later calls, or has a mark still
-pub marked_gets : {K : Type 0} (w : Work K) (b c : EventLoop K) (key : ℕ) (more : List Deed) → Does w b c more → IsTied w b → is_marked b.ready key ≡ true → Gets key more c.ready
+pub marked_gets : {K : Type 0} (w : Work K) (b c : EventLoop K) (key : ℕ) (more : List Deed) → Does w b c more → IsTied w b
+    → is_marked b.ready key ≡ true → Gets key more c.ready
 marked_gets w b c key more d tied marked =
     elim (driven_or_owed (is_marked b.ready key) key more marked) as (λ _. Gets key more c.ready) [
       | inl driven ↦ inl driven
@@ -396,7 +415,8 @@ marked_gets w b c key more d tied marked =
     ]
 
 -- so with the deeds before
-pub gets_more : {K : Type 0} (w : Work K) (b c : EventLoop K) (key : ℕ) {deeds : List Deed} (more : List Deed) → Does w b c more → IsTied w b → Gets key deeds b.ready → Gets key (more ++ deeds) c.ready
+pub gets_more : {K : Type 0} (w : Work K) (b c : EventLoop K) (key : ℕ) {deeds : List Deed} (more : List Deed) → Does w b c more
+    → IsTied w b → Gets key deeds b.ready → Gets key (more ++ deeds) c.ready
 gets_more w b c key more d tied (inl driven) = inl (driven_more key more driven)
 gets_more w b c key {deeds} more d tied (inr marked) =
     elim (marked_gets w b c key more d tied marked) as (λ _. Gets key (more ++ deeds) c.ready) [
@@ -404,11 +424,13 @@ gets_more w b c key {deeds} more d tied (inr marked) =
       | inr still ↦ inr still
     ]
 
-pub gets_older : (key : ℕ) {deeds : List Deed} (ready : ReadyList) (older : List Deed) → Gets key deeds ready → Gets key (deeds ++ older) ready
+pub gets_older : (key : ℕ) {deeds : List Deed} (ready : ReadyList) (older : List Deed) → Gets key deeds ready
+    → Gets key (deeds ++ older) ready
 gets_older key ready older (inl driven) = inl (driven_older key older driven)
 gets_older key ready older (inr marked) = inr marked
 
-pub due_more : {K : Type 0} (w : Work K) (b c : EventLoop K) (key : ℕ) {deed : Deed} {deeds : List Deed} (more : List Deed) → Does w b c more → IsTied w b
+pub due_more : {K : Type 0} (w : Work K) (b c : EventLoop K) (key : ℕ) {deed : Deed} {deeds : List Deed} (more : List Deed)
+    → Does w b c more → IsTied w b
     → IsDue key deed deeds b.ready → IsDue key deed (more ++ deeds) c.ready
 due_more w b c key {deed} more d tied h = record {
   later = more ++ h.later;
@@ -417,7 +439,8 @@ due_more w b c key {deed} more d tied h = record {
   gets = gets_more w b c key more d tied h.gets;
 }
 
-pub due_older : (key : ℕ) {deed : Deed} {deeds : List Deed} (ready : ReadyList) (older : List Deed) → IsDue key deed deeds ready → IsDue key deed (deeds ++ older) ready
+pub due_older : (key : ℕ) {deed : Deed} {deeds : List Deed} (ready : ReadyList) (older : List Deed) → IsDue key deed deeds ready
+    → IsDue key deed (deeds ++ older) ready
 due_older key {deed} ready older h = record {
   later = h.later;
   before = h.before ++ older;
@@ -440,12 +463,14 @@ did_due w a m b deed key first s = record {
 }
 
 -- so where the drive may fail
-pub did_due_ok : {K : Type 0} (w : Work K) (a m b : EventLoop K) (deed : Deed) (key : ℕ) {T E : Type 0} (r : Result T E) → Does w a m (deed ∷ [])
+pub did_due_ok : {K : Type 0} (w : Work K) (a m b : EventLoop K) (deed : Deed) (key : ℕ) {T E : Type 0} (r : Result T E)
+    → Does w a m (deed ∷ [])
     → Did w m b (λ deeds. OnOk r (Gets key deeds b.ready)) → Did w a b (λ deeds. OnOk r (IsDue key deed deeds b.ready))
 did_due_ok w a m b deed key r first s = record {
   deeds = s.deeds ++ (deed ∷ []);
   does = does_then w a m b (deed ∷ []) s.deeds first s.does;
-  holds = λ tied. on_ok_map r (λ gets. record { later = s.deeds; before = []; is = refl; gets = gets }) (s.holds (tied_then w a m first tied));
+  holds = λ tied. on_ok_map r (λ gets. record { later = s.deeds; before = []; is = refl; gets = gets })
+      (s.holds (tied_then w a m first tied));
 }
 
 -- one exchange more gets a turn
@@ -453,7 +478,8 @@ pub gets_below : {K : Type 0} (w : Work K) (b c : EventLoop K) (n : ℕ) (first 
     → ((key : ℕ) → key < n → Gets key first b.ready) → Gets n second c.ready
     → (key : ℕ) → key < n + 1 → Gets key (second ++ first) c.ready
 gets_below w b c n first second d tied below one =
-    below_more (λ key. Gets key (second ++ first) c.ready) n (λ key less. gets_more w b c key second d tied (below key less)) (gets_older n c.ready first one)
+    below_more (λ key. Gets key (second ++ first) c.ready) n (λ key less. gets_more w b c key second d tied (below key less))
+    (gets_older n c.ready first one)
 
 -- whom a drive owes a turn it owes it whatever it was owed before
 owes_last : (x y : Bool) (key k : ℕ) (driven : Driven) (later : List Deed) → ((k ≡ key → ⊥) → y ≡ x)
@@ -528,7 +554,8 @@ ready_still w a b n did unset =
     did_same w a b did (λ deeds p key was. (
       (p key was).0,
       λ less. below_more (λ k. is_marked a.ready k ≡ true → IsDriven k deeds) n (λ k below was. (p k was).1 below)
-          (λ was. elim (p n was).0 as (λ _. IsDriven n deeds) [ inl driven ↦ driven | inr marked ↦ absurd (no (sym unset ∙ marked)) ]) key less was,
+          (λ was. elim (p n was).0 as (λ _. IsDriven n deeds) [ inl driven ↦ driven | inr marked ↦ absurd (no (sym unset ∙ marked)) ]) key
+          less was,
     ))
 
 below_count : (xs : List Bool) (key : ℕ) → get_or xs key false ≡ true → key < length xs

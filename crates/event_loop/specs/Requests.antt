@@ -1,5 +1,6 @@
 -- What the lines of the admin port ask for, and requests for the counters over HTTP.
-use Rattle.std.specs.Prelude.{◌≡◌, ◌≢◌, ℕ, ◌≤◌, ◌<◌, ◌⊎◌, ◌||◌, ◌==◌, Bool, List, Some, ◌++◌, length, slice_get, slice_index, take, codes, IsTrue}
+use Rattle.std.specs.Prelude.{◌≡◌, ◌≢◌, ℕ, ◌≤◌, ◌<◌, ◌⊎◌, ◌||◌, ◌==◌, Bool, List, Some, ◌++◌, length, slice_get, slice_index, take, codes}
+use Rattle.std.specs.Prelude.{IsTrue}
 use Rattle.std.specs.Char.{is_ascii_uppercase}
 use Rattle.std.specs.Str.{str_eq_ignore_ascii_case}
 use Rattle.span_bank.specs.declared.limits.TheConstants.{MAX_CAPACITY}
@@ -9,7 +10,8 @@ use Rattle.exchange_report.specs.Live.{SpellsId}
 use Rattle.event_loop.specs.declared.admin_lines.Question.{Question}
 use Rattle.event_loop.specs.declared.admin_lines.Question.TheVariants.{Exchanges, Waiting, Trace}
 use Rattle.event_loop.specs.declared.admin_lines.Request.{Request}
-use Rattle.event_loop.specs.declared.admin_lines.Request.TheVariants.{Book, Capacity, Drain, Stats, Reopen, Refresh, Reload, Stop, Show, Bad}
+use Rattle.event_loop.specs.declared.admin_lines.Request.TheVariants.{Book, Capacity, Drain, Stats, Reopen, Refresh, Reload, Stop, Show}
+use Rattle.event_loop.specs.declared.admin_lines.Request.TheVariants.{Bad}
 use Rattle.event_loop.specs.declared.scrape.Scrape.{Scrape}
 use Rattle.event_loop.specs.declared.scrape.Scrape.TheVariants as scrapes
 
@@ -48,7 +50,8 @@ Asks line Reload = line ≡ codes "reload"
 Asks line Stop = line ≡ codes "stop"
 Asks line (Capacity n) = AsksForSize line n
 Asks line (Show question) = AsksAbout line question
-Asks line Bad = (line ≢ codes "book") × (line ≢ codes "drain") × (line ≢ codes "stats") × (line ≢ codes "reopen") × (line ≢ codes "refresh") × (line ≢ codes "reload") × (line ≢ codes "stop") × ((n : ℕ) → AsksForSize line n → ⊥) × AsksNothing line
+Asks line Bad = (line ≢ codes "book") × (line ≢ codes "drain") × (line ≢ codes "stats") × (line ≢ codes "reopen") × (line ≢ codes "refresh")
+    × (line ≢ codes "reload") × (line ≢ codes "stop") × ((n : ℕ) → AsksForSize line n → ⊥) × AsksNothing line
 
 -- a byte of a method as all registered ones are written: a capital letter or a hyphen (RFC 9110, section 9.1)
 abbrev pub is_method_byte : ℕ → Bool

@@ -9,8 +9,10 @@ use Rattle.event_loop.specs.declared.sparing.TheConstants.{YOUNG}
 abbrev pub youth : (heads seats : ℕ) → ℕ
 youth heads seats = if nat_lt seats (2 * heads) then 0 else YOUNG
 
--- a connection whose stay is this, and whose user came this number of milliseconds ago, has this rank: users that have ended their side come
--- first, then idle ones, then those whose head isn't whole, and last those at their end; an exchange, and a user that has just come, has none
+-- a connection whose stay is this, and whose user came this number of milliseconds ago, has this rank: users that have ended
+-- their side come
+-- first, then idle ones, then those whose head isn't whole, and last those at their end; an exchange, and a user that has just
+-- come, has none
 abbrev pub IsRank : Stay → (age youth rank : ℕ) → Type 0
 IsRank Exchange age youth rank = ⊥
 IsRank Ended age youth rank = rank ≡ 0

@@ -1,5 +1,6 @@
 -- What a loop did in a call: its deeds, and whom it owes another turn.
-use Rattle.std.specs.Prelude.{◌≡◌, ℕ, ◌+◌, ◌*◌, ◌≤◌, ◌<◌, ◌⊎◌, ◌||◌, ⊤, Bool, true, false, cond, nat_eq, nat_lt, length, List, [], ◌∷◌, ◌++◌, All, map, ◌/◌, Option, Some, None}
+use Rattle.std.specs.Prelude.{◌≡◌, ℕ, ◌+◌, ◌*◌, ◌≤◌, ◌<◌, ◌⊎◌, ◌||◌, ⊤, Bool, true, false, cond, nat_eq, nat_lt, length, List, [], ◌∷◌}
+use Rattle.std.specs.Prelude.{◌++◌, All, map, ◌/◌, Option, Some, None}
 use Rattle.mio.specs.Events.{items}
 use Rattle.socket_wire.specs.declared.token.Peer.{Peer}
 use Rattle.socket_wire.specs.Token.{peer_number}
@@ -52,7 +53,8 @@ abbrev pub waits : ℕ → List Deed → Bool
 waits key [] = false
 waits key (deed ∷ deeds) = cond (is_end deed) (owes false key deeds) (cond (drives key deed) false (waits key deeds))
 
--- a deed may be done after those: a turn ends once each exchange was driven that was owed one where the turn before it ended, and an exchange
+-- a deed may be done after those: a turn ends once each exchange was driven that was owed one where the turn before it ended, and
+-- an exchange
 -- gives way only to one that was driven just now, and is blocked by it
 abbrev pub Follows : Deed → List Deed → Type 0
 Follows EndedTurn deeds = (key : ℕ) → waits key deeds ≡ false

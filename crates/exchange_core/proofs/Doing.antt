@@ -2,7 +2,11 @@
 use Rattle.std.proofs.Common.{◌≡◌, ◌||◌, true, false, List, subst, arith}
 use Rattle.std.proofs.lemmas.Bool.Decides.{nat_tests}
 use Rattle.exchange_core.specs.declared.event.Event.{Event}
-use Rattle.exchange_core.specs.declared.event.Event.TheVariants.{HeadBegun, RequestRead, ResponseRead, Stale, Queued, Lent, Asked, Learned, Planned, Reserved, HalfTold, Stuck, Told, Dialed, Started, LetPass, Renewed, Served, Begun, Sent, Heard, Withdrawn, Answered, Failed, Returned, Released, HungUp, Refused, UserClosed, UserLost, Dropped, Late, Drain, Stop, Tried}
+use Rattle.exchange_core.specs.declared.event.Event.TheVariants.{HeadBegun, RequestRead, ResponseRead, Stale, Queued, Lent, Asked, Learned}
+use Rattle.exchange_core.specs.declared.event.Event.TheVariants.{Planned, Reserved, HalfTold, Stuck, Told, Dialed, Started, LetPass}
+use Rattle.exchange_core.specs.declared.event.Event.TheVariants.{Renewed, Served, Begun, Sent, Heard, Withdrawn, Answered, Failed, Returned}
+use Rattle.exchange_core.specs.declared.event.Event.TheVariants.{Released, HungUp, Refused, UserClosed, UserLost, Dropped, Late, Drain}
+use Rattle.exchange_core.specs.declared.event.Event.TheVariants.{Stop, Tried}
 use Rattle.exchange_core.specs.declared.due.Due.{Due}
 use Rattle.exchange_core.specs.declared.due.Due.TheVariants.{Await, Start, Turn, ReadResponse}
 use Rattle.exchange_core.specs.declared.event.RefusalCause.{RefusalCause}
@@ -58,7 +62,8 @@ done events event l d f = done_at (course_of events) event (sound events l) d f
 sound_there : (c : Course) → IsReached c → Sound c
 sound_there c r = subst Sound r.2 (sound r.0 r.1)
 
-pub done_there : (c : Course) (event : Event) → IsReached c → comes_of (due_of c) event ≡ true → fits c event ≡ true → may_come c event ≡ true
+pub done_there : (c : Course) (event : Event) → IsReached c → comes_of (due_of c) event ≡ true → fits c event ≡ true
+    → may_come c event ≡ true
 done_there c event r d f = done_at c event (sound_there c r) d f
 
 pub late_there : (c : Course) → IsReached c → is_wait (due_of c) ≡ true → may_come c Late ≡ true

@@ -27,10 +27,15 @@ stays_draining [] events = refl
 stays_draining (event ∷ more) events = draining_step (course_of (more ++ Drain ∷ events)) event (stays_draining more events)
 
 one_room : (more events : List Event) → IsLegal (more ++ Drain ∷ events)
-    → count is_request_read more + one_if (may_ask_more (course_of (more ++ Drain ∷ events))) ≤ one_if (may_ask_more (course_of (Drain ∷ events)))
+    → count is_request_read more + one_if (may_ask_more (course_of (more ++ Drain ∷ events)))
+    ≤ one_if (may_ask_more (course_of (Drain ∷ events)))
 one_room [] events l = omega arith
 one_room (event ∷ more) events l =
-    omega (arith, one_step (course_of (more ++ Drain ∷ events)) event (sound (more ++ Drain ∷ events) l.1) (stays_draining more events) l.0, one_room more events l.1)
+    omega (
+      arith,
+      one_step (course_of (more ++ Drain ∷ events)) event (sound (more ++ Drain ∷ events) l.1) (stays_draining more events) l.0,
+      one_room more events l.1,
+    )
 
 one : (b : Bool) → one_if b ≤ 1
 one b = grind (arith, nat_tests)

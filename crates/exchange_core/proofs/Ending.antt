@@ -10,7 +10,8 @@ use Rattle.exchange_core.specs.declared.phase.Phase.TheVariants.{Gone}
 use Rattle.exchange_core.specs.Course.{after}
 use Rattle.exchange_core.specs.May.{may_come, is_refusing, is_gone}
 use Rattle.exchange_core.specs.Dues.{due_of, is_wait, is_for_leave}
-use Rattle.exchange_core.specs.Log.{course_of, IsLegal, AllAre, count, one_if, is_failing, is_quiet, is_last, is_freeing, is_stop, stands, never, failures_from, held_by}
+use Rattle.exchange_core.specs.Log.{course_of, IsLegal, AllAre, count, one_if, is_failing, is_quiet, is_last, is_freeing, is_stop, stands}
+use Rattle.exchange_core.specs.Log.{never, failures_from, held_by}
 use Rattle.exchange_core.proofs.Sound.{Sound, sound}
 use Rattle.exchange_core.proofs.Marks.{stopping_stands}
 
@@ -75,14 +76,20 @@ stays_stopping (event ∷ more) events = stopping_step (course_of (more ++ Stop 
 
 pub last_ones : (more events : List Event) → IsLegal (more ++ Stop ∷ events) → AllAre is_last more
 last_ones [] events l = tt
-last_ones (event ∷ more) events l =
-    (last_step (course_of (more ++ Stop ∷ events)) event (sound (more ++ Stop ∷ events) l.1) (stays_stopping more events) l.0, last_ones more events l.1)
+last_ones (event ∷ more) events l = (
+  last_step (course_of (more ++ Stop ∷ events)) event (sound (more ++ Stop ∷ events) l.1) (stays_stopping more events) l.0,
+  last_ones more events l.1,
+)
 
 left_falls : (more events : List Event) → IsLegal (more ++ Stop ∷ events)
     → length more + left (course_of (more ++ Stop ∷ events)) ≤ left (course_of (Stop ∷ events))
 left_falls [] events l = omega arith
 left_falls (event ∷ more) events l =
-    omega (arith, left_step (course_of (more ++ Stop ∷ events)) event (sound (more ++ Stop ∷ events) l.1) (stays_stopping more events) l.0, left_falls more events l.1)
+    omega (
+      arith,
+      left_step (course_of (more ++ Stop ∷ events)) event (sound (more ++ Stop ∷ events) l.1) (stays_stopping more events) l.0,
+      left_falls more events l.1,
+    )
 
 one : (b : Bool) → one_if b ≤ 1
 one b = grind (arith, nat_tests)
@@ -101,7 +108,8 @@ gone_stays_at c event m g = grind (arith, nat_tests)
 gone_frees : (c : Course) (event : Event) → may_come c event ≡ true → is_gone c.phase ≡ true → 1 + held_by (after c event) ≤ held_by c
 gone_frees c event m g = grind (arith, nat_tests)
 
-gone_stays : (more events : List Event) → IsLegal (more ++ events) → is_gone (course_of events).phase ≡ true → is_gone (course_of (more ++ events)).phase ≡ true
+gone_stays : (more events : List Event) → IsLegal (more ++ events) → is_gone (course_of events).phase ≡ true
+    → is_gone (course_of (more ++ events)).phase ≡ true
 gone_stays [] events l g = g
 gone_stays (event ∷ more) events l g = gone_stays_at (course_of (more ++ events)) event l.0 (gone_stays more events l.1 g)
 

@@ -6,7 +6,8 @@ use Rattle.exchange_core.specs.declared.event.Event.TheVariants.{HungUp}
 use Rattle.exchange_core.specs.declared.course.Course.{Course}
 use Rattle.exchange_core.specs.Course.{after, point_of, lasts_after}
 use Rattle.exchange_core.specs.May.{may_come, is_idle, is_answer, is_request}
-use Rattle.exchange_core.specs.Log.{course_of, IsLegal, stands, is_kept_on, has_request, is_response_read, is_request_read, is_lasting, is_withdrawn, is_leaving, is_drain, is_stop, never}
+use Rattle.exchange_core.specs.Log.{course_of, IsLegal, stands, is_kept_on, has_request, is_response_read, is_request_read, is_lasting}
+use Rattle.exchange_core.specs.Log.{is_withdrawn, is_leaving, is_drain, is_stop, never}
 use Rattle.exchange_core.proofs.Carrying.{carried}
 use Rattle.exchange_core.proofs.Marks.{lasts_stands, draining_stands, stopping_stands}
 use Rattle.exchange_core.proofs.Moving.{responds}
@@ -32,14 +33,16 @@ pub kept_if_it_lasts : (events : List Event) → IsLegal (HungUp true ∷ events
 kept_if_it_lasts events l = sym (lasts_stands events) ∙ lasts_at (course_of events) l.0
 
 -- no request is read, or withdrawn, as long as it lasts
-lasts_alone : (c : Course) (event : Event) → (c.lasts ≡ true → (c.origin && (is_idle c.phase || is_leaving c.phase)) ≡ true) → may_come c event ≡ true
+lasts_alone : (c : Course) (event : Event) → (c.lasts ≡ true → (c.origin && (is_idle c.phase || is_leaving c.phase)) ≡ true)
+    → may_come c event ≡ true
     → (is_request_read event || is_withdrawn event) ≡ true → c.lasts ≡ false
 lasts_alone c event k m b = grind (arith, nat_tests)
 
 response_at : (c : Course) (event : Event) → may_come c event ≡ true → is_lasting event ≡ true → is_request (point_of c.phase) ≡ false
 response_at c event m b = grind (arith, nat_tests)
 
-read_step : (event : Event) (lasts read : Bool) → (is_request_read event ≡ true → lasts ≡ false) → (is_lasting event ≡ true → read ≡ true) → (lasts ≡ true → read ≡ true)
+read_step : (event : Event) (lasts read : Bool) → (is_request_read event ≡ true → lasts ≡ false) → (is_lasting event ≡ true → read ≡ true)
+    → (lasts ≡ true → read ≡ true)
     → lasts_after lasts event ≡ true → (is_response_read event || (not (is_request_read event) && read)) ≡ true
 read_step event lasts read a b r v = grind (arith, nat_tests)
 
@@ -55,7 +58,8 @@ pub kept_if_read : (events : List Event) → IsLegal (HungUp true ∷ events) �
 kept_if_read events l = read events l.1 (lasts_at (course_of events) l.0)
 
 -- the origin had the whole request before its response
-sent_step : (c : Course) (before : List Event) (event : Event) → may_come c event ≡ true → (is_answer c.phase ≡ true → has_request before ≡ true)
+sent_step : (c : Course) (before : List Event) (event : Event) → may_come c event ≡ true
+    → (is_answer c.phase ≡ true → has_request before ≡ true)
     → (is_request (point_of c.phase) ≡ false → has_request before ≡ true) → is_request (point_of (after c event).phase) ≡ false
     → has_request (event ∷ before) ≡ true
 sent_step c before event m a r v = grind (arith, nat_tests)

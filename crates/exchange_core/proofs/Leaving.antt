@@ -6,7 +6,8 @@ use Rattle.exchange_core.specs.declared.event.RefusalCause.{RefusalCause}
 use Rattle.exchange_core.specs.declared.course.Course.{Course}
 use Rattle.exchange_core.specs.Course.{after}
 use Rattle.exchange_core.specs.May.{may_come, is_refusing}
-use Rattle.exchange_core.specs.Log.{course_of, IsLegal, AllAre, count, one_if, is_leaving, is_silent, is_parting, is_refused, KeepsTo, has_begun, is_half_out}
+use Rattle.exchange_core.specs.Log.{course_of, IsLegal, AllAre, count, one_if, is_leaving, is_silent, is_parting, is_refused, KeepsTo}
+use Rattle.exchange_core.specs.Log.{has_begun, is_half_out}
 use Rattle.exchange_core.proofs.Sound.{Sound, sound}
 use Rattle.exchange_core.proofs.Marks.{begun_stands, half_told_stands}
 
@@ -28,7 +29,8 @@ parting_step c event m v = grind (arith, nat_tests)
 leaving_step : (c : Course) (event : Event) → may_come c event ≡ true → is_leaving c.phase ≡ true → is_leaving (after c event).phase ≡ true
 leaving_step c event m v = grind (arith, nat_tests)
 
-pub leaving_stays : (more events : List Event) → IsLegal (more ++ events) → is_leaving (course_of events).phase ≡ true → is_leaving (course_of (more ++ events)).phase ≡ true
+pub leaving_stays : (more events : List Event) → IsLegal (more ++ events) → is_leaving (course_of events).phase ≡ true
+    → is_leaving (course_of (more ++ events)).phase ≡ true
 leaving_stays [] events l v = v
 leaving_stays (event ∷ more) events l v = leaving_step (course_of (more ++ events)) event l.0 (leaving_stays more events l.1 v)
 
@@ -40,10 +42,12 @@ parting (event ∷ more) events l v =
 silent_step : (c : Course) (event : Event) → may_come c event ≡ true → is_silent c.phase ≡ true → is_silent (after c event).phase ≡ true
 silent_step c event m v = grind (arith, nat_tests)
 
-keeps_to_step : (c : Course) (event : Event) (why : RefusalCause) → may_come c event ≡ true → KeepsTo why c.phase → KeepsTo why (after c event).phase
+keeps_to_step : (c : Course) (event : Event) (why : RefusalCause) → may_come c event ≡ true → KeepsTo why c.phase
+    → KeepsTo why (after c event).phase
 keeps_to_step c event why m b = grind (arith, nat_tests)
 
-pub keeps_to : (more events : List Event) (why : RefusalCause) → IsLegal (more ++ events) → KeepsTo why (course_of events).phase → KeepsTo why (course_of (more ++ events)).phase
+pub keeps_to : (more events : List Event) (why : RefusalCause) → IsLegal (more ++ events) → KeepsTo why (course_of events).phase
+    → KeepsTo why (course_of (more ++ events)).phase
 keeps_to [] events why l b = b
 keeps_to (event ∷ more) events why l b = keeps_to_step (course_of (more ++ events)) event why l.0 (keeps_to more events why l.1 b)
 

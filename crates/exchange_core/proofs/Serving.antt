@@ -21,11 +21,13 @@ gate_step : (c : Course) (before : List Event) (event : Event) → Serves c (has
 gate_step c before event s m = grind (arith, nat_tests)
 
 rest_step : (c : Course) (before : List Event) (event : Event) → Serves c (has_served before) → may_come c event ≡ true
-    → is_moving (after c event).phase ≡ true → is_leased (after c event).connection ≡ true → is_in_use (after c event).connection ≡ false → has_served (event ∷ before) ≡ true
+    → is_moving (after c event).phase ≡ true → is_leased (after c event).connection ≡ true → is_in_use (after c event).connection ≡ false
+    → has_served (event ∷ before) ≡ true
 rest_step c before event s m = grind (arith, nat_tests)
 
 quiet_step : (c : Course) (before : List Event) (event : Event) → Serves c (has_served before) → may_come c event ≡ true
-    → is_moving (after c event).phase ≡ true → is_offered (after c event).phase ≡ true → is_in_use (after c event).connection ≡ false → has_served (event ∷ before) ≡ true
+    → is_moving (after c event).phase ≡ true → is_offered (after c event).phase ≡ true → is_in_use (after c event).connection ≡ false
+    → has_served (event ∷ before) ≡ true
 quiet_step c before event s m = grind (arith, nat_tests)
 
 plain_step : (c : Course) (before : List Event) (event : Event) → Serves c (has_served before) → may_come c event ≡ true
@@ -53,7 +55,8 @@ serves (event ∷ before) l =
       plain_gate = plain_gate_step (course_of before) before event s l.0;
     }
 
-returned_at : (c : Course) (served kept : Bool) → Serves c served → may_come c (Returned kept) ≡ true → is_moving c.phase ≡ true → served ≡ true
+returned_at : (c : Course) (served kept : Bool) → Serves c served → may_come c (Returned kept) ≡ true → is_moving c.phase ≡ true
+    → served ≡ true
 returned_at c served kept s m v = grind (arith, nat_tests)
 
 -- a connection goes back in the midst of a message only once the service has said all

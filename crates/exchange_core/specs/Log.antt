@@ -1,7 +1,10 @@
 -- A log is the list of the events that happened to a user's connection, the newest first.
 use Rattle.std.specs.Prelude.{◌≡◌, ◌⊎◌, ℕ, ◌+◌, Bool, true, false, not, ◌&&◌, ◌||◌, ⊤, List, [], ◌∷◌, if◌then◌else◌}
 use Rattle.exchange_core.specs.declared.event.Event.{Event}
-use Rattle.exchange_core.specs.declared.event.Event.TheVariants.{RequestRead, ResponseRead, Stale, Lent, Asked, Learned, Planned, Reserved, HalfTold, Told, Dialed, LetPass, Served, Begun, Sent, Heard, Withdrawn, Answered, Failed, Returned, Released, HungUp, Refused, UserClosed, UserLost, Dropped, Late, Drain, Stop, Tried}
+use Rattle.exchange_core.specs.declared.event.Event.TheVariants.{RequestRead, ResponseRead, Stale, Lent, Asked, Learned, Planned, Reserved}
+use Rattle.exchange_core.specs.declared.event.Event.TheVariants.{HalfTold, Told, Dialed, LetPass, Served, Begun, Sent, Heard, Withdrawn}
+use Rattle.exchange_core.specs.declared.event.Event.TheVariants.{Answered, Failed, Returned, Released, HungUp, Refused, UserClosed}
+use Rattle.exchange_core.specs.declared.event.Event.TheVariants.{UserLost, Dropped, Late, Drain, Stop, Tried}
 use Rattle.exchange_core.specs.declared.event.RefusalCause.{RefusalCause}
 use Rattle.exchange_core.specs.declared.phase.Phase.{Phase}
 use Rattle.exchange_core.specs.declared.phase.Phase.TheVariants.{Refusing, Closing, Gone}

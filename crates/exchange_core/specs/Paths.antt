@@ -2,7 +2,11 @@
 use Rattle.std.specs.Prelude.{true, false, List, [], ◌∷◌, reverse}
 use Rattle.exchange_core.specs.declared.event.RefusalCause.TheVariants as causes
 use Rattle.exchange_core.specs.declared.event.Event.{Event}
-use Rattle.exchange_core.specs.declared.event.Event.TheVariants.{HeadBegun, RequestRead, ResponseRead, Stale, Queued, Lent, Asked, Learned, Planned, Reserved, HalfTold, Stuck, Told, Dialed, Started, LetPass, Renewed, Served, Begun, Sent, Heard, Withdrawn, Answered, Failed, Returned, Released, HungUp, Refused, UserClosed, UserLost, Dropped, Late, Drain, Stop, Tried}
+use Rattle.exchange_core.specs.declared.event.Event.TheVariants.{HeadBegun, RequestRead, ResponseRead, Stale, Queued, Lent, Asked, Learned}
+use Rattle.exchange_core.specs.declared.event.Event.TheVariants.{Planned, Reserved, HalfTold, Stuck, Told, Dialed, Started, LetPass}
+use Rattle.exchange_core.specs.declared.event.Event.TheVariants.{Renewed, Served, Begun, Sent, Heard, Withdrawn, Answered, Failed, Returned}
+use Rattle.exchange_core.specs.declared.event.Event.TheVariants.{Released, HungUp, Refused, UserClosed, UserLost, Dropped, Late, Drain}
+use Rattle.exchange_core.specs.declared.event.Event.TheVariants.{Stop, Tried}
 
 -- no service; the user ends the connection once it has its answer
 abbrev pub plain : List Event
@@ -23,21 +27,24 @@ adapted = reverse (
 -- the service answers the request itself, and the user sends another one
 abbrev pub blocked : List Event
 blocked = reverse (
-    RequestRead ∷ Planned true false false ∷ Lent true ∷ Reserved ∷ Dialed false ∷ Started ∷ LetPass ∷ Begun ∷ Served true ∷ Answered true false
+    RequestRead ∷ Planned true false false ∷ Lent true ∷ Reserved ∷ Dialed false ∷ Started ∷ LetPass ∷ Begun ∷ Served true ∷ Answered true
+    false
     ∷ Returned true ∷ Released ∷ HungUp false ∷ HeadBegun ∷ RequestRead ∷ Failed causes.Elsewhere ∷ Refused ∷ UserClosed ∷ [])
 
 -- the user doesn't take at once that it is told to send its body
 abbrev pub stuck : List Event
 stuck = reverse (
     RequestRead ∷ Planned true true false ∷ Lent false ∷ Reserved ∷ HalfTold ∷ Stuck ∷ Returned true ∷ Released ∷ Told
-    ∷ Planned true false false ∷ Lent true ∷ Reserved ∷ Dialed false ∷ Started ∷ LetPass ∷ Failed causes.Elsewhere ∷ Returned false ∷ Released
+    ∷ Planned true false false ∷ Lent true ∷ Reserved ∷ Dialed false ∷ Started ∷ LetPass ∷ Failed causes.Elsewhere ∷ Returned false ∷
+    Released
     ∷ HungUp false ∷ Refused ∷ UserClosed ∷ [])
 
 -- idle connections turn out to be closed
 abbrev pub renewed_twice : List Event
 renewed_twice = reverse (
     RequestRead ∷ Stale ∷ Lent true ∷ Asked ∷ Renewed ∷ Learned false ∷ Returned false ∷ Planned true false false ∷ Lent true ∷ Reserved
-    ∷ Dialed false ∷ Started ∷ LetPass ∷ Renewed ∷ Failed causes.Elsewhere ∷ HungUp false ∷ Returned false ∷ Released ∷ Refused ∷ UserClosed ∷ [])
+    ∷ Dialed false ∷ Started ∷ LetPass ∷ Renewed ∷ Failed causes.Elsewhere ∷ HungUp false ∷ Returned false ∷ Released ∷ Refused ∷ UserClosed
+    ∷ [])
 
 -- all connections are leased: the request waits for one, is planned anew, and its response waits in vain
 abbrev pub waited : List Event
@@ -54,12 +61,14 @@ refused = reverse (RequestRead ∷ Planned true false false ∷ Lent true ∷ Fa
 abbrev pub cut : List Event
 cut = reverse (
     RequestRead ∷ Planned false false false ∷ Reserved ∷ Dialed false ∷ Started ∷ LetPass ∷ Sent ∷ Released
-    ∷ ResponseRead ∷ Planned false false false ∷ Reserved ∷ Started ∷ LetPass ∷ Begun ∷ Failed causes.Elsewhere ∷ HungUp false ∷ Released ∷ Dropped ∷ [])
+    ∷ ResponseRead ∷ Planned false false false ∷ Reserved ∷ Started ∷ LetPass ∷ Begun ∷ Failed causes.Elsewhere ∷ HungUp false ∷ Released ∷
+    Dropped ∷ [])
 
 -- a service says nothing, and the user doesn't take the refusal
 abbrev pub late : List Event
 late = reverse (
-    RequestRead ∷ Planned true false false ∷ Lent false ∷ Reserved ∷ Dialed false ∷ Started ∷ LetPass ∷ Failed causes.Deadline ∷ Returned false
+    RequestRead ∷ Planned true false false ∷ Lent false ∷ Reserved ∷ Dialed false ∷ Started ∷ LetPass ∷ Failed causes.Deadline ∷ Returned
+    false
     ∷ Released ∷ HungUp false ∷ Late ∷ [])
 
 -- the proxy drains while a request goes on: its answer keeps the connection, and the next one ends it, though it would keep it

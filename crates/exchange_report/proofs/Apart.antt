@@ -1,5 +1,6 @@
 -- No two values from outside are written alike.
-use Rattle.std.proofs.Common.{◌≡◌, ℕ, ◌/◌, ◌%◌, ◌<◌, ◌++◌, true, false, List, [], ◌∷◌, All, arith, rules, refl, sym, ◌∙◌, inl, inr, length, subst}
+use Rattle.std.proofs.Common.{◌≡◌, ℕ, ◌/◌, ◌%◌, ◌<◌, ◌++◌, true, false, List, [], ◌∷◌, All, arith, rules, refl, sym, ◌∙◌, inl, inr, length}
+use Rattle.std.proofs.Common.{subst}
 use Rattle.std.proofs.lemmas.Bool.{cases_Bool}
 use Rattle.std.proofs.lemmas.List.Elements.{All-head, All-tail}
 use Rattle.exchange_report.specs.Words.{is_plain, hex_digit, escaped, escaped_text, word_of}
@@ -53,20 +54,25 @@ pub cons : (b c : ℕ) (xs ys : List ℕ) → b ≡ c → xs ≡ ys → b ∷ xs
 cons b c xs ys e f = cc
 
 -- what is written of two texts is told by their first bytes, and the rest
-step : (b c : ℕ) (xs ys : List ℕ) → b < 256 → c < 256 → escaped b ++ escaped_text xs ≡ escaped c ++ escaped_text ys → (b ≡ c) × (escaped_text xs ≡ escaped_text ys)
+step : (b c : ℕ) (xs ys : List ℕ) → b < 256 → c < 256 → escaped b ++ escaped_text xs ≡ escaped c ++ escaped_text ys
+    → (b ≡ c) × (escaped_text xs ≡ escaped_text ys)
 step b c xs ys h i e = elim (cases_Bool (is_plain b)) as (λ _. (b ≡ c) × (escaped_text xs ≡ escaped_text ys)) [
   | inl p ↦ elim (cases_Bool (is_plain c)) as (λ _. (b ≡ c) × (escaped_text xs ≡ escaped_text ys)) [
     | inl q ↦ first b c (escaped_text xs) (escaped_text ys) (sym (plain_head b (escaped_text xs) p) ∙ e ∙ plain_head c (escaped_text ys) q)
-    | inr q ↦ absurd (mixed b c (escaped_text xs) (escaped_text ys) p (sym (plain_head b (escaped_text xs) p) ∙ e ∙ other_head c (escaped_text ys) q))
+    | inr q ↦ absurd (mixed b c (escaped_text xs) (escaped_text ys) p (sym (plain_head b (escaped_text xs) p) ∙ e
+        ∙ other_head c (escaped_text ys) q))
   ]
   | inr p ↦ elim (cases_Bool (is_plain c)) as (λ _. (b ≡ c) × (escaped_text xs ≡ escaped_text ys)) [
-    | inl q ↦ absurd (mixed c b (escaped_text ys) (escaped_text xs) q (sym (plain_head c (escaped_text ys) q) ∙ sym e ∙ other_head b (escaped_text xs) p))
-    | inr q ↦ both b c (escaped_text xs) (escaped_text ys) h i (sym (other_head b (escaped_text xs) p) ∙ e ∙ other_head c (escaped_text ys) q)
+    | inl q ↦ absurd (mixed c b (escaped_text ys) (escaped_text xs) q (sym (plain_head c (escaped_text ys) q) ∙ sym e
+        ∙ other_head b (escaped_text xs) p))
+    | inr q ↦ both b c (escaped_text xs) (escaped_text ys) h i (sym (other_head b (escaped_text xs) p) ∙ e
+        ∙ other_head c (escaped_text ys) q)
   ]
 ]
 
 -- bytes that are written alike are the same
-pub one_text : (value other : List ℕ) → All (λ b. b < 256) value → All (λ b. b < 256) other → escaped_text value ≡ escaped_text other → value ≡ other
+pub one_text : (value other : List ℕ) → All (λ b. b < 256) value → All (λ b. b < 256) other → escaped_text value ≡ escaped_text other
+    → value ≡ other
 one_text [] [] h i e = refl
 one_text [] (c ∷ ys) h i e = absurd (none c (escaped_text ys) e)
 one_text (b ∷ xs) [] h i e = absurd (none b (escaped_text xs) (sym e))

@@ -1,5 +1,6 @@
 -- The line of an exchange has one end, whatever its record says.
-use Rattle.std.proofs.Common.{◌≢◌, ℕ, ◌/◌, ◌%◌, ◌<◌, Bool, true, false, not, eqb, List, [], ◌∷◌, ◌++◌, All, IsTrue, Option, Some, None, nat_lt, take, codes, arith, rules, refl, sym, inl, inr, if◌then◌else◌, subst}
+use Rattle.std.proofs.Common.{◌≢◌, ℕ, ◌/◌, ◌%◌, ◌<◌, Bool, true, false, not, eqb, List, [], ◌∷◌, ◌++◌, All, IsTrue, Option, Some, None}
+use Rattle.std.proofs.Common.{nat_lt, take, codes, arith, rules, refl, sym, inl, inr, if◌then◌else◌, subst}
 use Rattle.std.specs.List.{list_all}
 use Rattle.std.specs.Char.{digit_value}
 use Rattle.std.specs.Str.Parse.{AllDigits}
@@ -11,7 +12,8 @@ use Rattle.adapt_bytes.proofs.Written.{Writes-numeral}
 use Rattle.exchange_report.specs.Reasons.{reason_word}
 use Rattle.exchange_report.specs.Words.{word_of}
 use Rattle.exchange_report.specs.Lines.{HasNoEnd, IsOneLine}
-use Rattle.exchange_report.specs.Entry.{address_text, user_text, destination_text, tag_text, status_text, head_text, request_text, reply_word, verdict_text, why_word, verdicts_text, refusal_text, end_text, line_text}
+use Rattle.exchange_report.specs.Entry.{address_text, user_text, destination_text, tag_text, status_text, head_text, request_text}
+use Rattle.exchange_report.specs.Entry.{reply_word, verdict_text, why_word, verdicts_text, refusal_text, end_text, line_text}
 use Rattle.exchange_report.specs.declared.entry.Address.{Address}
 use Rattle.exchange_report.specs.declared.entry.Destination.{Destination}
 use Rattle.exchange_report.specs.declared.entry.Destination.TheVariants.{Origin, Parent}
@@ -61,7 +63,8 @@ word most value h = plain (word_of (take most value)) (plain_word (take most val
 address : (a : Address) → HasNoEnd (address_text a)
 address a =
     let dot : HasNoEnd (codes ".") = const (codes ".") refl in
-    joined _ (numeral 10 a.fourth) (joined _ (codes ".") (joined _ (numeral 10 a.third) (joined _ (codes ".") (joined _ (numeral 10 a.second)
+    joined _ (numeral 10 a.fourth) (joined _ (codes ".") (joined _ (numeral 10 a.third)
+    (joined _ (codes ".") (joined _ (numeral 10 a.second)
     (joined (numeral 10 a.first) (codes ".") (number a.first) dot) (number a.second)) dot) (number a.third)) dot) (number a.fourth)
 
 -- nor does a user's address
@@ -111,7 +114,8 @@ why (Failed r) = reason r
 head : (e : Entry) → HasNoEnd (head_text e)
 head e =
     let blank : HasNoEnd (codes " ") = const (codes " ") refl in
-    joined _ (numeral 10 e.sent) (joined _ (codes " ") (joined _ (status_text e.status) (joined _ (tag_text e.refused) (joined _ (user_text e.user)
+    joined _ (numeral 10 e.sent) (joined _ (codes " ") (joined _ (status_text e.status)
+    (joined _ (tag_text e.refused) (joined _ (user_text e.user)
     (joined _ (codes " ") (joined _ (numeral 10 e.elapsed) (joined _ (codes " ") (joined _ (three_digits (e.ended % 1000))
     (joined (numeral 10 (e.ended / 1000)) (codes ".") (number (e.ended / 1000)) (const (codes ".") refl))
     (three (e.ended % 1000))) blank) (number e.elapsed)) blank) (user e.user)) (tag e.refused)) (status e.status)) blank) (number e.sent)
@@ -133,26 +137,31 @@ request e method target kind =
 
 -- the end's fields, before the byte that ends the line
 abbrev fields : Entry → List ℕ
-fields e = verdicts_text e ++ codes " found=" ++ word_of (take MAX_FOUND e.found.now) ++ codes " in=" ++ numeral 10 e.received ++ refusal_text e.refusal
+fields e = verdicts_text e ++ codes " found=" ++ word_of (take MAX_FOUND e.found.now) ++ codes " in=" ++ numeral 10 e.received
+    ++ refusal_text e.refusal
 
 threes : (a m b t c o : List ℕ) → HasNoEnd a → HasNoEnd m → HasNoEnd b → HasNoEnd t → HasNoEnd c → HasNoEnd o
     → HasNoEnd (a ++ m ++ b ++ t ++ c ++ o)
 threes a m b t c o ha hm hb ht hc ho =
-    joined (a ++ m ++ b ++ t ++ c) o (joined (a ++ m ++ b ++ t) c (joined (a ++ m ++ b) t (joined (a ++ m) b (joined a m ha hm) hb) ht) hc) ho
+    joined (a ++ m ++ b ++ t ++ c) o (joined (a ++ m ++ b ++ t) c (joined (a ++ m ++ b) t (joined (a ++ m) b (joined a m ha hm) hb) ht) hc)
+    ho
 
 -- the first three of them
 verdicts : (e : Entry) → HasNoEnd (verdicts_text e)
 unfolding verdicts_text
 verdicts e = threes (codes " reqmod=") (verdict_text e.reqmod) (codes " respmod=") (verdict_text e.respmod) (codes " why=") (why_word e.why)
-    (const (codes " reqmod=") refl) (verdict e.reqmod) (const (codes " respmod=") refl) (verdict e.respmod) (const (codes " why=") refl) (why e.why)
+    (const (codes " reqmod=") refl) (verdict e.reqmod) (const (codes " respmod=") refl) (verdict e.respmod) (const (codes " why=") refl)
+    (why e.why)
 
 refusal : (n : Option ℕ) → HasNoEnd (refusal_text n)
 refusal (Some n) = joined (codes " refusal=") (numeral 10 n) (const (codes " refusal=") refl) (number n)
 refusal None = All-nil (λ b. b ≢ 10)
 
 last : (e : Entry) → All (λ b. b < 256) e.found.now → HasNoEnd (fields e)
-last e found = threes (verdicts_text e) (codes " found=") (word_of (take MAX_FOUND e.found.now)) (codes " in=") (numeral 10 e.received) (refusal_text e.refusal)
-    (verdicts e) (const (codes " found=") refl) (word MAX_FOUND e.found.now found) (const (codes " in=") refl) (number e.received) (refusal e.refusal)
+last e found = threes (verdicts_text e) (codes " found=") (word_of (take MAX_FOUND e.found.now)) (codes " in=") (numeral 10 e.received)
+    (refusal_text e.refusal)
+    (verdicts e) (const (codes " found=") refl) (word MAX_FOUND e.found.now found) (const (codes " in=") refl) (number e.received)
+    (refusal e.refusal)
 
 pub ends_once : (e : Entry) → All (λ b. b < 256) e.method.now → All (λ b. b < 256) e.target.now → All (λ b. b < 256) e.kind.now
     → All (λ b. b < 256) e.found.now → IsOneLine (line_text e)

@@ -1,5 +1,6 @@
 -- How long the line of an exchange may be.
-use Rattle.std.proofs.Common.{ℕ, ◌+◌, ◌*◌, ◌<◌, ◌≤◌, ◌^◌, ◌++◌, List, [], ◌∷◌, Option, Some, None, IfSome, length, take, min, codes, arith, inl, inr, lit≤}
+use Rattle.std.proofs.Common.{ℕ, ◌+◌, ◌*◌, ◌<◌, ◌≤◌, ◌^◌, ◌++◌, List, [], ◌∷◌, Option, Some, None, IfSome, length, take, min, codes, arith}
+use Rattle.std.proofs.Common.{inl, inr, lit≤}
 use Rattle.std.proofs.lemmas.Bool.{cases_Bool}
 use Rattle.std.proofs.lemmas.List.{length-take, length-append}
 use Rattle.adapt_bytes.specs.Numeral.{numeral}
@@ -9,7 +10,8 @@ use Rattle.trace_core.specs.declared.history.Point.TheVariants.{Reqmod, Respmod}
 use Rattle.exchange_report.specs.Words.{is_plain, escaped, escaped_text, word_of}
 use Rattle.exchange_report.specs.Entry.{address_text, user_text}
 use Rattle.exchange_report.specs.Script.{range_text}
-use Rattle.exchange_report.specs.Live.{id_text, point_word, awaited_word, age_text, waits_text, still_text, standing_text, held_text, counts_text, request_words, asked_text, live_text}
+use Rattle.exchange_report.specs.Live.{id_text, point_word, awaited_word, age_text, waits_text, still_text, standing_text, held_text}
+use Rattle.exchange_report.specs.Live.{counts_text, request_words, asked_text, live_text}
 use Rattle.exchange_report.specs.declared.awaited.Awaited.{Awaited}
 use Rattle.exchange_report.specs.declared.awaited.Awaited.TheVariants as words
 use Rattle.exchange_report.specs.declared.entry.Address.{Address}
@@ -118,11 +120,13 @@ counted words n most h l = both words (numeral 10 n) most 20 h (number n l)
 
 age : (l : Live) → IsInRange l → Fits (age_text l) 85
 age l h =
-    both _ (codes "s ") 83 2 (both _ (numeral 10 l.age) 63 20 (both (id_text l.id) (codes " ") 62 1 (id l.id h.thread h.key h.number) (is (lit≤ tt)))
+    both _ (codes "s ") 83 2 (both _ (numeral 10 l.age) 63 20 (both (id_text l.id) (codes " ") 62 1 (id l.id h.thread h.key h.number)
+    (is (lit≤ tt)))
     (number l.age h.age)) (is (lit≤ tt))
 
 waits : (l : Live) → Fits (waits_text l) 36
-waits l = both _ (awaited_word l.awaited) 18 18 (both (point_word l.point) (codes " waits-for ") 7 11 (point l.point) (is (lit≤ tt))) (awaited l.awaited)
+waits l = both _ (awaited_word l.awaited) 18 18 (both (point_word l.point) (codes " waits-for ") 7 11 (point l.point) (is (lit≤ tt)))
+    (awaited l.awaited)
 
 still : (l : Live) → IsInRange l → Fits (still_text l) 22
 still l h = both _ (codes "s") 21 1 (counted (codes " ") l.still 1 (is (lit≤ tt)) h.still) (is (lit≤ tt))
@@ -139,10 +143,12 @@ counts : (l : Live) → IsInRange l → Fits (counts_text l) 125
 counts l h =
     both _ (numeral 10 l.claim) 105 20 (both _ (codes " claim ") 98 7 (both _ (numeral 10 l.delivered) 78 20 (both _ (codes " usr ") 73 5
     (both _ (numeral 10 l.adapted_received) 53 20 (both _ (codes " ad ") 49 4 (both _ (numeral 10 l.sent) 29 20 (both _ (codes " svc ") 24 5
-    (counted (codes " in ") l.received 4 (is (lit≤ tt)) h.received) (is (lit≤ tt))) (number l.sent h.sent)) (is (lit≤ tt))) (number l.adapted_received h.adapted_received))
+    (counted (codes " in ") l.received 4 (is (lit≤ tt)) h.received) (is (lit≤ tt))) (number l.sent h.sent)) (is (lit≤ tt)))
+    (number l.adapted_received h.adapted_received))
     (is (lit≤ tt))) (number l.delivered h.delivered)) (is (lit≤ tt))) (number l.claim h.claim)
 
-request : (method target : List ℕ) → Fits (request_words method target) (4 + 3 * min MAX_METHOD (length method) + 3 * min MAX_TARGET (length target))
+request : (method target : List ℕ) → Fits (request_words method target)
+    (4 + 3 * min MAX_METHOD (length method) + 3 * min MAX_TARGET (length target))
 request method target =
     is (omega (
       arith,
@@ -156,5 +162,6 @@ pub line_room : (l : Live) → IsInRange l
 line_room l h =
     let asked = both _ (codes "\n") _ 1 (both _ (request_words l.method.now l.target.now) 84 _
     (both (codes " ") (user_text l.user) 1 83 (is (lit≤ tt)) (user l.user h.user)) (request l.method.now l.target.now)) (is (lit≤ tt)) in
-    let all = both _ (asked_text l) _ _ (both _ (counts_text l) _ _ (both (standing_text l) (held_text l) 143 99 (standing l h) (held l h)) (counts l h)) asked in
+    let all = both _ (asked_text l) _ _ (both _ (counts_text l) _ _ (both (standing_text l) (held_text l) 143 99 (standing l h) (held l h))
+    (counts l h)) asked in
     omega (arith, all.bound)

@@ -1,5 +1,6 @@
 -- No part of a script ends its line, nor does a field of the line of an exchange, whatever the record says.
-use Rattle.std.proofs.Common.{ℕ, ◌<◌, ◌/◌, ◌%◌, Bool, true, false, not, eqb, List, [], ◌++◌, All, IsTrue, Option, Some, None, take, codes, refl, sym}
+use Rattle.std.proofs.Common.{ℕ, ◌<◌, ◌/◌, ◌%◌, Bool, true, false, not, eqb, List, [], ◌++◌, All, IsTrue, Option, Some, None, take, codes}
+use Rattle.std.proofs.Common.{refl, sym}
 use Rattle.std.specs.List.{list_all}
 use Rattle.std.proofs.lemmas.List.{append_assoc}
 use Rattle.adapt_bytes.specs.Numeral.{numeral, three_digits}
@@ -9,15 +10,18 @@ use Rattle.trace_core.specs.declared.history.Point.TheVariants.{Reqmod, Respmod}
 use Rattle.trace_core.specs.declared.history.Kind.{Kind}
 use Rattle.trace_core.specs.declared.history.Kind.TheVariants.{Plain, Whole, Preview}
 use Rattle.trace_core.specs.declared.history.Event.{Event}
-use Rattle.trace_core.specs.declared.history.Event.TheVariants.{In, End, Svc, Stop, Heard, Continue, NoMod, Mod, Ad, AdEnd, Usr, Done, Fail, Retry}
+use Rattle.trace_core.specs.declared.history.Event.TheVariants.{In, End, Svc, Stop, Heard, Continue, NoMod, Mod, Ad, AdEnd, Usr, Done, Fail}
+use Rattle.trace_core.specs.declared.history.Event.TheVariants.{Retry}
 use Rattle.trace_core.specs.declared.history.Payload.TheVariants.{Body, NullBody}
 use Rattle.trace_core.specs.declared.tape.Tape.{Tape}
 use Rattle.trace_core.specs.declared.tape.Tape.TheVariants.{Original, Adapted}
 use Rattle.exchange_report.specs.Words.{word_of}
 use Rattle.exchange_report.specs.Entry.{moment_text, user_text}
 use Rattle.exchange_report.specs.Lines.{HasNoEnd, IsOneLine}
-use Rattle.exchange_report.specs.Script.{printed_number, range_text, kind_text, allow_text, length_text, plan_text, event_word, event_number, event_text, need_words, need_text}
-use Rattle.exchange_report.specs.Live.{id_text, point_word, awaited_word, age_text, waits_text, still_text, standing_text, held_text, counts_text, request_words, live_text}
+use Rattle.exchange_report.specs.Script.{printed_number, range_text, kind_text, allow_text, length_text, plan_text, event_word}
+use Rattle.exchange_report.specs.Script.{event_number, event_text, need_words, need_text}
+use Rattle.exchange_report.specs.Live.{id_text, point_word, awaited_word, age_text, waits_text, still_text, standing_text, held_text}
+use Rattle.exchange_report.specs.Live.{counts_text, request_words, live_text}
 use Rattle.exchange_report.specs.declared.awaited.Awaited.{Awaited}
 use Rattle.exchange_report.specs.declared.awaited.Awaited.TheVariants as awaits
 use Rattle.exchange_report.specs.declared.exchange_id.ExchangeId.{ExchangeId}
@@ -106,7 +110,8 @@ blank = words (codes " ") refl
 
 ids : (a : ExchangeId) → Endless (id_text a)
 ids a =
-    both _ (numeral 10 a.number) (both _ (codes "-") (both _ (numeral 10 a.key) (both (numeral 10 a.thread) (codes "-") (decimal a.thread) dash)
+    both _ (numeral 10 a.number) (both _ (codes "-") (both _ (numeral 10 a.key)
+    (both (numeral 10 a.thread) (codes "-") (decimal a.thread) dash)
     (decimal a.key)) dash) (decimal a.number)
 
 -- an id
@@ -116,7 +121,8 @@ id a = (ids a).has
 -- a moment
 pub moment : (n : ℕ) → HasNoEnd (moment_text n)
 moment n =
-    joined _ (three_digits (n % 1000)) (joined (numeral 10 (n / 1000)) (codes ".") (number (n / 1000)) (const (codes ".") refl)) (three (n % 1000))
+    joined _ (three_digits (n % 1000)) (joined (numeral 10 (n / 1000)) (codes ".") (number (n / 1000)) (const (codes ".") refl))
+    (three (n % 1000))
 
 -- the word of a point
 pub point : (p : Point) → HasNoEnd (point_word p)
@@ -146,11 +152,13 @@ awaited awaits.UserCloses = const (codes "user-closes") refl
 awaited awaits.Proxy = const (codes "proxy") refl
 
 age : (l : Live) → Endless (age_text l)
-age l = both _ (codes "s ") (both _ (numeral 10 l.age) (both (id_text l.id) (codes " ") (ids l.id) blank) (decimal l.age)) (words (codes "s ") refl)
+age l = both _ (codes "s ") (both _ (numeral 10 l.age) (both (id_text l.id) (codes " ") (ids l.id) blank) (decimal l.age))
+    (words (codes "s ") refl)
 
 waits : (l : Live) → Endless (waits_text l)
 waits l =
-    both _ (awaited_word l.awaited) (both (point_word l.point) (codes " waits-for ") (record { has = point l.point }) (words (codes " waits-for ") refl))
+    both _ (awaited_word l.awaited) (both (point_word l.point) (codes " waits-for ") (record { has = point l.point })
+    (words (codes " waits-for ") refl))
     (record { has = awaited l.awaited })
 
 still : (l : Live) → Endless (still_text l)
@@ -164,15 +172,18 @@ range r = both _ (numeral 10 r.1) (both (numeral 10 r.0) (codes "..") (decimal r
 
 held : (l : Live) → Endless (held_text l)
 held l =
-    both _ (range_text l.adapted) (both _ (codes " adapted ") (both (codes " held ") (range_text l.held) (words (codes " held ") refl) (range l.held))
+    both _ (range_text l.adapted) (both _ (codes " adapted ") (both (codes " held ") (range_text l.held) (words (codes " held ") refl)
+    (range l.held))
     (words (codes " adapted ") refl)) (range l.adapted)
 
 counts : (l : Live) → Endless (counts_text l)
 counts l =
     both _ (numeral 10 l.claim) (both _ (codes " claim ") (both _ (numeral 10 l.delivered) (both _ (codes " usr ")
     (both _ (numeral 10 l.adapted_received) (both _ (codes " ad ") (both _ (numeral 10 l.sent) (both _ (codes " svc ")
-    (both (codes " in ") (numeral 10 l.received) (words (codes " in ") refl) (decimal l.received)) (words (codes " svc ") refl)) (decimal l.sent))
-    (words (codes " ad ") refl)) (decimal l.adapted_received)) (words (codes " usr ") refl)) (decimal l.delivered)) (words (codes " claim ") refl))
+    (both (codes " in ") (numeral 10 l.received) (words (codes " in ") refl) (decimal l.received)) (words (codes " svc ") refl))
+    (decimal l.sent))
+    (words (codes " ad ") refl)) (decimal l.adapted_received)) (words (codes " usr ") refl)) (decimal l.delivered))
+    (words (codes " claim ") refl))
     (decimal l.claim)
 
 -- the fields of the user, before the byte that ends the line

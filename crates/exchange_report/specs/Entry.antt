@@ -15,7 +15,8 @@ use Rattle.exchange_report.specs.declared.why.Why.TheVariants.{Served, UserGone,
 use Rattle.exchange_report.specs.declared.words.TheConstants.{MAX_TARGET, MAX_METHOD, MAX_KIND, MAX_FOUND}
 
 abbrev pub address_text : Address → List ℕ
-address_text a = numeral 10 a.first ++ codes "." ++ numeral 10 a.second ++ codes "." ++ numeral 10 a.third ++ codes "." ++ numeral 10 a.fourth
+address_text a = numeral 10 a.first ++ codes "." ++ numeral 10 a.second ++ codes "." ++ numeral 10 a.third ++ codes "."
+    ++ numeral 10 a.fourth
 
 -- the user's address, or a hyphen
 abbrev pub user_text : Option Address → List ℕ
@@ -68,7 +69,8 @@ why_word (Failed reason) = reason_word reason
 
 -- what a service made of the request and of the response, and why the exchange ended otherwise than by its answer
 unfoldable pub verdicts_text : Entry → List ℕ
-verdicts_text e = codes " reqmod=" ++ verdict_text e.reqmod ++ codes " respmod=" ++ verdict_text e.respmod ++ codes " why=" ++ why_word e.why
+verdicts_text e = codes " reqmod=" ++ verdict_text e.reqmod ++ codes " respmod=" ++ verdict_text e.respmod ++ codes " why="
+    ++ why_word e.why
 
 -- the number in the page of a refusal; nothing where it has no page
 abbrev pub refusal_text : Option ℕ → List ℕ

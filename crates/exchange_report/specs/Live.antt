@@ -15,7 +15,9 @@ use Rattle.exchange_report.specs.Words.{word_of}
 use Rattle.exchange_report.specs.Entry.{moment_text, user_text}
 use Rattle.exchange_report.specs.Script.{range_text, history_text, needs_text}
 use Rattle.exchange_report.specs.declared.awaited.Awaited.{Awaited}
-use Rattle.exchange_report.specs.declared.awaited.Awaited.TheVariants.{UserBody, OriginBody, ServiceConnection, ServiceOptions, ServiceTakes, ServiceReply, ServiceBody, OriginTakes, OriginAnswer, UserTakes, UserCloses, Proxy}
+use Rattle.exchange_report.specs.declared.awaited.Awaited.TheVariants.{UserBody, OriginBody, ServiceConnection, ServiceOptions}
+use Rattle.exchange_report.specs.declared.awaited.Awaited.TheVariants.{ServiceTakes, ServiceReply, ServiceBody, OriginTakes, OriginAnswer}
+use Rattle.exchange_report.specs.declared.awaited.Awaited.TheVariants.{UserTakes, UserCloses, Proxy}
 use Rattle.exchange_report.specs.declared.awaited.Outgoing.{Outgoing}
 use Rattle.exchange_report.specs.declared.awaited.Outgoing.TheVariants.{Message, Answer, Refusal}
 use Rattle.exchange_report.specs.declared.caption.Caption.{Caption}

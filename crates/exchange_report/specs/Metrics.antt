@@ -42,7 +42,8 @@ reason_text f point why value = sample_text f (ending f.kind) (reason_labels poi
 
 -- the seconds that all of them took, with three decimals
 unfoldable pub sum_text : AnyFamily → ℕ → List ℕ
-sum_text f milliseconds = f.name.now ++ codes "_sum " ++ numeral 10 (milliseconds / 1000) ++ codes "." ++ three_digits (milliseconds % 1000) ++ codes "\n"
+sum_text f milliseconds = f.name.now ++ codes "_sum " ++ numeral 10 (milliseconds / 1000) ++ codes "." ++ three_digits (milliseconds % 1000)
+    ++ codes "\n"
 
 abbrev pub metric_text : Metric → List ℕ
 metric_text (Family f) = family_text f

@@ -21,7 +21,8 @@ filled word number (byte ∷ next ∷ page) = elim (gap word number byte next) [
 
 -- the head of such a response, whose page has so many bytes (RFC 9110, sections 8.3 and 8.6)
 unfoldable pub page_head : (status bytes : ℕ) → List ℕ
-page_head status bytes = codes "HTTP/1.1 " ++ status_text status ++ codes "\r\nContent-Type: text/html\r\nContent-Length: " ++ numeral 10 bytes
+page_head status bytes = codes "HTTP/1.1 " ++ status_text status ++ codes "\r\nContent-Type: text/html\r\nContent-Length: "
+    ++ numeral 10 bytes
     ++ codes "\r\nConnection: close\r\n\r\n"
 
 -- the page as it is sent for this reason
@@ -30,7 +31,8 @@ page_body page why number = filled (why_word why) (numeral 10 number) page
 
 -- the head and the page; to a HEAD request the head alone (RFC 9110, section 9.3.2)
 abbrev pub page_refusal : (status : ℕ) → (page : List ℕ) → Why → (number : ℕ) → (to_head : Bool) → List ℕ
-page_refusal status page why number to_head = page_head status (length (page_body page why number)) ++ (if to_head then [] else page_body page why number)
+page_refusal status page why number to_head = page_head status (length (page_body page why number))
+    ++ (if to_head then [] else page_body page why number)
 
 -- the text is such a response with this page
 abbrev pub IsPageRefusal : (status : ℕ) → (page text : List ℕ) → Type 0

@@ -45,7 +45,8 @@ original_by x true c p m h = inl p
 original_by x false true p m h = inr m
 original_by x false false p m h = cc
 
-done_by : (x : Seen) (b : Bool) → chooses_original x ≡ b → Sound x → chosen_over x ≡ true → chosen_delivered x ≡ chosen_received x → Allows x Done
+done_by : (x : Seen) (b : Bool) → chooses_original x ≡ b → Sound x → chosen_over x ≡ true → chosen_delivered x ≡ chosen_received x
+    → Allows x Done
 done_by x true e s o a = inl (original_by x (is_plain x.plan.kind) x.no_mod refl refl e, grind (arith, nat_tests), grind (arith, nat_tests))
 done_by x false e s o a = inr (s.over (grind (arith, nat_tests)), grind (arith, nat_tests), grind (arith, nat_tests))
 
@@ -58,5 +59,6 @@ pub done_means : (x : Seen) → Sound x → Allows x Done → (chosen_over x ≡
 done_means x s a = (grind (arith, nat_tests), grind (arith, nat_tests))
 
 -- Done changes nothing of the message
-pub done_moves : (x : Seen) → (chosen_delivered (after x Done) ≡ chosen_delivered x) × (chosen_received (after x Done) ≡ chosen_received x) × (chosen_over (after x Done) ≡ chosen_over x)
+pub done_moves : (x : Seen) → (chosen_delivered (after x Done) ≡ chosen_delivered x) × (chosen_received (after x Done) ≡ chosen_received x)
+    × (chosen_over (after x Done) ≡ chosen_over x)
 done_moves x = (grind (arith, nat_tests), grind (arith, nat_tests), grind (arith, nat_tests))

@@ -1,5 +1,6 @@
 -- The events that tell what was read of a body.
-use Rattle.std.proofs.Common.{◌≡◌, ℕ, zero, suc, ◌+◌, ◌<◌, ◌≤◌, Bool, true, false, List, ◌++◌, length, take, refl, sym, subst, ◌∙◌, inl, arith, length-append, Option, Some, None as Nothing, IfSome}
+use Rattle.std.proofs.Common.{◌≡◌, ℕ, zero, suc, ◌+◌, ◌<◌, ◌≤◌, Bool, true, false, List, ◌++◌, length, take, refl, sym, subst, ◌∙◌, inl}
+use Rattle.std.proofs.Common.{arith, length-append, Option, Some, None as Nothing, IfSome}
 use Rattle.std.proofs.lemmas.List.{length-take-le}
 use Rattle.adapt_bytes.specs.declared.limits.TheConstants.{COUNT_LIMIT}
 use Rattle.http_side.specs.Body.{HasRead, is_over}
@@ -47,50 +48,67 @@ pub if_more : (o : Option ℕ) (P Q : ℕ → Type 0) → ((n : ℕ) → P n →
 if_more Nothing P Q f h = tt
 if_more (Some n) P Q f h = f n h
 
-may_tell : (s : SourceBody) (n : ℕ) (ended : Bool) (x : Seen) → MayTell s n ended → s.ended ≡ false → Agrees x s → x.closed ≡ false → MayAllFollow x (source_events n ended)
+may_tell : (s : SourceBody) (n : ℕ) (ended : Bool) (x : Seen) → MayTell s n ended → s.ended ≡ false → Agrees x s → x.closed ≡ false
+    → MayAllFollow x (source_events n ended)
 may_tell s zero false x f e a c = tt
 may_tell s (suc n) false x f e a c =
     let now : x.ended ≡ false = a.ended ∙ e in
     let some : 1 ≤ suc n = omega arith in
     let sum : x.received + suc n < COUNT_LIMIT = subst (λ (r : ℕ). r + suc n < COUNT_LIMIT) (sym a.received) f.sum in
     let len : IfSome x.plan.len (λ len. x.received + suc n ≤ len) =
-    subst (λ (r : ℕ). IfSome x.plan.len (λ len. r + suc n ≤ len)) (sym a.received) (at_len x.plan.len (length_of s.framing) (λ len. s.received + suc n ≤ len) a.len f.len) in
+    subst (λ (r : ℕ). IfSome x.plan.len (λ len. r + suc n ≤ len)) (sym a.received)
+    (at_len x.plan.len (length_of s.framing) (λ len. s.received + suc n ≤ len) a.len f.len) in
     (c, (now, (some, sum), len), tt)
 may_tell s zero true x f e a c =
     let now : x.ended ≡ false = a.ended ∙ e in
-    let at : IfSome (length_of s.framing) (λ len. s.received ≡ len) = if_more (length_of s.framing) (λ len. s.received + zero ≡ len) (λ len. s.received ≡ len) (λ n h. omega (arith, h)) (f.end refl) in
+    let at : IfSome (length_of s.framing) (λ len. s.received ≡ len) =
+    if_more (length_of s.framing) (λ len. s.received + zero ≡ len) (λ len. s.received ≡ len) (λ n h. omega (arith, h)) (f.end refl) in
     let len : IfSome x.plan.len (λ len. x.received ≡ len) =
-    subst (λ (r : ℕ). IfSome x.plan.len (λ len. r ≡ len)) (sym a.received) (at_len x.plan.len (length_of s.framing) (λ len. s.received ≡ len) a.len at) in
+    subst (λ (r : ℕ). IfSome x.plan.len (λ len. r ≡ len)) (sym a.received)
+    (at_len x.plan.len (length_of s.framing) (λ len. s.received ≡ len) a.len at) in
     (c, (now, len), tt)
 may_tell s (suc n) true x f e a c =
     let now : x.ended ≡ false = a.ended ∙ e in
     let some : 1 ≤ suc n = omega arith in
     let sum : x.received + suc n < COUNT_LIMIT = subst (λ (r : ℕ). r + suc n < COUNT_LIMIT) (sym a.received) f.sum in
     let len : IfSome x.plan.len (λ len. x.received + suc n ≤ len) =
-    subst (λ (r : ℕ). IfSome x.plan.len (λ len. r + suc n ≤ len)) (sym a.received) (at_len x.plan.len (length_of s.framing) (λ len. s.received + suc n ≤ len) a.len f.len) in
-    let at : IfSome (length_of s.framing) (λ len. suc n + s.received ≡ len) = if_more (length_of s.framing) (λ len. s.received + suc n ≡ len) (λ len. suc n + s.received ≡ len) (λ m h. omega (arith, h)) (f.end refl) in
+    subst (λ (r : ℕ). IfSome x.plan.len (λ len. r + suc n ≤ len)) (sym a.received)
+    (at_len x.plan.len (length_of s.framing) (λ len. s.received + suc n ≤ len) a.len f.len) in
+    let at : IfSome (length_of s.framing) (λ len. suc n + s.received ≡ len) =
+    if_more (length_of s.framing) (λ len. s.received + suc n ≡ len) (λ len. suc n + s.received ≡ len) (λ m h. omega (arith, h))
+    (f.end refl) in
     let end : IfSome x.plan.len (λ len. suc n + x.received ≡ len) =
-    subst (λ (r : ℕ). IfSome x.plan.len (λ len. suc n + r ≡ len)) (sym a.received) (at_len x.plan.len (length_of s.framing) (λ len. suc n + s.received ≡ len) a.len at) in
+    subst (λ (r : ℕ). IfSome x.plan.len (λ len. suc n + r ≡ len)) (sym a.received)
+    (at_len x.plan.len (length_of s.framing) (λ len. suc n + s.received ≡ len) a.len at) in
     (c, (now, (some, sum), len), (c, (now, end), tt))
 
-agrees_then : (s new : SourceBody) (n : ℕ) (ended : Bool) (x y : Seen) → Told x y n ended → s.ended ≡ false → new.framing ≡ s.framing → new.received ≡ s.received + n → new.ended ≡ ended → Agrees x s → Agrees y new
+agrees_then : (s new : SourceBody) (n : ℕ) (ended : Bool) (x y : Seen) → Told x y n ended → s.ended ≡ false → new.framing ≡ s.framing
+    → new.received ≡ s.received + n → new.ended ≡ ended → Agrees x s → Agrees y new
 agrees_then s new n ended x y t e way count end a = record {
   received = omega (arith, t.count, count, a.received);
   ended = t.end (a.ended ∙ e) ∙ sym end;
-  len = subst (λ (p : Plan). IfSome p.len (λ len. length_of new.framing ≡ Some len)) (sym t.plan) (subst (λ (w : Framing). IfSome x.plan.len (λ len. length_of w ≡ Some len)) (sym way) a.len);
+  len = subst (λ (p : Plan). IfSome p.len (λ len. length_of new.framing ≡ Some len)) (sym t.plan)
+      (subst (λ (w : Framing). IfSome x.plan.len (λ len. length_of w ≡ Some len)) (sym way) a.len);
 }
 
 -- so many bytes of the body were read, and its end
-pub tells : (s new : SourceBody) (raw out : List ℕ) (used n : ℕ) (ended : Bool) → s.ended ≡ false → new.framing ≡ s.framing → new.received ≡ s.received + n → new.ended ≡ ended
-    → ReadsOn s.reader raw used (take n out) new.reader → n ≤ length out → ended ≡ is_over new.reader → MayTell s n ended → BodyReads s new (source_events n ended) (take used raw) (take n out) false
+pub tells : (s new : SourceBody) (raw out : List ℕ) (used n : ℕ) (ended : Bool) → s.ended ≡ false → new.framing ≡ s.framing
+    → new.received ≡ s.received + n → new.ended ≡ ended
+    → ReadsOn s.reader raw used (take n out) new.reader → n ≤ length out → ended ≡ is_over new.reader → MayTell s n ended
+    → BodyReads s new (source_events n ended) (take used raw) (take n out) false
 tells s new raw out used n ended e way count end on l over f = record {
   only = only_source n ended;
-  legal = λ x a c. (may_tell s n ended x f e a c, agrees_then s new n ended x (after_all x (source_events n ended)) (told x n ended) e way count end a);
+  legal = λ x a c. (
+    may_tell s n ended x f e a c,
+    agrees_then s new n ended x (after_all x (source_events n ended)) (told x n ended) e way
+        count end a,
+  );
   reads = λ x body text closed h.
       let t = told x n ended in
       let long : length (take n out) ≡ n = length-take-le n out l in
       let here : HasRead s.framing (text ++ take used raw) (body ++ take n out) new.reader = on s.framing text body h.reads in
-      let there : HasRead new.framing (text ++ take used raw) (body ++ take n out) new.reader = subst (λ (w : Framing). HasRead w (text ++ take used raw) (body ++ take n out) new.reader) (sym way) here in
+      let there : HasRead new.framing (text ++ take used raw) (body ++ take n out) new.reader =
+      subst (λ (w : Framing). HasRead w (text ++ take used raw) (body ++ take n out) new.reader) (sym way) here in
       record {
         count = omega (arith, t.count, h.count, length-append body (take n out), long);
         ended = t.end (h.ended ∙ e) ∙ sym end;

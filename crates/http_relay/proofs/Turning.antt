@@ -1,5 +1,6 @@
 -- Read turns, by what the wire gave.
-use Rattle.std.proofs.Common.{◌≡◌, ◌≢◌, ℕ, ◌+◌, ◌<◌, ◌≤◌, ◌⊎◌, ◌||◌, inl, inr, Bool, true, false, List, [], ◌++◌, length, take, refl, ap, sym, subst, ◌∙◌, append-nil, arith, Option, Some, None, Result, Ok, Err}
+use Rattle.std.proofs.Common.{◌≡◌, ◌≢◌, ℕ, ◌+◌, ◌<◌, ◌≤◌, ◌⊎◌, ◌||◌, inl, inr, Bool, true, false, List, [], ◌++◌, length, take, refl, ap}
+use Rattle.std.proofs.Common.{sym, subst, ◌∙◌, append-nil, arith, Option, Some, None, Result, Ok, Err}
 use Rattle.std.proofs.Math.Seq.{take-length}
 use Rattle.trace_core.specs.declared.history.Event.{Event}
 use Rattle.wire_kit.specs.Past.{Past, Gave, IsGiven, ReadsAtMostOnce, after_ask}
@@ -10,7 +11,8 @@ use Rattle.wire_kit.specs.Past.{IsLater}
 use Rattle.wire_kit.specs.declared.wire.Got.{Got}
 use Rattle.wire_kit.specs.declared.wire.Got.TheVariants as got
 use Rattle.adapt_sides.specs.Turns.{HasReason, OfRelayWire, SaysWaiting, Remembers, ReadsBody, events_of, waits_of}
-use Rattle.http_relay.specs.Reading.{SideRead, SideReads, Rests, HasFramed, IsOver, IsCause, IsReadDue, ReadsWhereDue, FitsGot, ReadTurn, says_ended}
+use Rattle.http_relay.specs.Reading.{SideRead, SideReads, Rests, HasFramed, IsOver, IsCause, IsReadDue, ReadsWhereDue, FitsGot, ReadTurn}
+use Rattle.http_relay.specs.Reading.{says_ended}
 use Rattle.adapt_sides.specs.Filling.{IsFilled}
 use Rattle.adapt_sides.specs.declared.fault.RelayFault.{RelayFault}
 use Rattle.adapt_sides.specs.declared.fault.RelayFault.TheVariants.{Closed, Device, NoMemory}
@@ -27,17 +29,34 @@ pub record SameSide (old new : SourceSide) : Type 0 where
   pub body : new.body ≡ old.body
 
 later_none : (p : Past) → IsLater p [] [] p
-later_none p = record { read = sym (append-nil p.read); out = sym (append-nil p.taken); write_waits = omega arith; ends = omega arith; read_waits = omega arith; faults = omega arith }
+later_none p = record {
+  read = sym (append-nil p.read);
+  out = sym (append-nil p.taken);
+  write_waits = omega arith;
+  ends = omega arith;
+  read_waits = omega arith;
+  faults = omega arith;
+}
 
 -- a turn that doesn't read
 pub none_read : (P : Past → Type 0) → ReadsAtMostOnce P P [] None
 none_read P = record { each = λ p b. b; fits = refl }
 
 -- a turn that reads once, and gets bytes
-pub bytes_read : (P Q : Past → Type 0) (given : List ℕ) → 0 < length given → Gave P Q given → ReadsAtMostOnce P Q given (Some (got.Bytes (length given)))
+pub bytes_read : (P Q : Past → Type 0) (given : List ℕ) → 0 < length given → Gave P Q given
+    → ReadsAtMostOnce P Q given (Some (got.Bytes (length given)))
 bytes_read P Q given some g = record {
   each = λ p b.
-      subst (λ (t : List ℕ). Q (record { read = p.read ++ t; taken = p.taken; ends = p.ends; read_waits = p.read_waits; write_waits = p.write_waits; faults = p.faults; reads = p.reads + 1; writes = p.writes })) (sym (take-length given)) (g p b);
+      subst (λ (t : List ℕ). Q (record {
+        read = p.read ++ t;
+        taken = p.taken;
+        ends = p.ends;
+        read_waits = p.read_waits;
+        write_waits = p.write_waits;
+        faults = p.faults;
+        reads = p.reads + 1;
+        writes = p.writes;
+      })) (sym (take-length given)) (g p b);
   fits = (refl, some);
 }
 
@@ -49,7 +68,8 @@ at_once room old answer d = (old, filled_more old old [] false refl refl refl (s
 not_wire : (fault : RelayFault) (s : SourceBody) (raw : List ℕ) → Refuses fault s raw → (fault ≢ Closed) × (fault ≢ Device)
 not_wire fault s raw r = ((λ e. subst (λ (f : RelayFault). Refuses f s raw) e r), (λ e. subst (λ (f : RelayFault). Refuses f s raw) e r))
 
-says_spoke : (t : Turn) (delta : List ℕ) → t.waiting ≡ false → (t.events.items ≡ [] → delta ≡ [] → ⊥) → SaysWaiting {F = RelayFault} t.events.items delta (Ok t)
+says_spoke : (t : Turn) (delta : List ℕ) → t.waiting ≡ false → (t.events.items ≡ [] → delta ≡ [] → ⊥)
+    → SaysWaiting {F = RelayFault} t.events.items delta (Ok t)
 says_spoke t delta w some = record {
   idle = λ h. let odd : true ≡ false = sym h ∙ w in cc;
   waits = λ u e none no_delta. absurd (some none no_delta);
@@ -77,7 +97,9 @@ no_end : (old new : SourceBody) (over : Type 0) → new ≡ old → old.ended �
 no_end old new over e going ended = let odd : false ≡ true = sym going ∙ (ap (λ (b : SourceBody). b.ended) (sym e) ∙ ended) in cc
 
 -- raw bytes gave events
-pub turn_spoke : (room : ℕ) (old new : SourceSide) (P : Past → Type 0) (out : List ℕ) (t : Turn) → SideReads old new t.events.items [] (take (in_sum t.events.items) out) false → TellsEnd old.body new.body → in_sum t.events.items ≤ room
+pub turn_spoke : (room : ℕ) (old new : SourceSide) (P : Past → Type 0) (out : List ℕ) (t : Turn)
+    → SideReads old new t.events.items [] (take (in_sum t.events.items) out) false → TellsEnd old.body new.body
+    → in_sum t.events.items ≤ room
     → t.waiting ≡ false → (t.events.items ≡ [] → ⊥) → ReadTurn room old new P P out (Ok t)
 turn_spoke room old new P out t h ends l w some = record {
   delta = [];
@@ -95,7 +117,9 @@ turn_spoke room old new P out t h ends l w some = record {
 }
 
 -- nothing is to be read
-pub turn_idle : (room : ℕ) (old new : SourceSide) (P : Past → Type 0) (out : List ℕ) (t : Turn) → SideReads old new t.events.items [] (take (in_sum t.events.items) out) false → TellsEnd old.body new.body → in_sum t.events.items ≤ room
+pub turn_idle : (room : ℕ) (old new : SourceSide) (P : Past → Type 0) (out : List ℕ) (t : Turn)
+    → SideReads old new t.events.items [] (take (in_sum t.events.items) out) false → TellsEnd old.body new.body
+    → in_sum t.events.items ≤ room
     → t.waiting ≡ true → t.events.items ≡ [] → MustWait new.body new.raw.items room → Rests room new → ReadTurn room old new P P out (Ok t)
 turn_idle room old new P out t h ends l w none m rests = record {
   delta = [];
@@ -113,7 +137,8 @@ turn_idle room old new P out t h ends l w none m rests = record {
 }
 
 -- raw bytes are refused
-pub turn_refused : (room : ℕ) (old new : SourceSide) (P : Past → Type 0) (out : List ℕ) (fault : RelayFault) → new ≡ old → Refuses fault old.body old.raw.items → ReadTurn room old new P P out (Err fault)
+pub turn_refused : (room : ℕ) (old new : SourceSide) (P : Past → Type 0) (out : List ℕ) (fault : RelayFault) → new ≡ old
+    → Refuses fault old.body old.raw.items → ReadTurn room old new P P out (Err fault)
 turn_refused room old new P out fault e r =
     let here : Refuses fault new.body new.raw.items = subst (λ (s : SourceSide). Refuses fault s.body s.raw.items) (sym e) r in
     record {
@@ -123,7 +148,8 @@ turn_refused room old new P out fault e r =
       due = tt;
       fits = not_wire fault old.body old.raw.items r;
       count = zero_le room;
-      reads = filled_more old new [] false (ap (λ (s : SourceSide). s.asks) e) (ap (λ (s : SourceSide). s.head) e) (ap (λ (s : SourceSide). s.body) e) (ap (λ (s : SourceSide). s.raw.items) e ∙ sym (append-nil old.raw.items));
+      reads = filled_more old new [] false (ap (λ (s : SourceSide). s.asks) e) (ap (λ (s : SourceSide). s.head) e)
+          (ap (λ (s : SourceSide). s.body) e) (ap (λ (s : SourceSide). s.raw.items) e ∙ sym (append-nil old.raw.items));
       ends = no_end old.body new.body _ (ap (λ (s : SourceSide). s.body) e);
       told = λ u i o. cc;
       waiting = says_err fault [];
@@ -132,10 +158,14 @@ turn_refused room old new P out fault e r =
     }
 
 -- bytes came, and were framed
-pub turn_bytes : (room : ℕ) (old mid new : SourceSide) (P Q : Past → Type 0) (out : List ℕ) (t : Turn) → SameSide old mid → IsReadDue room old → IsFilled P Q old.raw.items mid.raw.items filled.Bytes
-    → SideReads mid new t.events.items [] (take (in_sum t.events.items) out) false → TellsEnd mid.body new.body → in_sum t.events.items ≤ room → t.waiting ≡ false → ReadTurn room old new P Q out (Ok t)
+pub turn_bytes : (room : ℕ) (old mid new : SourceSide) (P Q : Past → Type 0) (out : List ℕ) (t : Turn) → SameSide old mid
+    → IsReadDue room old → IsFilled P Q old.raw.items mid.raw.items filled.Bytes
+    → SideReads mid new t.events.items [] (take (in_sum t.events.items) out) false → TellsEnd mid.body new.body
+    → in_sum t.events.items ≤ room → t.waiting ≡ false → ReadTurn room old new P Q out (Ok t)
 turn_bytes room old mid new P Q out t m d f h tells l w =
-    let both : SideReads old new t.events.items (f.0 ++ []) (take (in_sum t.events.items) out) false = side_then old mid new t.events.items f.0 [] (take (in_sum t.events.items) out) false (filled_more old mid f.0 false m.asks m.head m.body f.2) h in
+    let both : SideReads old new t.events.items (f.0 ++ []) (take (in_sum t.events.items) out) false =
+    side_then old mid new t.events.items f.0 [] (take (in_sum t.events.items) out) false
+    (filled_more old mid f.0 false m.asks m.head m.body f.2) h in
     let ends : TellsEnd old.body new.body = subst (λ (b : SourceBody). TellsEnd b new.body) m.body tells in
     record {
       delta = f.0;
@@ -153,7 +183,8 @@ turn_bytes room old mid new P Q out t m d f h tells l w =
     }
 
 -- bytes came, and are refused
-pub turn_bytes_refused : (room : ℕ) (old mid new : SourceSide) (P Q : Past → Type 0) (out : List ℕ) (fault : RelayFault) → SameSide old mid → new ≡ mid → IsReadDue room old → IsFilled P Q old.raw.items mid.raw.items filled.Bytes
+pub turn_bytes_refused : (room : ℕ) (old mid new : SourceSide) (P Q : Past → Type 0) (out : List ℕ) (fault : RelayFault) → SameSide old mid
+    → new ≡ mid → IsReadDue room old → IsFilled P Q old.raw.items mid.raw.items filled.Bytes
     → Refuses fault mid.body mid.raw.items → ReadTurn room old new P Q out (Err fault)
 turn_bytes_refused room old mid new P Q out fault m e d f r =
     let here : Refuses fault new.body new.raw.items = subst (λ (s : SourceSide). Refuses fault s.body s.raw.items) (sym e) r in
@@ -173,10 +204,12 @@ turn_bytes_refused room old mid new P Q out fault m e d f r =
     }
 
 -- the wire waits
-pub turn_waited : (room : ℕ) (old new : SourceSide) (P Q : Past → Type 0) (out : List ℕ) (t : Turn) → SameSide old new → IsReadDue room old → IsFilled P Q old.raw.items new.raw.items filled.Wait
+pub turn_waited : (room : ℕ) (old new : SourceSide) (P Q : Past → Type 0) (out : List ℕ) (t : Turn) → SameSide old new → IsReadDue room old
+    → IsFilled P Q old.raw.items new.raw.items filled.Wait
     → t.events.items ≡ [] → t.waiting ≡ true → ReadTurn room old new P Q out (Ok t)
 turn_waited room old new P Q out t m d f none w =
-    let still : SideReads old new [] [] [] false = filled_more old new [] false m.asks m.head m.body (f.0 ∙ sym (append-nil old.raw.items)) in
+    let still : SideReads old new [] [] [] false = filled_more old new [] false m.asks m.head m.body
+    (f.0 ∙ sym (append-nil old.raw.items)) in
     record {
       delta = [];
       answer = Some got.Wait;
@@ -193,8 +226,10 @@ turn_waited room old new P Q out t m d f none w =
     }
 
 -- the connection was closed at the end of the body
-pub turn_end : (room : ℕ) (old new : SourceSide) (P Q : Past → Type 0) (out : List ℕ) (t : Turn) → SameMessage old new → IsReadDue room old → IsFilled P Q old.raw.items new.raw.items filled.Ended
-    → BodyReads old.body new.body t.events.items [] [] true → new.body.ended ≡ true → in_sum t.events.items ≡ 0 → (t.events.items ≡ [] → ⊥) → t.waiting ≡ false → ReadTurn room old new P Q out (Ok t)
+pub turn_end : (room : ℕ) (old new : SourceSide) (P Q : Past → Type 0) (out : List ℕ) (t : Turn) → SameMessage old new → IsReadDue room old
+    → IsFilled P Q old.raw.items new.raw.items filled.Ended
+    → BodyReads old.body new.body t.events.items [] [] true → new.body.ended ≡ true → in_sum t.events.items ≡ 0 → (t.events.items ≡ [] → ⊥)
+    → t.waiting ≡ false → ReadTurn room old new P Q out (Ok t)
 turn_end room old new P Q out t m d f b over zero some w =
     let heard : SideReads old new t.events.items [] [] true = framed_raw old new t.events.items 0 [] true m b f.0 in
     record {
@@ -213,12 +248,18 @@ turn_end room old new P Q out t m d f b over zero some w =
     }
 
 -- the connection was closed within the message
-pub turn_ended : (room : ℕ) (old new : SourceSide) (P Q : Past → Type 0) (out : List ℕ) (fault : RelayFault) → SameSide old new → IsReadDue room old → IsFilled P Q old.raw.items new.raw.items filled.Ended
+pub turn_ended : (room : ℕ) (old new : SourceSide) (P Q : Past → Type 0) (out : List ℕ) (fault : RelayFault) → SameSide old new
+    → IsReadDue room old → IsFilled P Q old.raw.items new.raw.items filled.Ended
     → Refuses fault old.body [] ⊎ ((fault ≡ Closed) × IsCutShort old.body) → ReadTurn room old new P Q out (Err fault)
 turn_ended room old new P Q out fault m d f r =
-    let not_device : fault ≡ Device → ⊥ = λ e. elim r [ inl h ↦ (not_wire fault old.body [] h).1 e | inr h ↦ (let odd : Closed ≡ Device = sym h.0 ∙ e in cc) ] in
+    let not_device : fault ≡ Device → ⊥ = λ e. elim r [
+      | inl h ↦ (not_wire fault old.body [] h).1 e
+      | inr h ↦
+          (let odd : Closed ≡ Device = sym h.0 ∙ e in cc)
+    ] in
     let here : IsCause fault new = elim r [
-      | inl h ↦ inr (inr (inr (subst (λ (t : List ℕ). Refuses fault new.body t) (sym (f.0 ∙ d.none_kept)) (subst (λ (b : SourceBody). Refuses fault b []) (sym m.body) h))))
+      | inl h ↦ inr (inr (inr (subst (λ (t : List ℕ). Refuses fault new.body t) (sym (f.0 ∙ d.none_kept))
+          (subst (λ (b : SourceBody). Refuses fault b []) (sym m.body) h))))
       | inr h ↦ inl (h.0, subst (λ (b : SourceBody). IsCutShort b) (sym m.body) h.1)
     ] in
     record {
@@ -237,7 +278,8 @@ turn_ended room old new P Q out fault m d f r =
     }
 
 -- the wire failed
-pub turn_failed : (room : ℕ) (old new : SourceSide) (P Q : Past → Type 0) (out : List ℕ) → SameSide old new → IsReadDue room old → IsFilled P Q old.raw.items new.raw.items filled.Failed → ReadTurn room old new P Q out (Err Device)
+pub turn_failed : (room : ℕ) (old new : SourceSide) (P Q : Past → Type 0) (out : List ℕ) → SameSide old new → IsReadDue room old
+    → IsFilled P Q old.raw.items new.raw.items filled.Failed → ReadTurn room old new P Q out (Err Device)
 turn_failed room old new P Q out m d f = record {
   delta = [];
   answer = Some got.Fault;
@@ -254,7 +296,8 @@ turn_failed room old new P Q out m d f = record {
 }
 
 -- there is no memory for bytes
-pub turn_full : (room : ℕ) (old new : SourceSide) (P Q : Past → Type 0) (out : List ℕ) → SameSide old new → IsFilled P Q old.raw.items new.raw.items filled.NoMemory → ReadTurn room old new P Q out (Err NoMemory)
+pub turn_full : (room : ℕ) (old new : SourceSide) (P Q : Past → Type 0) (out : List ℕ) → SameSide old new
+    → IsFilled P Q old.raw.items new.raw.items filled.NoMemory → ReadTurn room old new P Q out (Err NoMemory)
 turn_full room old new P Q out m f = record {
   delta = [];
   answer = None;
@@ -270,12 +313,14 @@ turn_full room old new P Q out m f = record {
   cause = λ g i. let is : NoMemory ≡ g = cc in inr (inr (inl (sym is)));
 }
 
-due_behind : (room : ℕ) (old mid : SourceSide) (answer : Option Got) → SideReads old mid [] [] [] false → ReadsWhereDue room mid answer → ReadsWhereDue room old answer
+due_behind : (room : ℕ) (old mid : SourceSide) (answer : Option Got) → SideReads old mid [] [] [] false → ReadsWhereDue room mid answer
+    → ReadsWhereDue room old answer
 due_behind room old mid None h d = tt
 due_behind room old mid (Some answer) h d = (d.0, side_then old mid d.0 [] [] [] [] false h d.1, d.2)
 
 -- raw bytes gave no event, and then the wire was read
-pub turn_behind : (room : ℕ) (old mid new : SourceSide) (P Q : Past → Type 0) (out : List ℕ) (result : Result Turn RelayFault) → SideReads old mid [] [] [] false → mid.body.ended ≡ false → ReadTurn room mid new P Q out result
+pub turn_behind : (room : ℕ) (old mid new : SourceSide) (P Q : Past → Type 0) (out : List ℕ) (result : Result Turn RelayFault)
+    → SideReads old mid [] [] [] false → mid.body.ended ≡ false → ReadTurn room mid new P Q out result
     → ReadTurn room old new P Q out result
 turn_behind room old mid new P Q out result h going t = record {
   delta = t.delta;
@@ -292,7 +337,8 @@ turn_behind room old mid new P Q out result h going t = record {
   cause = t.cause;
 }
 
-fits_same : (room : ℕ) (mid new : SourceSide) (answer : Option Got) (result : Result Turn RelayFault) → new.body ≡ mid.body → FitsGot room mid answer result → FitsGot room new answer result
+fits_same : (room : ℕ) (mid new : SourceSide) (answer : Option Got) (result : Result Turn RelayFault) → new.body ≡ mid.body
+    → FitsGot room mid answer result → FitsGot room new answer result
 fits_same room mid new None (Ok turn) e f = λ w. subst (λ (b : SourceBody). (b.ended ≡ true) ⊎ (room ≡ 0)) (sym e) (f w)
 fits_same room mid new None (Err fault) e f = f
 fits_same room mid new (Some (got.Bytes n)) (Ok turn) e f = f
@@ -304,7 +350,8 @@ fits_same room mid new (Some got.Wait) (Err fault) e f = f
 fits_same room mid new (Some got.Fault) result e f = f
 
 -- the same, but for the fault that is kept
-pub turn_kept : (room : ℕ) (old mid new : SourceSide) (P Q : Past → Type 0) (out : List ℕ) (result : Result Turn RelayFault) → SameSide mid new → new.raw.items ≡ mid.raw.items → ReadTurn room old mid P Q out result
+pub turn_kept : (room : ℕ) (old mid new : SourceSide) (P Q : Past → Type 0) (out : List ℕ) (result : Result Turn RelayFault)
+    → SameSide mid new → new.raw.items ≡ mid.raw.items → ReadTurn room old mid P Q out result
     → ReadTurn room old new P Q out result
 turn_kept room old mid new P Q out result m r t =
     let k : SideReads mid new [] [] [] false = filled_more mid new [] false m.asks m.head m.body (r ∙ sym (append-nil mid.raw.items)) in
@@ -322,15 +369,21 @@ turn_kept room old mid new P Q out result m r t =
         legal = λ x a c. let one = t.reads.legal x a c in (one.0, subst (λ (b : SourceBody). Agrees (after_all x es) b) (sym m.body) one.1);
         reads = λ x body read closed s.
             let shut = says_ended t.answer || closed in
-            let two : SideRead (after_all x es) ((body ++ part) ++ []) ((read ++ t.delta) ++ []) shut new = k.reads (after_all x es) (body ++ part) (read ++ t.delta) shut (t.reads.reads x body read closed s) in
+            let two : SideRead (after_all x es) ((body ++ part) ++ []) ((read ++ t.delta) ++ []) shut new =
+            k.reads (after_all x es) (body ++ part) (read ++ t.delta) shut (t.reads.reads x body read closed s) in
             subst (λ (d : List ℕ). SideRead (after_all x es) d (read ++ t.delta) shut new) (append-nil (body ++ part))
             (subst (λ (d : List ℕ). SideRead (after_all x es) ((body ++ part) ++ []) d shut new) (append-nil (read ++ t.delta)) two);
       };
-      ends = subst (λ (b : SourceBody). old.body.ended ≡ false → b.ended ≡ true → (is_over b.reader ≡ true) ⊎ (says_ended t.answer ≡ true)) (sym m.body) t.ends;
+      ends = subst (λ (b : SourceBody). old.body.ended ≡ false → b.ended ≡ true → (is_over b.reader ≡ true) ⊎ (says_ended t.answer ≡ true))
+          (sym m.body) t.ends;
       told = subst (λ (b : SourceBody). (turn : Turn) → result ≡ Ok turn → is_over b.reader ≡ true → b.ended ≡ true) (sym m.body) t.told;
       waiting = t.waiting;
-      waits = λ w. subst (λ (b : SourceBody). MustWait b new.raw.items room) (sym m.body) (subst (λ (i : List ℕ). MustWait mid.body i room) (sym r) (t.waits w));
-      cause = λ f e. subst (λ (b : SourceBody). ((f ≡ Closed) × IsCutShort b) ⊎ ((f ≡ Device) ⊎ ((f ≡ NoMemory) ⊎ Refuses f b new.raw.items))) (sym m.body) (subst (λ (i : List ℕ). ((f ≡ Closed) × IsCutShort mid.body) ⊎ ((f ≡ Device) ⊎ ((f ≡ NoMemory) ⊎ Refuses f mid.body i))) (sym r) (t.cause f e));
+      waits = λ w. subst (λ (b : SourceBody). MustWait b new.raw.items room) (sym m.body)
+          (subst (λ (i : List ℕ). MustWait mid.body i room) (sym r) (t.waits w));
+      cause = λ f e. subst (λ (b : SourceBody). ((f ≡ Closed) × IsCutShort b)
+          ⊎ ((f ≡ Device) ⊎ ((f ≡ NoMemory) ⊎ Refuses f b new.raw.items))) (sym m.body)
+          (subst (λ (i : List ℕ). ((f ≡ Closed) × IsCutShort mid.body) ⊎ ((f ≡ Device) ⊎ ((f ≡ NoMemory) ⊎ Refuses f mid.body i))) (sym r)
+          (t.cause f e));
     }
 
 -- the wire has given these bytes since
@@ -338,28 +391,69 @@ later_given : (p : Past) (given : List ℕ) (answer : Option Got) → IsGiven gi
 later_given p given None e = subst (λ (t : List ℕ). IsLater p t [] p) (sym e) (later_none p)
 later_given p given (Some (got.Bytes n)) f =
     let whole : take n given ≡ given = ap (λ (k : ℕ). take k given) f.0 ∙ take-length given in
-    record { read = ap (λ (t : List ℕ). p.read ++ t) whole; out = sym (append-nil p.taken); ends = omega arith; read_waits = omega arith; write_waits = omega arith; faults = omega arith }
-later_given p given (Some got.Ended) e = record { read = sym (ap (λ (t : List ℕ). p.read ++ t) e ∙ append-nil p.read); out = sym (append-nil p.taken); ends = omega arith; read_waits = omega arith; write_waits = omega arith; faults = omega arith }
-later_given p given (Some got.Wait) e = record { read = sym (ap (λ (t : List ℕ). p.read ++ t) e ∙ append-nil p.read); out = sym (append-nil p.taken); ends = omega arith; read_waits = omega arith; write_waits = omega arith; faults = omega arith }
-later_given p given (Some got.Fault) e = record { read = sym (ap (λ (t : List ℕ). p.read ++ t) e ∙ append-nil p.read); out = sym (append-nil p.taken); ends = omega arith; read_waits = omega arith; write_waits = omega arith; faults = omega arith }
+    record {
+      read = ap (λ (t : List ℕ). p.read ++ t) whole;
+      out = sym (append-nil p.taken);
+      ends = omega arith;
+      read_waits = omega arith;
+      write_waits = omega arith;
+      faults = omega arith;
+    }
+later_given p given (Some got.Ended) e = record {
+  read = sym (ap (λ (t : List ℕ). p.read ++ t) e ∙ append-nil p.read);
+  out = sym (append-nil p.taken);
+  ends = omega arith;
+  read_waits = omega arith;
+  write_waits = omega arith;
+  faults = omega arith;
+}
+later_given p given (Some got.Wait) e = record {
+  read = sym (ap (λ (t : List ℕ). p.read ++ t) e ∙ append-nil p.read);
+  out = sym (append-nil p.taken);
+  ends = omega arith;
+  read_waits = omega arith;
+  write_waits = omega arith;
+  faults = omega arith;
+}
+later_given p given (Some got.Fault) e = record {
+  read = sym (ap (λ (t : List ℕ). p.read ++ t) e ∙ append-nil p.read);
+  out = sym (append-nil p.taken);
+  ends = omega arith;
+  read_waits = omega arith;
+  write_waits = omega arith;
+  faults = omega arith;
+}
 
 -- a refusal doesn't wait
 never_waits : (result : Result Turn RelayFault) (g : RelayFault) → result ≡ Err g → waits_of result ≡ true → ⊥
 never_waits result g e h = let odd : false ≡ true = sym (ap (λ (r : Result Turn RelayFault). waits_of r) e) ∙ h in cc
 
 -- why it waits, or failed
-reason : (room : ℕ) (new : SourceSide) (p : Past) (given : List ℕ) (answer : Option Got) (fault : Option RelayFault) (result : Result Turn RelayFault) → FitsGot room new answer result
+reason : (room : ℕ) (new : SourceSide) (p : Past) (given : List ℕ) (answer : Option Got) (fault : Option RelayFault)
+    (result : Result Turn RelayFault) → FitsGot room new answer result
     → HasReason OfRelayWire p (after_ask p given answer) fault (Rests room new) (λ past. past.read_waits) result
 reason room new p given None fault (Ok turn) f = record { failed = λ h e n. cc; waiting = λ h. inl (f h) }
-reason room new p given None fault (Err g) f = record { failed = λ h e n. let is : g ≡ h = cc in ((λ d. absurd (f.1 (is ∙ d))), (λ c. absurd (f.0 (is ∙ c)))); waiting = λ h. cc }
-reason room new p given (Some (got.Bytes n)) fault (Ok turn) f = record { failed = λ h e n. cc; waiting = λ h. let odd : true ≡ false = sym h ∙ f in cc }
-reason room new p given (Some (got.Bytes n)) fault (Err g) f = record { failed = λ h e n. let is : g ≡ h = cc in ((λ d. absurd (f.1 (is ∙ d))), (λ c. absurd (f.0 (is ∙ c)))); waiting = λ h. cc }
-reason room new p given (Some got.Ended) fault (Ok turn) f = record { failed = λ h e n. cc; waiting = λ h. let odd : true ≡ false = sym h ∙ f in cc }
-reason room new p given (Some got.Ended) fault (Err g) f = record { failed = λ h e n. let is : g ≡ h = cc in ((λ d. absurd (f (is ∙ d))), (λ c. omega arith)); waiting = λ h. cc }
+reason room new p given None fault (Err g) f = record {
+  failed = λ h e n. let is : g ≡ h = cc in
+      ((λ d. absurd (f.1 (is ∙ d))), (λ c. absurd (f.0 (is ∙ c))));
+  waiting = λ h. cc;
+}
+reason room new p given (Some (got.Bytes n)) fault (Ok turn) f =
+    record { failed = λ h e n. cc; waiting = λ h. let odd : true ≡ false = sym h ∙ f in cc }
+reason room new p given (Some (got.Bytes n)) fault (Err g) f =
+    record { failed = λ h e n. let is : g ≡ h = cc in ((λ d. absurd (f.1 (is ∙ d))), (λ c. absurd (f.0 (is ∙ c)))); waiting = λ h. cc }
+reason room new p given (Some got.Ended) fault (Ok turn) f =
+    record { failed = λ h e n. cc; waiting = λ h. let odd : true ≡ false = sym h ∙ f in cc }
+reason room new p given (Some got.Ended) fault (Err g) f =
+    record { failed = λ h e n. let is : g ≡ h = cc in ((λ d. absurd (f (is ∙ d))), (λ c. omega arith)); waiting = λ h. cc }
 reason room new p given (Some got.Wait) fault (Ok turn) f = record { failed = λ h e n. cc; waiting = λ h. inr (omega arith) }
 reason room new p given (Some got.Wait) fault (Err g) f = absurd f
 reason room new p given (Some got.Fault) fault result f = record {
-  failed = λ h e n. ((λ d. omega arith), (λ c. let odd : Closed ≡ Device = sym c ∙ (let same : Err h ≡ Err Device = sym e ∙ f in cc) in cc));
+  failed = λ h e n. (
+    (λ d. omega arith),
+    (λ c. let odd : Closed ≡ Device = sym c ∙ (let same : Err h ≡ Err Device = sym e ∙ f in cc) in
+        cc),
+  );
   waiting = λ h. absurd (never_waits result Device f h);
 }
 
@@ -372,11 +466,20 @@ ended_later p given (Some got.Wait) e = cc
 ended_later p given (Some got.Fault) e = cc
 
 -- so it is what a transaction asks of a source
-pub as_source : (room : ℕ) (old new : SourceSide) (P Q : Past → Type 0) (out : List ℕ) (result : Result Turn RelayFault) → length out ≡ room → Remembers old.fault new.fault result → ReadTurn room old new P Q out result
-    → ReadsBody (λ x body read. SideRead x body read.bytes read.ended old) (λ x body read. SideRead x body read.bytes read.ended new) (λ x. Agrees x old.body) (λ x. Agrees x new.body) old.fault new.fault (Rests room new) (HasFramed room new) (IsOver new) P Q out result
+pub as_source : (room : ℕ) (old new : SourceSide) (P Q : Past → Type 0) (out : List ℕ) (result : Result Turn RelayFault) → length out ≡ room
+    → Remembers old.fault new.fault result → ReadTurn room old new P Q out result
+    → ReadsBody (λ x body read. SideRead x body read.bytes read.ended old) (λ x body read. SideRead x body read.bytes read.ended new)
+    (λ x. Agrees x old.body) (λ x. Agrees x new.body) old.fault new.fault (Rests room new) (HasFramed room new) (IsOver new) P Q out
+    result
 as_source room old new P Q out result l k t = record {
   delta = record { bytes = t.delta; ended = says_ended t.answer };
-  wire = λ p b. (after_ask p t.delta t.answer, t.wire.each p b, later_given p t.delta t.answer t.wire.fits, reason room new p t.delta t.answer old.fault result t.fits, ended_later p t.delta t.answer);
+  wire = λ p b. (
+    after_ask p t.delta t.answer,
+    t.wire.each p b,
+    later_given p t.delta t.answer t.wire.fits,
+    reason room new p t.delta t.answer old.fault result t.fits,
+    ended_later p t.delta t.answer,
+  );
   only = t.reads.only;
   count = omega (arith, l, t.count);
   framed = t.waits;
@@ -390,12 +493,19 @@ as_source room old new P Q out result l k t = record {
 
 -- a fault is answered again, and nothing else is done
 pub source_again : (room : ℕ) (s : SourceSide) (P : Past → Type 0) (out : List ℕ) (fault : RelayFault) → s.fault ≡ Some fault
-    → ReadsBody (λ x body read. SideRead x body read.bytes read.ended s) (λ x body read. SideRead x body read.bytes read.ended s) (λ x. Agrees x s.body) (λ x. Agrees x s.body) s.fault s.fault (Rests room s) (HasFramed room s) (IsOver s) P P out (Err fault)
+    → ReadsBody (λ x body read. SideRead x body read.bytes read.ended s) (λ x body read. SideRead x body read.bytes read.ended s)
+    (λ x. Agrees x s.body) (λ x. Agrees x s.body) s.fault s.fault (Rests room s) (HasFramed room s) (IsOver s) P P out (Err fault)
 source_again room s P out fault f =
     let k : SideReads s s [] [] [] false = filled_more s s [] false refl refl refl (sym (append-nil s.raw.items)) in
     record {
       delta = record { bytes = []; ended = false };
-      wire = λ p b. (p, b, later_none p, record { failed = λ h e n. (let odd : Some fault ≡ None = sym f ∙ n in cc); waiting = λ w. cc }, λ e. cc);
+      wire = λ p b. (
+        p,
+        b,
+        later_none p,
+        record { failed = λ h e n. (let odd : Some fault ≡ None = sym f ∙ n in cc); waiting = λ w. cc },
+        λ e. cc,
+      );
       only = tt;
       count = zero_le (length out);
       framed = λ w. cc;
@@ -404,5 +514,9 @@ source_again room s P out fault f =
       told = λ turn e o x a. cc;
       goes_on = λ x body read h c. k.reads x body read.bytes read.ended h;
       waiting = says_err fault [];
-      fault = record { sound = λ t e. cc; again = λ g e. (let is : Some fault ≡ Some g = sym f ∙ e in cc); stays = λ g e. (let is : fault ≡ g = cc in f ∙ ap (λ (h : RelayFault). Some h) is) };
+      fault = record {
+        sound = λ t e. cc;
+        again = λ g e. (let is : Some fault ≡ Some g = sym f ∙ e in cc);
+        stays = λ g e. (let is : fault ≡ g = cc in f ∙ ap (λ (h : RelayFault). Some h) is);
+      };
     }

@@ -1,5 +1,6 @@
 -- What was taken is a front of one message.
-use Rattle.std.proofs.Common.{◌≡◌, ℕ, ◌+◌, ◌-◌, ◌≤◌, true, false, List, [], ◌∷◌, ◌++◌, length, take, drop, refl, ap, sym, subst, ◌∙◌, append_assoc, append-nil, arith, length-append, length-drop, IfSome, Option, suc, zero}
+use Rattle.std.proofs.Common.{◌≡◌, ℕ, ◌+◌, ◌-◌, ◌≤◌, true, false, List, [], ◌∷◌, ◌++◌, length, take, drop, refl, ap, sym, subst, ◌∙◌}
+use Rattle.std.proofs.Common.{append_assoc, append-nil, arith, length-append, length-drop, IfSome, Option, suc, zero}
 use Rattle.std.proofs.lemmas.List.{length-take-le, take-append-drop}
 use Rattle.std.proofs.Math.Seq.{take-length}
 use Rattle.icap_chunks.specs.Grammar.{last_chunk}
@@ -40,10 +41,17 @@ record Continues (f : Framing) (body text : List ℕ) : Type 0 where
 parted : (n : ℕ) (body text : List ℕ) → text ≡ take n body → body ≡ text ++ drop n body
 parted n body text t = sym (ap (λ (xs : List ℕ). xs ++ drop n body) t ∙ take-append-drop n body)
 
-continues_plain : (f : Framing) (n : ℕ) (body text : List ℕ) → is_chunks f ≡ false → text ≡ take n body → IfSome (length_of f) (λ k. length body ≤ k) → Continues f body text
+continues_plain : (f : Framing) (n : ℕ) (body text : List ℕ) → is_chunks f ≡ false → text ≡ take n body
+    → IfSome (length_of f) (λ k. length body ≤ k) → Continues f body text
 continues_plain by.None n body text c t l =
     let none : body ≡ [] = nil_of body l in
-    record { more = []; behind = []; has_body = (append-nil body ∙ none, refl); rest = drop n body; whole = sym none ∙ parted n body text t }
+    record {
+      more = [];
+      behind = [];
+      has_body = (append-nil body ∙ none, refl);
+      rest = drop n body;
+      whole = sym none ∙ parted n body text t;
+    }
 continues_plain (by.Length k) n body text c t l =
     let more = zeros (k - length body) in
     record {
@@ -54,14 +62,23 @@ continues_plain (by.Length k) n body text c t l =
       whole = ap (λ (xs : List ℕ). xs ++ more) (parted n body text t) ∙ append_assoc text (drop n body) more;
     }
 continues_plain by.Chunked n body text c t l = cc
-continues_plain by.Close n body text c t l = record { more = []; behind = body; has_body = sym (append-nil body); rest = drop n body; whole = parted n body text t }
+continues_plain by.Close n body text c t l = record {
+  more = [];
+  behind = body;
+  has_body = sym (append-nil body);
+  rest = drop n body;
+  whole = parted n body text t;
+}
 
-continues_run : (f : Framing) (n : ℕ) (body text : List ℕ) (left : ℕ) → is_chunks f ≡ true → n + left ≤ length body → Run (take n body) text left → Continues f body text
+continues_run : (f : Framing) (n : ℕ) (body text : List ℕ) (left : ℕ) → is_chunks f ≡ true → n + left ≤ length body
+    → Run (take n body) text left → Continues f body text
 continues_run by.None n body text left c l r = cc
 continues_run (by.Length k) n body text left c l r = cc
 continues_run by.Chunked n body text left c l r =
-    let d : Completes text (take n body ++ drop n body) = run_completed (take n body) text (drop n body) left (omega (arith, length-drop n body)) r in
-    let cut : IsCut (body ++ []) d.full = subst (λ (xs : List ℕ). IsCut xs d.full) (take-append-drop n body ∙ sym (append-nil body)) d.cut in
+    let d : Completes text (take n body ++ drop n body) =
+    run_completed (take n body) text (drop n body) left (omega (arith, length-drop n body)) r in
+    let cut : IsCut (body ++ []) d.full = subst (λ (xs : List ℕ). IsCut xs d.full) (take-append-drop n body ∙ sym (append-nil body))
+    d.cut in
     record {
       more = [];
       behind = d.full ++ last_chunk false;
@@ -71,7 +88,8 @@ continues_run by.Chunked n body text left c l r =
     }
 continues_run by.Close n body text left c l r = cc
 
-continues : (f : Framing) (n : ℕ) (body text : List ℕ) (left : ℕ) → n + left ≤ length body → Front f false (take n body) text left → IfSome (length_of f) (λ k. length body ≤ k) → Continues f body text
+continues : (f : Framing) (n : ℕ) (body text : List ℕ) (left : ℕ) → n + left ≤ length body → Front f false (take n body) text left
+    → IfSome (length_of f) (λ k. length body ≤ k) → Continues f body text
 continues f n body text left l (plain c z t) i = continues_plain f n body text c t i
 continues f n body text left l (run c w r) i = continues_run f n body text left c l r
 continues f n body text left l (over c w z k j t) i = cc
@@ -79,20 +97,24 @@ continues f n body text left l (over c w z k j t) i = cc
 sized : (o : Option ℕ) (m n : ℕ) → m ≡ n → IfSome o (λ k. m ≤ k) → IfSome o (λ k. n ≤ k)
 sized o m n e h = subst (λ (j : ℕ). IfSome o (λ k. j ≤ k)) e h
 
-front_of : (x : Seen) (f : Framing) (head body taken : List ℕ) (w : Writer) → length body ≡ chosen_received x → IfSome (length_of f) (λ n. chosen_received x ≤ n) → GivesMessage x f false head body taken w → IsFrontOfMessage f head body taken
+front_of : (x : Seen) (f : Framing) (head body taken : List ℕ) (w : Writer) → length body ≡ chosen_received x
+    → IfSome (length_of f) (λ n. chosen_received x ≤ n) → GivesMessage x f false head body taken w → IsFrontOfMessage f head body taken
 front_of x f head body taken w l i g =
-    let c = continues f (chosen_delivered x) body g.behind w.left (omega (arith, g.there, l)) g.front (sized (length_of f) (chosen_received x) (length body) (sym l) i) in
+    let c = continues f (chosen_delivered x) body g.behind w.left (omega (arith, g.there, l)) g.front
+    (sized (length_of f) (chosen_received x) (length body) (sym l) i) in
     record {
       more = c.more;
       text = head ++ c.behind;
       is_message = record { behind = c.behind; has_body = c.has_body; whole = refl };
       front = record {
         rest = waiting w ++ c.rest;
-        whole = ap (λ (xs : List ℕ). head ++ xs) c.whole ∙ (sym (append_assoc head g.behind c.rest) ∙ (ap (λ (xs : List ℕ). xs ++ c.rest) (sym g.fixed_is) ∙ append_assoc taken (waiting w) c.rest));
+        whole = ap (λ (xs : List ℕ). head ++ xs) c.whole ∙ (sym (append_assoc head g.behind c.rest)
+            ∙ (ap (λ (xs : List ℕ). xs ++ c.rest) (sym g.fixed_is) ∙ append_assoc taken (waiting w) c.rest));
       };
     }
 
-pub front_at : (stage : Stage) (x : Seen) (f : Framing) (head body taken : List ℕ) (w : Writer) → stage ≡ at.Message → length body ≡ chosen_received x → IfSome (length_of f) (λ n. chosen_received x ≤ n) → GivenAt stage x f head body taken w
+pub front_at : (stage : Stage) (x : Seen) (f : Framing) (head body taken : List ℕ) (w : Writer) → stage ≡ at.Message
+    → length body ≡ chosen_received x → IfSome (length_of f) (λ n. chosen_received x ≤ n) → GivenAt stage x f head body taken w
     → IsFrontOfMessage f head body taken
 front_at at.Empty x f head body taken w e l i g = cc
 front_at at.Message x f head body taken w e l i g = front_of x f head body taken w l i g
@@ -100,19 +122,22 @@ front_at at.Whole x f head body taken w e l i g = cc
 front_at (at.Refusal status) x f head body taken w e l i g = cc
 
 -- the whole body's text
-whole_plain : (f : Framing) (body text : List ℕ) → is_chunks f ≡ false → text ≡ body → IfSome (length_of f) (λ n. length body ≡ n) → BodyTextOf f body text
+whole_plain : (f : Framing) (body text : List ℕ) → is_chunks f ≡ false → text ≡ body → IfSome (length_of f) (λ n. length body ≡ n)
+    → BodyTextOf f body text
 whole_plain by.None body text c t l = let none : body ≡ [] = nil_of body (omega (arith, l)) in (none, t ∙ none)
 whole_plain (by.Length n) body text c t l = (l, t)
 whole_plain by.Chunked body text c t l = cc
 whole_plain by.Close body text c t l = t
 
-whole_chunks : (f : Framing) (body text chunks : List ℕ) → is_chunks f ≡ true → IsCut body chunks → text ≡ chunks ++ last_chunk false → BodyTextOf f body text
+whole_chunks : (f : Framing) (body text chunks : List ℕ) → is_chunks f ≡ true → IsCut body chunks → text ≡ chunks ++ last_chunk false
+    → BodyTextOf f body text
 whole_chunks by.None body text chunks c i t = cc
 whole_chunks (by.Length n) body text chunks c i t = cc
 whole_chunks by.Chunked body text chunks c i t = record { chunks = chunks; is_cut = i; whole = t }
 whole_chunks by.Close body text chunks c i t = cc
 
-whole_text : (f : Framing) (body text : List ℕ) (left : ℕ) → Front f true body text left → IfSome (length_of f) (λ n. length body ≡ n) → BodyTextOf f body text
+whole_text : (f : Framing) (body text : List ℕ) (left : ℕ) → Front f true body text left → IfSome (length_of f) (λ n. length body ≡ n)
+    → BodyTextOf f body text
 whole_text f body text left (plain c z t) l = whole_plain f body text c t l
 whole_text f body text left (run c w r) l = cc
 whole_text f body text left (over c w z k i t) l = whole_chunks f body text k c i t
@@ -120,39 +145,49 @@ whole_text f body text left (over c w z k i t) l = whole_chunks f body text k c 
 exact : (o : Option ℕ) (m n : ℕ) → m ≡ n → IfSome o (λ k. m ≡ k) → IfSome o (λ k. n ≡ k)
 exact o m n e h = subst (λ (j : ℕ). IfSome o (λ k. j ≡ k)) e h
 
-whole_of : (x : Seen) (f : Framing) (head body taken : List ℕ) (w : Writer) → length body ≡ chosen_received x → waiting w ≡ [] → GivesMessage x f true head body taken w → IsMessage f head body taken
+whole_of : (x : Seen) (f : Framing) (head body taken : List ℕ) (w : Writer) → length body ≡ chosen_received x → waiting w ≡ []
+    → GivesMessage x f true head body taken w → IsMessage f head body taken
 whole_of x f head body taken w l o g =
     let all = g.all_out refl in
     let long : chosen_delivered x ≡ length body = all.1 ∙ sym l in
     let body_is : take (chosen_delivered x) body ≡ body = ap (λ (n : ℕ). take n body) long ∙ take-length body in
     record {
       behind = g.behind;
-      has_body = whole_text f body g.behind w.left (subst (λ (xs : List ℕ). Front f true xs g.behind w.left) body_is g.front) (exact (length_of f) (chosen_delivered x) (length body) long all.2);
+      has_body = whole_text f body g.behind w.left (subst (λ (xs : List ℕ). Front f true xs g.behind w.left) body_is g.front)
+          (exact (length_of f) (chosen_delivered x) (length body) long all.2);
       whole = sym (append-nil taken) ∙ (ap (λ (xs : List ℕ). taken ++ xs) (sym o) ∙ g.fixed_is);
     }
 
-pub whole_at : (stage : Stage) (x : Seen) (f : Framing) (head body taken : List ℕ) (w : Writer) → stage ≡ at.Whole → length body ≡ chosen_received x → waiting w ≡ [] → GivenAt stage x f head body taken w → IsMessage f head body taken
+pub whole_at : (stage : Stage) (x : Seen) (f : Framing) (head body taken : List ℕ) (w : Writer) → stage ≡ at.Whole
+    → length body ≡ chosen_received x → waiting w ≡ [] → GivenAt stage x f head body taken w → IsMessage f head body taken
 whole_at at.Empty x f head body taken w e l o g = cc
 whole_at at.Message x f head body taken w e l o g = cc
 whole_at at.Whole x f head body taken w e l o g = whole_of x f head body taken w l o g
 whole_at (at.Refusal status) x f head body taken w e l o g = cc
 
 -- the whole text is fixed: what was taken is a front of it
-whole_front_of : (x : Seen) (f : Framing) (head body taken : List ℕ) (w : Writer) → length body ≡ chosen_received x → GivesMessage x f true head body taken w → IsFrontOfMessage f head body taken
+whole_front_of : (x : Seen) (f : Framing) (head body taken : List ℕ) (w : Writer) → length body ≡ chosen_received x
+    → GivesMessage x f true head body taken w → IsFrontOfMessage f head body taken
 whole_front_of x f head body taken w l g =
     let all = g.all_out refl in
     let long : chosen_delivered x ≡ length body = all.1 ∙ sym l in
     let body_is : take (chosen_delivered x) body ≡ body = ap (λ (n : ℕ). take n body) long ∙ take-length body in
     let text_is : BodyTextOf f body g.behind =
-    whole_text f body g.behind w.left (subst (λ (xs : List ℕ). Front f true xs g.behind w.left) body_is g.front) (exact (length_of f) (chosen_delivered x) (length body) long all.2) in
+    whole_text f body g.behind w.left (subst (λ (xs : List ℕ). Front f true xs g.behind w.left) body_is g.front)
+    (exact (length_of f) (chosen_delivered x) (length body) long all.2) in
     record {
       more = [];
       text = head ++ g.behind;
-      is_message = record { behind = g.behind; has_body = subst (λ (xs : List ℕ). BodyTextOf f xs g.behind) (sym (append-nil body)) text_is; whole = refl };
+      is_message = record {
+        behind = g.behind;
+        has_body = subst (λ (xs : List ℕ). BodyTextOf f xs g.behind) (sym (append-nil body)) text_is;
+        whole = refl;
+      };
       front = record { rest = waiting w; whole = sym g.fixed_is };
     }
 
-pub whole_front_at : (stage : Stage) (x : Seen) (f : Framing) (head body taken : List ℕ) (w : Writer) → stage ≡ at.Whole → length body ≡ chosen_received x → GivenAt stage x f head body taken w → IsFrontOfMessage f head body taken
+pub whole_front_at : (stage : Stage) (x : Seen) (f : Framing) (head body taken : List ℕ) (w : Writer) → stage ≡ at.Whole
+    → length body ≡ chosen_received x → GivenAt stage x f head body taken w → IsFrontOfMessage f head body taken
 whole_front_at at.Empty x f head body taken w e l g = cc
 whole_front_at at.Message x f head body taken w e l g = cc
 whole_front_at at.Whole x f head body taken w e l g = whole_front_of x f head body taken w l g
@@ -173,26 +208,32 @@ fills_run by.Chunked body text left c r =
     }
 fills_run by.Close body text left c r = cc
 
-fills : (f : Framing) (body text : List ℕ) (left : ℕ) → Front f false body text left → IfSome (length_of f) (λ k. length body ≤ k) → Continues f body text
+fills : (f : Framing) (body text : List ℕ) (left : ℕ) → Front f false body text left → IfSome (length_of f) (λ k. length body ≤ k)
+    → Continues f body text
 fills f body text left (plain c z t) i = continues_plain f (length body) body text c (t ∙ sym (take-length body)) i
 fills f body text left (run c w r) i = fills_run f body text left c r
 fills f body text left (over c w z k j t) i = cc
 
-out_front_of : (x : Seen) (f : Framing) (head body taken : List ℕ) (w : Writer) → length body ≡ chosen_received x → GivesMessage x f false head body taken w → IsFrontOfMessage f head (take (chosen_delivered x) body) taken
+out_front_of : (x : Seen) (f : Framing) (head body taken : List ℕ) (w : Writer) → length body ≡ chosen_received x
+    → GivesMessage x f false head body taken w → IsFrontOfMessage f head (take (chosen_delivered x) body) taken
 out_front_of x f head body taken w l g =
-    let long : length (take (chosen_delivered x) body) ≡ chosen_delivered x = length-take-le (chosen_delivered x) body (omega (arith, g.there, l)) in
-    let c = fills f (take (chosen_delivered x) body) g.behind w.left g.front (sized (length_of f) (chosen_delivered x) (length (take (chosen_delivered x) body)) (sym long) g.within) in
+    let long : length (take (chosen_delivered x) body) ≡ chosen_delivered x =
+    length-take-le (chosen_delivered x) body (omega (arith, g.there, l)) in
+    let c = fills f (take (chosen_delivered x) body) g.behind w.left g.front
+    (sized (length_of f) (chosen_delivered x) (length (take (chosen_delivered x) body)) (sym long) g.within) in
     record {
       more = c.more;
       text = head ++ c.behind;
       is_message = record { behind = c.behind; has_body = c.has_body; whole = refl };
       front = record {
         rest = waiting w ++ c.rest;
-        whole = ap (λ (xs : List ℕ). head ++ xs) c.whole ∙ (sym (append_assoc head g.behind c.rest) ∙ (ap (λ (xs : List ℕ). xs ++ c.rest) (sym g.fixed_is) ∙ append_assoc taken (waiting w) c.rest));
+        whole = ap (λ (xs : List ℕ). head ++ xs) c.whole ∙ (sym (append_assoc head g.behind c.rest)
+            ∙ (ap (λ (xs : List ℕ). xs ++ c.rest) (sym g.fixed_is) ∙ append_assoc taken (waiting w) c.rest));
       };
     }
 
-pub out_front_at : (stage : Stage) (x : Seen) (f : Framing) (head body taken : List ℕ) (w : Writer) → stage ≡ at.Message → length body ≡ chosen_received x → GivenAt stage x f head body taken w
+pub out_front_at : (stage : Stage) (x : Seen) (f : Framing) (head body taken : List ℕ) (w : Writer) → stage ≡ at.Message
+    → length body ≡ chosen_received x → GivenAt stage x f head body taken w
     → IsFrontOfMessage f head (take (chosen_delivered x) body) taken
 out_front_at at.Empty x f head body taken w e l g = cc
 out_front_at at.Message x f head body taken w e l g = out_front_of x f head body taken w l g
@@ -203,21 +244,26 @@ first_nil : (xs ys : List ℕ) → xs ++ ys ≡ [] → xs ≡ []
 first_nil [] ys e = refl
 first_nil (x ∷ xs) ys e = cc
 
-pub empty_at : (stage : Stage) (x : Seen) (f : Framing) (head body taken : List ℕ) (w : Writer) → stage ≡ at.Empty → GivenAt stage x f head body taken w → taken ≡ []
+pub empty_at : (stage : Stage) (x : Seen) (f : Framing) (head body taken : List ℕ) (w : Writer) → stage ≡ at.Empty
+    → GivenAt stage x f head body taken w → taken ≡ []
 empty_at at.Empty x f head body taken w e g = first_nil taken (waiting w) g.0
 empty_at at.Message x f head body taken w e g = cc
 empty_at at.Whole x f head body taken w e g = cc
 empty_at (at.Refusal status) x f head body taken w e g = cc
 
 -- A refusal.
-pub refusal_at : (stage : Stage) (status : ℕ) (taken : List ℕ) (w : Writer) → stage ≡ at.Refusal status → AsideAt stage taken w → taken ++ waiting w ≡ refusal status
+pub refusal_at : (stage : Stage) (status : ℕ) (taken : List ℕ) (w : Writer) → stage ≡ at.Refusal status → AsideAt stage taken w
+    → taken ++ waiting w ≡ refusal status
 refusal_at at.Empty status taken w e g = cc
 refusal_at at.Message status taken w e g = cc
 refusal_at at.Whole status taken w e g = cc
 refusal_at (at.Refusal s) status taken w e g = let is : s ≡ status = cc in g ∙ ap refusal is
 
-pub refusal_front : (status : ℕ) (taken : List ℕ) (h : Hop) → h.stage ≡ at.Refusal status → IsAside taken h → IsPrefixOf taken (refusal status)
+pub refusal_front : (status : ℕ) (taken : List ℕ) (h : Hop) → h.stage ≡ at.Refusal status → IsAside taken h
+    → IsPrefixOf taken (refusal status)
 refusal_front status taken h e a = record { rest = waiting h.writer; whole = sym (refusal_at h.stage status taken h.writer e a.text) }
 
-pub refusal_whole : (status : ℕ) (taken : List ℕ) (h : Hop) → h.stage ≡ at.Refusal status → IsAside taken h → waiting h.writer ≡ [] → taken ≡ refusal status
-refusal_whole status taken h e a o = sym (append-nil taken) ∙ (ap (λ (xs : List ℕ). taken ++ xs) (sym o) ∙ refusal_at h.stage status taken h.writer e a.text)
+pub refusal_whole : (status : ℕ) (taken : List ℕ) (h : Hop) → h.stage ≡ at.Refusal status → IsAside taken h → waiting h.writer ≡ []
+    → taken ≡ refusal status
+refusal_whole status taken h e a o = sym (append-nil taken) ∙ (ap (λ (xs : List ℕ). taken ++ xs) (sym o)
+    ∙ refusal_at h.stage status taken h.writer e a.text)

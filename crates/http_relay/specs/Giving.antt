@@ -1,5 +1,6 @@
 -- What the next hop was given, as a relation over histories.
-use Rattle.std.specs.Prelude.{◌≡◌, ℕ, ◌+◌, ◌<◌, ◌≤◌, Bool, true, false, List, [], ◌∷◌, ◌++◌, length, take, Option, Some, None, IfSome, if◌then◌else◌, ◌==◌, ◌||◌}
+use Rattle.std.specs.Prelude.{◌≡◌, ℕ, ◌+◌, ◌<◌, ◌≤◌, Bool, true, false, List, [], ◌∷◌, ◌++◌, length, take, Option, Some, None, IfSome}
+use Rattle.std.specs.Prelude.{if◌then◌else◌, ◌==◌, ◌||◌}
 use Rattle.icap_chunks.specs.Grammar.{last_chunk}
 use Rattle.trace_core.specs.declared.history.Event.{Event}
 use Rattle.trace_core.specs.declared.history.Event.TheVariants.{Usr, Done}
@@ -34,7 +35,8 @@ pub record Hop : Type 0 where
 pub data Front (framing : Framing) (whole : Bool) (body text : List ℕ) (left : ℕ) : Type 0 where
   plain : is_chunks framing ≡ false → left ≡ 0 → text ≡ body → Front framing whole body text left
   run : is_chunks framing ≡ true → whole ≡ false → Run body text left → Front framing whole body text left
-  over : is_chunks framing ≡ true → whole ≡ true → left ≡ 0 → (chunks : List ℕ) → IsCut body chunks → text ≡ chunks ++ last_chunk false → Front framing whole body text left
+  over : is_chunks framing ≡ true → whole ≡ true → left ≡ 0 → (chunks : List ℕ) → IsCut body chunks → text ≡ chunks ++ last_chunk false
+      → Front framing whole body text left
 
 -- what waits of a text that is fixed once a byte of the body is out: nothing after a plain body; in chunks, framing text after these bytes
 abbrev pub Waits : Bool → (body fixed waits : List ℕ) → Type 0
@@ -50,7 +52,8 @@ pub record GivesMessage (x : Seen) (framing : Framing) (whole : Bool) (head body
   pub within : IfSome (length_of framing) (λ n. chosen_delivered x ≤ n)
   -- once a byte of the body is out, all that were counted are, and what waits is framing text after them
   pub waits : 0 < chosen_delivered x → Waits (is_chunks framing) (take (chosen_delivered x) body) behind (waiting w)
-  pub all_out : whole ≡ true → (chosen_over x ≡ true) × (chosen_delivered x ≡ chosen_received x) × IfSome (length_of framing) (λ n. chosen_delivered x ≡ n)
+  pub all_out : whole ≡ true → (chosen_over x ≡ true) × (chosen_delivered x ≡ chosen_received x)
+      × IfSome (length_of framing) (λ n. chosen_delivered x ≡ n)
 
 -- the bytes that the next hop took of a message: none yet, or a prefix of one; a refusal is no message
 abbrev pub GivenAt : Stage → Seen → Framing → List ℕ → List ℕ → List ℕ → Writer → Type 0
@@ -102,11 +105,14 @@ pub record Decides (turn : ℕ) (x : Seen) (w : Writer) (framing : Framing) (sta
   pub fits : FitsTurn w next.chunked next.count
   pub few : next.count ≤ turn
   pub usr : 0 < next.count → (is_message stage ≡ true) × (x.closed ≡ false) × Allows x (Usr next.count)
-  pub greatest : is_message stage ≡ true → (n : ℕ) → x.closed ≡ false → Allows x (Usr n) → n ≤ turn → FitsTurn w next.chunked n → n ≤ next.count
+  pub greatest : is_message stage ≡ true → (n : ℕ) → x.closed ≡ false → Allows x (Usr n) → n ≤ turn → FitsTurn w next.chunked n
+      → n ≤ next.count
   pub some : is_message stage ≡ true → (n : ℕ) → x.closed ≡ false → Allows x (Usr n) → 0 < next.count
   pub room : 0 < next.count → IfSome (length_of framing) (λ n. chosen_received x ≤ n)
-  pub ends : is_ending next.end ≡ true → (is_message stage ≡ true) × (x.closed ≡ false) × (chosen_over x ≡ true) × (chosen_delivered x + next.count ≡ chosen_received x)
-  pub no_end : is_message stage ≡ true → is_ending next.end ≡ false → x.closed ≡ false → chosen_over x ≡ true → chosen_delivered x + next.count ≡ chosen_received x → ⊥
+  pub ends : is_ending next.end ≡ true → (is_message stage ≡ true) × (x.closed ≡ false) × (chosen_over x ≡ true)
+      × (chosen_delivered x + next.count ≡ chosen_received x)
+  pub no_end : is_message stage ≡ true → is_ending next.end ≡ false → x.closed ≡ false → chosen_over x ≡ true
+      → chosen_delivered x + next.count ≡ chosen_received x → ⊥
   pub text : is_ending next.end ≡ true → end_text next.end ≡ body_end framing
   pub exact : is_ending next.end ≡ true → IfSome (length_of framing) (λ n. chosen_received x ≡ n)
 

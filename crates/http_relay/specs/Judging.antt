@@ -36,7 +36,8 @@ pub record IsInterim (r : ResponseParts) : Type 0 where
 -- an interim response stands first, and as many were dropped as are read before an answer
 abbrev pub IsOneTooMany : Asks → List ℕ → (dropped : ℕ) → Type 0
 IsOneTooMany asks.Request bytes dropped = ⊥
-IsOneTooMany (asks.Response to_head) bytes dropped = (r : ResponseParts) × (len : ℕ) × IsResponseRead to_head bytes r len × IsInterim r × (MAX_INTERIMS ≤ dropped)
+IsOneTooMany (asks.Response to_head) bytes dropped =
+    (r : ResponseParts) × (len : ℕ) × IsResponseRead to_head bytes r len × IsInterim r × (MAX_INTERIMS ≤ dropped)
 
 -- before the head: the raw bytes that were judged are a prefix of a head, and nothing was refused
 pub record IsLooking (s : SourceSide) : Type 0 where

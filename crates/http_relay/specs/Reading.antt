@@ -1,5 +1,6 @@
 -- A source's side over its wire.
-use Rattle.std.specs.Prelude.{◌≡◌, ◌≢◌, ℕ, ◌+◌, ◌<◌, ◌≤◌, ◌⊎◌, ◌||◌, Bool, true, false, List, [], ◌++◌, length, take, Option, Some, None as Nothing, Result, Ok, Err, IfSome}
+use Rattle.std.specs.Prelude.{◌≡◌, ◌≢◌, ℕ, ◌+◌, ◌<◌, ◌≤◌, ◌⊎◌, ◌||◌, Bool, true, false, List, [], ◌++◌, length, take, Option, Some}
+use Rattle.std.specs.Prelude.{None as Nothing, Result, Ok, Err, IfSome}
 use Rattle.http_side.specs.Heads.{RequestParts, ResponseParts, IsRequestText}
 use Rattle.http_side.specs.Requests.{IsRead}
 use Rattle.http_side.specs.Responses.{IsResponseRead}
@@ -42,7 +43,8 @@ IsHeadText _ _ text = ⊥
 -- this many interim responses in a row
 pub data AreInterims (to_head : Bool) : ℕ → List ℕ → Type 0 where
   nothing : AreInterims to_head 0 []
-  further : (n : ℕ) (before text : List ℕ) (r : ResponseParts) → AreInterims to_head n before → IsResponseRead to_head text r (length text) → IsInterim r → AreInterims to_head (n + 1) (before ++ text)
+  further : (n : ℕ) (before text : List ℕ) (r : ResponseParts) → AreInterims to_head n before → IsResponseRead to_head text r (length text)
+      → IsInterim r → AreInterims to_head (n + 1) (before ++ text)
 
 -- they may come before a response, if they aren't too many; before a request there are none
 abbrev pub IsBefore : Asks → ℕ → List ℕ → Type 0
@@ -93,7 +95,8 @@ pub record AtHead (read : List ℕ) (s : SourceSide) : Type 0 where
 pub record SideReads (old new : SourceSide) (events : List Event) (delta part : List ℕ) (ended : Bool) : Type 0 where
   pub only : AllAre is_of_source events
   pub legal : (x : Seen) → Agrees x old.body → x.closed ≡ false → MayAllFollow x events × Agrees (after_all x events) new.body
-  pub reads : (x : Seen) (body read : List ℕ) (closed : Bool) → SideRead x body read closed old → SideRead (after_all x events) (body ++ part) (read ++ delta) (ended || closed) new
+  pub reads : (x : Seen) (body read : List ℕ) (closed : Bool) → SideRead x body read closed old
+      → SideRead (after_all x events) (body ++ part) (read ++ delta) (ended || closed) new
 
 -- nothing is to be read: the end was reported, or there is no room
 abbrev pub Rests : ℕ → SourceSide → Type 0
@@ -145,7 +148,8 @@ says_ended _ = false
 
 -- A turn of a side without a fault makes one read at most. It reports the body's end only if the framing gives it, or the wire
 -- has ended in this turn; an end that the framing gives isn't withheld.
-pub record ReadTurn (room : ℕ) (old new : SourceSide) (before after : Past → Type 0) (out : List ℕ) (result : Result Turn RelayFault) : Type 0 where
+pub record ReadTurn (room : ℕ) (old new : SourceSide) (before after : Past → Type 0) (out : List ℕ) (result : Result Turn RelayFault) : Type
+    0 where
   pub delta : List ℕ
   pub answer : Option Got
   pub wire : ReadsAtMostOnce before after delta answer
@@ -163,7 +167,8 @@ pub record ReadTurn (room : ℕ) (old new : SourceSide) (before after : Past →
 
 -- the message begins: of its body nothing was read, and its numbers are those of a history without In and End
 abbrev pub Begins : List ℕ → SourceSide → Type 0
-Begins read s = (x : Seen) → x.received ≡ 0 → x.ended ≡ false → SideRead x [] read false s × (IfSome x.plan.len (λ len. length_of s.body.framing ≡ Some len) → Agrees x s.body)
+Begins read s = (x : Seen) → x.received ≡ 0 → x.ended ≡ false
+    → SideRead x [] read false s × (IfSome x.plan.len (λ len. length_of s.body.framing ≡ Some len) → Agrees x s.body)
 
 -- what judging the raw bytes gives: the message begins, or its head is still to come
 abbrev pub JudgesHeadTo : Result HeadProgress RelayFault → List ℕ → SourceSide → Type 0
@@ -175,7 +180,8 @@ JudgesHeadTo (Err fault) read s = AtHead read s
 -- the wire is read only if no head is among the bytes that are kept
 abbrev pub ReadsForHead : SourceSide → Option Got → Type 0
 ReadsForHead old Nothing = Unit {0}
-ReadsForHead old (Some answer) = (judged : SourceSide) × ((read : List ℕ) → AtHead read old → AtHead read judged) × (IsLooking old → HasNoHead judged)
+ReadsForHead old (Some answer) = (judged : SourceSide) × ((read : List ℕ) → AtHead read old → AtHead read judged)
+    × (IsLooking old → HasNoHead judged)
 
 -- What a turn at the head makes of its wire's answer. It says that more is to come after bytes, or if none are there now; it
 -- answers Closed and Device just if the wire ended or failed.

@@ -40,7 +40,8 @@ pub record BodyRead (x : Seen) (body text : List ℕ) (closed : Bool) (s : Sourc
 pub record BodyReads (old new : SourceBody) (events : List Event) (bytes part : List ℕ) (ended : Bool) : Type 0 where
   pub only : AllAre is_of_source events
   pub legal : (x : Seen) → Agrees x old → x.closed ≡ false → MayAllFollow x events × Agrees (after_all x events) new
-  pub reads : (x : Seen) (body text : List ℕ) (closed : Bool) → BodyRead x body text closed old → BodyRead (after_all x events) (body ++ part) (text ++ bytes) (ended || closed) new
+  pub reads : (x : Seen) (body text : List ℕ) (closed : Bool) → BodyRead x body text closed old
+      → BodyRead (after_all x events) (body ++ part) (text ++ bytes) (ended || closed) new
 
 -- the end is reported just when the framing gives it; one that was reported stays
 pub record TellsEnd (old new : SourceBody) : Type 0 where

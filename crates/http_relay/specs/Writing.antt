@@ -26,7 +26,8 @@ pub record TookBody (x : Seen) (tape : Tape) (count : ℕ) (delta : List ℕ) : 
 -- The side goes on by these events while its wire takes these bytes; Done stands only once the message's whole text is out.
 pub record GoesOn (x : Seen) (tape : Tape) (old new : Hop) (events : List Event) (delta : List ℕ) : Type 0 where
   pub legal : MayAllFollow x events
-  pub given : (head body taken : List ℕ) → Follows tape body → HasGiven x head body taken old → HasGiven (after_all x events) head body (taken ++ delta) new
+  pub given : (head body taken : List ℕ) → Follows tape body → HasGiven x head body taken old
+      → HasGiven (after_all x events) head body (taken ++ delta) new
   pub aside : (taken : List ℕ) → IsAside taken old → IsAside (taken ++ delta) new
   pub sent : ℕ
   pub done : Bool
@@ -63,10 +64,11 @@ pub record OffersAll (x : Seen) (tape : Tape) (old : Hop) (text : List ℕ) (ans
   pub asks : answer ≡ None ↔ text ≡ []
 
 -- A turn makes one write at most, and offers all that is due. After a fault, and if the body breaks its length, it makes none.
-pub record WriteTurn (x : Seen) (tape : Tape) (old new : Hop) (before after : Past → Type 0) (result : Result Turn RelayFault) : Type 0 where
-  pub text : List ℕ
-  pub answer : Option Put
-  pub wire : Offers before after text answer
-  pub goes_on : GoesOn x tape old new (events_of result) (delta_of text answer)
-  pub offers : old.fault ≡ None → (result ≡ Err Length) ⊎ OffersAll x tape old text answer
-  pub fits : old.fault ≡ None → FitsOffer x old new answer result
+pub record WriteTurn (x : Seen) (tape : Tape) (old new : Hop) (before after : Past → Type 0) (result : Result Turn RelayFault) : Type 0
+  where
+    pub text : List ℕ
+    pub answer : Option Put
+    pub wire : Offers before after text answer
+    pub goes_on : GoesOn x tape old new (events_of result) (delta_of text answer)
+    pub offers : old.fault ≡ None → (result ≡ Err Length) ⊎ OffersAll x tape old text answer
+    pub fits : old.fault ≡ None → FitsOffer x old new answer result

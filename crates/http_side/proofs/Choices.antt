@@ -1,5 +1,6 @@
 -- The lengths and codings of a head that goes on, and the framing that its reader sees.
-use Rattle.std.proofs.Common.{◌≡◌, ℕ, Bool, true, false, not, List, [], ◌∷◌, ◌++◌, map, take, Option, Some, None, Ok, Err, refl, sym, ap, ◌∙◌, inl, inr}
+use Rattle.std.proofs.Common.{◌≡◌, ℕ, Bool, true, false, not, List, [], ◌∷◌, ◌++◌, map, take, Option, Some, None, Ok, Err, refl, sym, ap}
+use Rattle.std.proofs.Common.{◌∙◌, inl, inr}
 use Rattle.std.specs.Prelude.{codes, fold, if◌then◌else◌, ◌==◌}
 use Rattle.std.proofs.lemmas.Bool.{cases_Bool, eqb-true}
 use Rattle.std.specs.Str.{str_eq_ignore_ascii_case}
@@ -20,7 +21,8 @@ on b value = if b then value ∷ [] else []
 pub added-length : (x : Extra) (minor : ℕ) → values_of LENGTH (added_fields x minor) ≡ on x.empty (codes "0")
 added-length x minor = by_four x.empty x.chunked x.close x.via
   where
-    by_four : (a b c d : Bool) → values_of LENGTH (when a (codes "Content-Length", codes "0") ++ when b (codes "Transfer-Encoding", codes "chunked")
+    by_four : (a b c d : Bool) → values_of LENGTH (when a (codes "Content-Length", codes "0")
+        ++ when b (codes "Transfer-Encoding", codes "chunked")
         ++ when c (codes "Connection", codes "close") ++ when d (codes "Via", via_value minor)) ≡ on a (codes "0")
     by_four true true true true = refl
     by_four true true true false = refl
@@ -42,7 +44,8 @@ added-length x minor = by_four x.empty x.chunked x.close x.via
 pub added-coding : (x : Extra) (minor : ℕ) → values_of CODING (added_fields x minor) ≡ on x.chunked (codes "chunked")
 added-coding x minor = by_four x.empty x.chunked x.close x.via
   where
-    by_four : (a b c d : Bool) → values_of CODING (when a (codes "Content-Length", codes "0") ++ when b (codes "Transfer-Encoding", codes "chunked")
+    by_four : (a b c d : Bool) → values_of CODING (when a (codes "Content-Length", codes "0")
+        ++ when b (codes "Transfer-Encoding", codes "chunked")
         ++ when c (codes "Connection", codes "close") ++ when d (codes "Via", via_value minor)) ≡ on b (codes "chunked")
     by_four true true true true = refl
     by_four true true true false = refl
@@ -63,11 +66,13 @@ added-coding x minor = by_four x.empty x.chunked x.close x.via
 
 -- ---- what is kept
 
-host-none : (b : Bool) (authority name : List ℕ) → str_eq_ignore_ascii_case (codes "host") name ≡ false → values_of name (when b (codes "Host", authority)) ≡ []
+host-none : (b : Bool) (authority name : List ℕ) → str_eq_ignore_ascii_case (codes "host") name ≡ false
+    → values_of name (when b (codes "Host", authority)) ≡ []
 host-none true authority name e = let other : str_eq_ignore_ascii_case (codes "Host") name ≡ false = e in rw other refl
 host-none false authority name e = refl
 
-pub request-length : (authority : List ℕ) (fields : List (List ℕ × List ℕ)) → values_of LENGTH (request_fields authority fields) ≡ take 1 (values_of LENGTH fields)
+pub request-length : (authority : List ℕ) (fields : List (List ℕ × List ℕ))
+    → values_of LENGTH (request_fields authority fields) ≡ take 1 (values_of LENGTH fields)
 request-length authority fields =
     let kept = kept_fields (record { expect = true; length = false }) fields in
     values-append LENGTH (when (not (has_host fields)) (codes "Host", authority)) (map (hosted (Some authority)) kept)
@@ -81,10 +86,12 @@ request-coding authority fields =
     ∙ ap (λ t. t ++ values_of CODING (map (hosted (Some authority)) kept)) (host-none (not (has_host fields)) authority CODING refl)
     ∙ values-hosted CODING (Some authority) kept refl ∙ kept-no_coding (record { expect = true; length = false }) fields
 
-pub response-length : (fields : List (List ℕ × List ℕ)) → values_of LENGTH (response_fields fields) ≡ (if both_lengths fields then [] else take 1 (values_of LENGTH fields))
+pub response-length : (fields : List (List ℕ × List ℕ))
+    → values_of LENGTH (response_fields fields) ≡ (if both_lengths fields then [] else take 1 (values_of LENGTH fields))
 response-length fields = by_test (both_lengths fields)
   where
-    by_test : (b : Bool) → values_of LENGTH (kept_fields (record { expect = false; length = b }) fields) ≡ (if b then [] else take 1 (values_of LENGTH fields))
+    by_test : (b : Bool) → values_of LENGTH (kept_fields (record { expect = false; length = b }) fields)
+        ≡ (if b then [] else take 1 (values_of LENGTH fields))
     by_test true = kept-no_length false fields
     by_test false = kept-length false fields
 
@@ -102,16 +109,19 @@ fold_stays n [] r e = let x : Ok (Some n) ≡ Ok r = e in cc
 fold_stays n (v ∷ values) r e = by_value (λ m x. fold_stays m values r x) (length_value v) refl
   where
     by_value : ((m : ℕ) → fold agreed (Ok (Some m)) values ≡ Ok r → r ≡ Some m) → (o : Option ℕ) → length_value v ≡ o → r ≡ Some n
-    by_value more None was = absurd (let x : fold agreed (Err Lengths) values ≡ Ok r = ap (λ o. fold agreed (with_length (Some n) o) values) (sym was) ∙ e in
+    by_value more None was = absurd (let x : fold agreed (Err Lengths) values
+        ≡ Ok r = ap (λ o. fold agreed (with_length (Some n) o) values) (sym was) ∙ e in
         let y : Err Lengths ≡ Ok r = sym (fold_err Lengths values) ∙ x in cc)
     by_value more (Some m) was = elim (cases_Bool (n == m)) [
       | inl same ↦
           let same_is : with_length (Some n) (Some m) ≡ Ok (Some m) = rw same refl in
-          let x : fold agreed (Ok (Some m)) values ≡ Ok r = ap (λ o. fold agreed o values) (sym same_is) ∙ ap (λ o. fold agreed (with_length (Some n) o) values) (sym was) ∙ e in
+          let x : fold agreed (Ok (Some m)) values ≡ Ok r =
+          ap (λ o. fold agreed o values) (sym same_is) ∙ ap (λ o. fold agreed (with_length (Some n) o) values) (sym was) ∙ e in
           more m x ∙ ap Some (sym (eqb-true n m same))
       | inr other ↦ absurd (
           let other_is : with_length (Some n) (Some m) ≡ Err Lengths = rw other refl in
-          let x : fold agreed (Err Lengths) values ≡ Ok r = ap (λ o. fold agreed o values) (sym other_is) ∙ ap (λ o. fold agreed (with_length (Some n) o) values) (sym was) ∙ e in
+          let x : fold agreed (Err Lengths) values ≡ Ok r =
+          ap (λ o. fold agreed o values) (sym other_is) ∙ ap (λ o. fold agreed (with_length (Some n) o) values) (sym was) ∙ e in
           let y : Err Lengths ≡ Ok r = sym (fold_err Lengths values) ∙ x in cc)
     ]
 
@@ -121,7 +131,8 @@ first_is [] r e = e
 first_is (v ∷ values) r e = by_value (length_value v) refl
   where
     by_value : (o : Option ℕ) → length_value v ≡ o → fold agreed (Ok None) (v ∷ []) ≡ Ok r
-    by_value None was = absurd (let x : fold agreed (Err Lengths) values ≡ Ok r = ap (λ o. fold agreed (with_length None o) values) (sym was) ∙ e in
+    by_value None was = absurd (let x : fold agreed (Err Lengths) values
+        ≡ Ok r = ap (λ o. fold agreed (with_length None o) values) (sym was) ∙ e in
         let y : Err Lengths ≡ Ok r = sym (fold_err Lengths values) ∙ x in cc)
     by_value (Some m) was =
         let x : fold agreed (Ok (Some m)) values ≡ Ok r = ap (λ o. fold agreed (with_length None o) values) (sym was) ∙ e in
@@ -133,7 +144,8 @@ no_values [] e = refl
 no_values (v ∷ values) e = by_value (length_value v) refl
   where
     by_value : (o : Option ℕ) → length_value v ≡ o → v ∷ values ≡ []
-    by_value None was = absurd (let x : fold agreed (Err Lengths) values ≡ Ok None = ap (λ o. fold agreed (with_length None o) values) (sym was) ∙ e in
+    by_value None was = absurd (let x : fold agreed (Err Lengths) values
+        ≡ Ok None = ap (λ o. fold agreed (with_length None o) values) (sym was) ∙ e in
         let y : Err Lengths ≡ Ok None = sym (fold_err Lengths values) ∙ x in cc)
     by_value (Some m) was = absurd (
         let x : fold agreed (Ok (Some m)) values ≡ Ok None = ap (λ o. fold agreed (with_length None o) values) (sym was) ∙ e in

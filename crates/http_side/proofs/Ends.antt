@@ -1,5 +1,6 @@
 -- A reader is over where it has read a whole body, and only there.
-use Rattle.std.proofs.Common.{◌≡◌, ℕ, ◌-◌, ◌≤◌, Bool, true, false, is_some, List, length, Option, Some, None as Nothing, IsTrue, refl, sym, ap, ◌∙◌, arith, eqb}
+use Rattle.std.proofs.Common.{◌≡◌, ℕ, ◌-◌, ◌≤◌, Bool, true, false, is_some, List, length, Option, Some, None as Nothing, IsTrue, refl, sym}
+use Rattle.std.proofs.Common.{ap, ◌∙◌, arith, eqb}
 use Rattle.std.specs.Prelude.{◌↔◌, if◌then◌else◌, option_map}
 use Rattle.std.proofs.lemmas.Bool.{eqb-true, eq-eqb}
 use Rattle.icap_chunks.specs.Grammar.{IsChunked}
@@ -22,7 +23,8 @@ some_of Nothing e = absurd (let f : false ≡ true = e in cc)
 some_of (Some x) e = (x, refl)
 
 -- the chunks are over
-pub chunks_over : (text body : List ℕ) (r : ChunkReader) → ChunksRead text body r → IsTrue (is_some (end_of r)) ↔ ((ieof : Bool) × IsChunked text body ieof)
+pub chunks_over : (text body : List ℕ) (r : ChunkReader) → ChunksRead text body r
+    → IsTrue (is_some (end_of r)) ↔ ((ieof : Bool) × IsChunked text body ieof)
 chunks_over text body r h = (
   λ over.
       let end = some_of (end_of r) over in
@@ -35,7 +37,8 @@ chunks_over text body r h = (
 all_left : (n k : ℕ) → k ≤ n → IsTrue (eqb (n - k) 0) ↔ (k ≡ n)
 all_left n k le = (λ e. omega (arith, eqb-true (n - k) 0 e), λ e. eq-eqb (n - k) 0 (omega arith))
 
-pub over_is : (framing : Framing) (text body : List ℕ) (r : BodyReader) → HasRead framing text body r → IsTrue (is_over r) ↔ IsBody framing text body
+pub over_is : (framing : Framing) (text body : List ℕ) (r : BodyReader) → HasRead framing text body r
+    → IsTrue (is_over r) ↔ IsBody framing text body
 over_is None text body r h = (λ _. (h.0, h.1), λ _. ap is_over_at h.2)
 over_is (Length n) text body r h =
     let left = all_left n (length text) h.1 in
@@ -43,10 +46,14 @@ over_is (Length n) text body r h =
 over_is Chunked text body r h =
     let over = chunks_over text body h.0 h.1 in
     (λ e. over.0 (sym (ap is_over_at h.2) ∙ e), λ b. ap is_over_at h.2 ∙ over.1 b)
-over_is Close text body r h = (λ e. let f : false ≡ true = sym (ap is_over_at h.1) ∙ e in absurd (let g : false ≡ true = f in cc), λ b. absurd b)
+over_is Close text body r h = (
+  λ e. let f : false ≡ true = sym (ap is_over_at h.1) ∙ e in absurd (let g : false ≡ true = f in cc),
+  λ b. absurd b,
+)
 
 -- at the close
-pub at_close : (framing : Framing) (text body : List ℕ) (r : BodyReader) (chunks : ChunkReader) → r.place ≡ Chunks chunks → HasRead framing text body r → IsTrue (is_some (end_of chunks)) ↔ IsClosedBody framing text body
+pub at_close : (framing : Framing) (text body : List ℕ) (r : BodyReader) (chunks : ChunkReader) → r.place ≡ Chunks chunks
+    → HasRead framing text body r → IsTrue (is_some (end_of chunks)) ↔ IsClosedBody framing text body
 at_close None text body r chunks was h = absurd (let e : Left 0 ≡ Chunks chunks = sym h.2 ∙ was in cc)
 at_close (Length n) text body r chunks was h = absurd (let e : Left (n - length text) ≡ Chunks chunks = sym h.2 ∙ was in cc)
 at_close Chunked text body r chunks was h =

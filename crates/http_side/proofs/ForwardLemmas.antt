@@ -1,5 +1,6 @@
 -- The fields that go on, one field at a time.
-use Rattle.std.proofs.Common.{◌≡◌, ℕ, ◌+◌, ◌<◌, Bool, true, false, not, ◌||◌, ◌&&◌, List, [], ◌∷◌, ◌++◌, ◌≤◌, Option, get_or, length, map, take, drop, None, refl, sym, ap, ◌∙◌, append_assoc}
+use Rattle.std.proofs.Common.{◌≡◌, ℕ, ◌+◌, ◌<◌, Bool, true, false, not, ◌||◌, ◌&&◌, List, [], ◌∷◌, ◌++◌, ◌≤◌, Option, get_or, length, map}
+use Rattle.std.proofs.Common.{take, drop, None, refl, sym, ap, ◌∙◌, append_assoc}
 use Rattle.std.specs.Prelude.{codes, if◌then◌else◌}
 use Rattle.std.specs.List.{list_any, filter, flat_map}
 use Rattle.std.proofs.lemmas.List.{append-nil}
@@ -33,14 +34,17 @@ or_false false = refl
 abbrev names : List ℕ → List ℕ → Bool
 names name value = has_item name value
 
-pub named_here : (fields : List (List ℕ × List ℕ)) (name : List ℕ) (i : ℕ) → i < length fields → str_eq_ignore_ascii_case (name_at fields i) (codes "connection") ≡ true
+pub named_here : (fields : List (List ℕ × List ℕ)) (name : List ℕ) (i : ℕ) → i < length fields
+    → str_eq_ignore_ascii_case (name_at fields i) (codes "connection") ≡ true
     → has_item name (value_at fields i) ≡ true → is_named_by fields name ≡ true
 named_here fields name i l e n =
     ap (list_any (names name)) (values-front (codes "connection") fields (i + 1))
     ∙ any-append (names name) (values_of (codes "connection") (take (i + 1) fields)) (values_of (codes "connection") (drop (i + 1) fields))
-    ∙ ap (λ vs. list_any (names name) vs || list_any (names name) (values_of (codes "connection") (drop (i + 1) fields))) (values-more (codes "connection") fields i l e)
+    ∙ ap (λ vs. list_any (names name) vs || list_any (names name) (values_of (codes "connection") (drop (i + 1) fields)))
+    (values-more (codes "connection") fields i l e)
     ∙ ap (λ b. b || list_any (names name) (values_of (codes "connection") (drop (i + 1) fields)))
-    (any-append (names name) (values_of (codes "connection") (take i fields)) (value_at fields i ∷ []) ∙ ap (λ b. list_any (names name) (values_of (codes "connection") (take i fields)) || (b || false)) n ∙ or_true _)
+    (any-append (names name) (values_of (codes "connection") (take i fields)) (value_at fields i ∷ [])
+    ∙ ap (λ b. list_any (names name) (values_of (codes "connection") (take i fields)) || (b || false)) n ∙ or_true _)
 
 -- one field behind those that go on
 pub once-more : (seen : Bool) (xs : List (List ℕ × List ℕ)) (f : List ℕ × List ℕ)
@@ -57,8 +61,10 @@ once-more seen (x ∷ xs) f = by_test (λ s. once-more s xs f) (is_length x && s
     keep a true t = refl
     keep a false t = refl
 
-    by_test : ((s : Bool) → once s (xs ++ f ∷ []) ≡ once s xs ++ (if is_length f && (s || list_any is_length xs) then [] else f ∷ [])) → (b : Bool) → (is_length x && seen) ≡ b
-        → once seen ((x ∷ xs) ++ f ∷ []) ≡ once seen (x ∷ xs) ++ (if is_length f && (seen || list_any is_length (x ∷ xs)) then [] else f ∷ [])
+    by_test : ((s : Bool) → once s (xs ++ f ∷ []) ≡ once s xs ++ (if is_length f && (s || list_any is_length xs) then [] else f ∷ []))
+        → (b : Bool) → (is_length x && seen) ≡ b
+        → once seen ((x ∷ xs) ++ f ∷ []) ≡ once seen (x ∷ xs) ++ (if is_length f && (seen || list_any is_length (x ∷ xs)) then [] else f ∷
+        [])
     by_test more true e = rw (e, skip (is_length x) seen (list_any is_length xs) e) (more seen)
     by_test more false e = rw (e, ← keep (is_length x) seen (list_any is_length xs)) (ap (λ ys. x ∷ ys) (more (seen || is_length x)))
 
@@ -81,15 +87,19 @@ module _ (beside : Beside) (fields : List (List ℕ × List ℕ)) (i : ℕ) (l :
       → (once false (filter (stays beside fields) (take (i + 1) fields)) ≡ once false (filter (stays beside fields) (take i fields)))
       × (list_any is_length (filter (stays beside fields) (take (i + 1) fields)) ≡ true)
   length_again e n seen = (
-    ap (once false) (stays-more e) ∙ once-more false (filter (stays beside fields) (take i fields)) (field_at fields i) ∙ rw (n, seen) (append-nil _),
-    ap (list_any is_length) (stays-more e) ∙ any-append is_length (filter (stays beside fields) (take i fields)) (field_at fields i ∷ []) ∙ rw seen refl,
+    ap (once false) (stays-more e) ∙ once-more false (filter (stays beside fields) (take i fields)) (field_at fields i)
+        ∙ rw (n, seen) (append-nil _),
+    ap (list_any is_length) (stays-more e) ∙ any-append is_length (filter (stays beside fields) (take i fields)) (field_at fields i ∷ [])
+        ∙ rw seen refl,
   )
 
   -- another field goes on
   pub goes_on : stays beside fields (field_at fields i) ≡ true
       → (is_length (field_at fields i) && list_any is_length (filter (stays beside fields) (take i fields))) ≡ false
-      → (once false (filter (stays beside fields) (take (i + 1) fields)) ≡ once false (filter (stays beside fields) (take i fields)) ++ field_at fields i ∷ [])
-      × (list_any is_length (filter (stays beside fields) (take (i + 1) fields)) ≡ (list_any is_length (filter (stays beside fields) (take i fields)) || is_length (field_at fields i)))
+      → (once false (filter (stays beside fields) (take (i + 1) fields)) ≡ once false (filter (stays beside fields) (take i fields))
+      ++ field_at fields i ∷ [])
+      × (list_any is_length (filter (stays beside fields) (take (i + 1) fields))
+      ≡ (list_any is_length (filter (stays beside fields) (take i fields)) || is_length (field_at fields i)))
   goes_on e n = (
     ap (once false) (stays-more e) ∙ once-more false (filter (stays beside fields) (take i fields)) (field_at fields i) ∙ rw n refl,
     ap (list_any is_length) (stays-more e) ∙ any-append is_length (filter (stays beside fields) (take i fields)) (field_at fields i ∷ [])
@@ -111,7 +121,8 @@ lines-append xs ys = flat_map-append field_line xs ys
 
 -- the parts of a head, one behind the other
 pub head_parts : (first : List ℕ) (a b c : List (List ℕ × List ℕ)) (last : List ℕ)
-    → (((([] ++ (first ++ last)) ++ field_lines a) ++ field_lines b) ++ field_lines c) ++ last ≡ ((first ++ last) ++ field_lines ((a ++ b) ++ c)) ++ last
+    → (((([] ++ (first ++ last)) ++ field_lines a) ++ field_lines b) ++ field_lines c) ++ last
+    ≡ ((first ++ last) ++ field_lines ((a ++ b) ++ c)) ++ last
 head_parts first a b c last = simp (lines-append, append_assoc) refl
 
 -- a response's fields go on as they are
@@ -120,7 +131,8 @@ as_they_are [] = refl
 as_they_are (x ∷ xs) = ap (λ t. x ∷ t) (as_they_are xs)
 
 pub response_parts : (first : List ℕ) (b c : List (List ℕ × List ℕ)) (last : List ℕ)
-    → ((([] ++ (first ++ last)) ++ field_lines (map (hosted None) b)) ++ field_lines c) ++ last ≡ ((first ++ last) ++ field_lines (b ++ c)) ++ last
+    → ((([] ++ (first ++ last)) ++ field_lines (map (hosted None) b)) ++ field_lines c) ++ last ≡ ((first ++ last) ++ field_lines (b ++ c))
+    ++ last
 response_parts first b c last = rw (as_they_are b) (simp (lines-append, append_assoc) refl)
 
 -- the lines of the fields at these places, place by place
@@ -131,7 +143,9 @@ flat fields authority (at ∷ places) = ap (λ t. field_line (hosted authority (
 
 -- where there is room for all lines, there is room for the next one
 pub next_fits : (fields : List (List ℕ × List ℕ)) (authority : Option (List ℕ)) (places : List ℕ) (i d : ℕ) → i < length places
-    → length (field_lines (sent_fields fields (take i places) authority)) + length (field_line (hosted authority (field_at fields (get_or places i d))))
+    → length (field_lines (sent_fields fields (take i places) authority)) + length
+    (field_line (hosted authority (field_at fields (get_or places i d))))
     ≤ length (field_lines (sent_fields fields places authority))
 next_fits fields authority places i d l =
-    rw (flat fields authority (take i places), flat fields authority places) (length-flat_map-take (λ at. field_line (hosted authority (field_at fields at))) places i d l)
+    rw (flat fields authority (take i places), flat fields authority places)
+    (length-flat_map-take (λ at. field_line (hosted authority (field_at fields at))) places i d l)

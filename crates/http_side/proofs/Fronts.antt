@@ -27,9 +27,11 @@ front_span n buf s h = front_range n s.start s.end buf h.0 h.1
 front_header : (n : ℕ) (buf : List ℕ) (h : HeaderSpan) → IsHeaderWithin n h → header_bytes (take n buf) h ≡ header_bytes buf h
 front_header n buf h w = ap₂ (λ a b. (a, b)) (front_span n buf h.name w.0) (front_span n buf h.value w.1)
 
-pub front_headers : (n : ℕ) (buf : List ℕ) (lines : List HeaderSpan) → All (IsHeaderWithin n) lines → map (header_bytes (take n buf)) lines ≡ map (header_bytes buf) lines
+pub front_headers : (n : ℕ) (buf : List ℕ) (lines : List HeaderSpan) → All (IsHeaderWithin n) lines
+    → map (header_bytes (take n buf)) lines ≡ map (header_bytes buf) lines
 front_headers n buf [] all = refl
-front_headers n buf (h ∷ lines) all = ap₂ ◌∷◌ (front_header n buf h (all 0 h (omega arith))) (front_headers n buf lines (All-tail (IsHeaderWithin n) h lines all))
+front_headers n buf (h ∷ lines) all = ap₂ ◌∷◌ (front_header n buf h (all 0 h (omega arith)))
+    (front_headers n buf lines (All-tail (IsHeaderWithin n) h lines all))
 
 -- spans in a front lie in the whole
 pub wider : (n m : ℕ) (lines : List HeaderSpan) → n ≤ m → All (IsHeaderWithin n) lines → All (IsHeaderWithin m) lines

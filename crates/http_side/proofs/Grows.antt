@@ -1,5 +1,6 @@
 -- What a piece adds to what was read.
-use Rattle.std.proofs.Common.{◌≡◌, ℕ, ◌+◌, ◌-◌, ◌≤◌, List, [], ◌++◌, length, take, refl, sym, ap, ◌∙◌, subst, arith, length-append, length-take}
+use Rattle.std.proofs.Common.{◌≡◌, ℕ, ◌+◌, ◌-◌, ◌≤◌, List, [], ◌++◌, length, take, refl, sym, ap, ◌∙◌, subst, arith, length-append}
+use Rattle.std.proofs.Common.{length-take}
 use Rattle.std.proofs.lemmas.Grind.{common_steps}
 use Rattle.std.specs.Prelude.{slice_range, Result, Ok, Err, IfOk, IfErr}
 use Rattle.icap_chunks.specs.declared.reader.Fed.{Fed}
@@ -33,8 +34,10 @@ nothing_more : (text piece : List ℕ) (used : ℕ) → text ≡ [] → used ≡
 nothing_more text piece used e z = rw (e, z) refl
 
 -- bytes of a counted body
-pub counted : (framing : Framing) (text body piece : List ℕ) (old new : BodyReader) (left used : ℕ) → old.place ≡ Left left → used ≤ left → used ≤ length piece
-    → new.place ≡ Left (left - used) → HasRead framing text body old → HasRead framing (text ++ take used piece) (body ++ slice_range piece 0 used) new
+pub counted : (framing : Framing) (text body piece : List ℕ) (old new : BodyReader) (left used : ℕ) → old.place ≡ Left left → used ≤ left
+    → used ≤ length piece
+    → new.place ≡ Left (left - used) → HasRead framing text body old
+    → HasRead framing (text ++ take used piece) (body ++ slice_range piece 0 used) new
 counted None text body piece old new left used was few there is h =
     let zero : left ≡ 0 = same_left (sym was ∙ h.2) in
     let none : used ≡ 0 = omega arith in
@@ -42,7 +45,8 @@ counted None text body piece old new left used was few there is h =
     (nothing_more text piece used h.0 none, rw (h.1, range) refl, is ∙ ap Left (omega arith))
 counted (Length n) text body piece old new left used was few there is h =
     let left_is : left ≡ n - length text = same_left (sym was ∙ h.2) in
-    let len : length (text ++ take used piece) ≡ length text + used = omega (arith, length-append text (take used piece), length-take used piece) in
+    let len : length (text ++ take used piece) ≡ length text + used =
+    omega (arith, length-append text (take used piece), length-take used piece) in
     let range : slice_range piece 0 used ≡ take used piece = grind (arith, common_steps) in
     let here : body ++ slice_range piece 0 used ≡ text ++ take used piece = rw (h.0, range) refl in
     let low : length (text ++ take used piece) ≤ n = omega arith in
@@ -52,7 +56,8 @@ counted Chunked text body piece old new left used was few there is h = absurd (l
 counted Close text body piece old new left used was few there is h = absurd (left_open (sym was ∙ h.1))
 
 -- a reader of chunks reads a chunked body
-pub chunked : (framing : Framing) (text body : List ℕ) (old : BodyReader) (chunks : ChunkReader) → old.place ≡ Chunks chunks → HasRead framing text body old
+pub chunked : (framing : Framing) (text body : List ℕ) (old : BodyReader) (chunks : ChunkReader) → old.place ≡ Chunks chunks
+    → HasRead framing text body old
     → (framing ≡ Chunked) × ChunksRead text body chunks
 chunked None text body old chunks was h = absurd (left_chunks (sym h.2 ∙ was))
 chunked (Length n) text body old chunks was h = absurd (left_chunks (sym h.2 ∙ was))
@@ -63,8 +68,10 @@ chunked Close text body old chunks was h = absurd (chunks_open (sym was ∙ h.1)
 
 -- what a feed of chunks says, for each framing
 pub chunks_read : (r : Result Fed ChunkFault) (piece : List ℕ) (old new : BodyReader) (chunks : ChunkReader) → old.place ≡ Chunks chunks
-    → IfOk r (λ fed. (text body : List ℕ) → ChunksRead text body chunks → HasRead Chunked (text ++ take fed.used piece) (body ++ slice_range piece fed.part.0 fed.part.1) new)
-    → IfOk r (λ fed. (framing : Framing) (text body : List ℕ) → HasRead framing text body old → HasRead framing (text ++ take fed.used piece) (body ++ slice_range piece fed.part.0 fed.part.1) new)
+    → IfOk r (λ fed. (text body : List ℕ) → ChunksRead text body chunks
+    → HasRead Chunked (text ++ take fed.used piece) (body ++ slice_range piece fed.part.0 fed.part.1) new)
+    → IfOk r (λ fed. (framing : Framing) (text body : List ℕ) → HasRead framing text body old
+    → HasRead framing (text ++ take fed.used piece) (body ++ slice_range piece fed.part.0 fed.part.1) new)
 chunks_read (Err e) piece old new chunks was read = tt
 chunks_read (Ok fed) piece old new chunks was read = λ framing text body h.
     let is = chunked framing text body old chunks was h in
@@ -73,7 +80,8 @@ chunks_read (Ok fed) piece old new chunks was read = λ framing text body h.
 
 pub chunks_fault : (r : Result Fed ChunkFault) (piece : List ℕ) (old : BodyReader) (chunks : ChunkReader) → old.place ≡ Chunks chunks
     → IfErr r (λ fault. (text body : List ℕ) → ChunksRead text body chunks → Breaks (text ++ piece) body fault)
-    → IfErr r (λ fault. (framing : Framing) (text body : List ℕ) → HasRead framing text body old → (framing ≡ Chunked) × Breaks (text ++ piece) body fault)
+    → IfErr r (λ fault. (framing : Framing) (text body : List ℕ) → HasRead framing text body old
+    → (framing ≡ Chunked) × Breaks (text ++ piece) body fault)
 chunks_fault (Ok fed) piece old chunks was broken = tt
 chunks_fault (Err e) piece old chunks was broken = λ framing text body h.
     let is = chunked framing text body old chunks was h in

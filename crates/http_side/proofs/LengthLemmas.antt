@@ -1,5 +1,6 @@
 -- A length as it is read, and the lengths of a head's fields.
-use Rattle.std.proofs.Common.{◌≡◌, ℕ, ◌+◌, ◌<◌, ◌^◌, Bool, true, false, List, [], ◌∷◌, length, take, drop, Some, None, Ok, Err, refl, sym, ap, ◌∙◌, arith, lt-ltb, ltb-true}
+use Rattle.std.proofs.Common.{◌≡◌, ℕ, ◌+◌, ◌<◌, ◌^◌, Bool, true, false, List, [], ◌∷◌, length, take, drop, Some, None, Ok, Err, refl, sym}
+use Rattle.std.proofs.Common.{ap, ◌∙◌, arith, lt-ltb, ltb-true}
 use Rattle.std.specs.Prelude.{fold, nat_lt, ◌&&◌, codes}
 use Rattle.std.specs.List.{list_all}
 use Rattle.std.proofs.lemmas.List.Sums.{fold-append}
@@ -46,22 +47,31 @@ length_none value none = by_test (is_numeral value && nat_lt (digits_value 10 va
         let both = parts (is_numeral value) (nat_lt (digits_value 10 value) COUNT_LIMIT) e in
         let digits = parts (nat_lt 0 (length value)) (list_all is_digit value) both.0 in
         let small = ltb-true (digits_value 10 value) COUNT_LIMIT both.1 in
-        none (digits_value 10 value) (omega arith) (record { digits = (ltb-true 0 (length value) digits.0, all_digits value digits.1); value = refl })
+        none (digits_value 10 value) (omega arith) (record {
+          digits = (ltb-true 0 (length value) digits.0, all_digits value digits.1);
+          value = refl;
+        })
 
     by_test : (t : Bool) → (is_numeral value && nat_lt (digits_value 10 value) COUNT_LIMIT) ≡ t → None ≡ length_value value
     by_test true e = absurd (writes e)
     by_test false e = rw e refl
 
-pub length-more : (fields : List (List ℕ × List ℕ)) (i : ℕ) → i < length fields → str_eq_ignore_ascii_case (name_at fields i) (codes "content-length") ≡ true
+pub length-more : (fields : List (List ℕ × List ℕ)) (i : ℕ) → i < length fields
+    → str_eq_ignore_ascii_case (name_at fields i) (codes "content-length") ≡ true
     → content_length (take (i + 1) fields) ≡ agreed (content_length (take i fields)) (value_at fields i)
-length-more fields i l e = ap (fold agreed (Ok None)) (values-more (codes "content-length") fields i l e) ∙ fold-append agreed (Ok None) (values_of (codes "content-length") (take i fields)) (value_at fields i ∷ [])
+length-more fields i l e = ap (fold agreed (Ok None)) (values-more (codes "content-length") fields i l e)
+    ∙ fold-append agreed (Ok None) (values_of (codes "content-length") (take i fields)) (value_at fields i ∷ [])
 
 fold_refused : (fault : HttpFault) (values : List (List ℕ)) → fold agreed (Err fault) values ≡ Err fault
 fold_refused fault [] = refl
 fold_refused fault (value ∷ values) = fold_refused fault values
 
 -- what a front of the fields refuses stays refused
-pub length_refused : (fields : List (List ℕ × List ℕ)) (i : ℕ) (fault : HttpFault) → content_length (take i fields) ≡ Err fault → content_length fields ≡ Err fault
+pub length_refused : (fields : List (List ℕ × List ℕ)) (i : ℕ) (fault : HttpFault) → content_length (take i fields) ≡ Err fault
+    → content_length fields ≡ Err fault
 length_refused fields i fault e =
-    ap (fold agreed (Ok None)) (values-front (codes "content-length") fields i) ∙ fold-append agreed (Ok None) (values_of (codes "content-length") (take i fields)) (values_of (codes "content-length") (drop i fields))
-    ∙ ap (λ r. fold agreed r (values_of (codes "content-length") (drop i fields))) e ∙ fold_refused fault (values_of (codes "content-length") (drop i fields))
+    ap (fold agreed (Ok None)) (values-front (codes "content-length") fields i)
+    ∙ fold-append agreed (Ok None) (values_of (codes "content-length") (take i fields))
+    (values_of (codes "content-length") (drop i fields))
+    ∙ ap (λ r. fold agreed r (values_of (codes "content-length") (drop i fields))) e
+    ∙ fold_refused fault (values_of (codes "content-length") (drop i fields))

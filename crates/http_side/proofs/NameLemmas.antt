@@ -1,5 +1,6 @@
 -- The order of names, and what a search among names in order finds.
-use Rattle.std.proofs.Common.{◌≡◌, ℕ, ◌+◌, ◌-◌, ◌<◌, ◌≤◌, ◌==◌, ◌||◌, Bool, true, false, List, [], ◌∷◌, ◌++◌, length, take, drop, Less, Equal, Greater, nat_cmp, refl, sym, ap, ◌∙◌, inl, inr, ◌⊎◌, arith, tests}
+use Rattle.std.proofs.Common.{◌≡◌, ℕ, ◌+◌, ◌-◌, ◌<◌, ◌≤◌, ◌==◌, ◌||◌, Bool, true, false, List, [], ◌∷◌, ◌++◌, length, take, drop, Less}
+use Rattle.std.proofs.Common.{Equal, Greater, nat_cmp, refl, sym, ap, ◌∙◌, inl, inr, ◌⊎◌, arith, tests}
 use Rattle.std.specs.Prelude.{slice_index_or}
 use Rattle.std.specs.Ordering.{is_eq, is_lt, ordering_reverse, ordering_index}
 use Rattle.std.specs.declared.cmp.Ordering.{Ordering}
@@ -30,8 +31,10 @@ ended (x ∷ xs) (y ∷ ys) i m n e f (inl s) = absurd (omega arith)
 ended (x ∷ xs) (y ∷ ys) i m n e f (inr s) = absurd (omega arith)
 
 -- where one of two names ends, their lengths decide
-pub order_at_end : (a b : List ℕ) (i : ℕ) → i ≤ length a → i ≤ length b → (length a ≤ i) ⊎ (length b ≤ i) → nat_cmp (length a) (length b) ≡ name_order (drop i a) (drop i b)
-order_at_end a b i l m s = ended (drop i a) (drop i b) i (length a) (length b) (omega (arith, length-drop i a)) (omega (arith, length-drop i b)) s
+pub order_at_end : (a b : List ℕ) (i : ℕ) → i ≤ length a → i ≤ length b → (length a ≤ i) ⊎ (length b ≤ i)
+    → nat_cmp (length a) (length b) ≡ name_order (drop i a) (drop i b)
+order_at_end a b i l m s = ended (drop i a) (drop i b) i (length a) (length b) (omega (arith, length-drop i a))
+    (omega (arith, length-drop i b)) s
 
 same_from_order : (a b : List ℕ) → is_eq (name_order a b) ≡ str_eq_ignore_ascii_case a b
 same_from_order a b = is_eq-slice_cmp (str_to_ascii_lowercase a) (str_to_ascii_lowercase b)
@@ -43,7 +46,8 @@ eq_reversed Greater = refl
 
 -- names that compare as equal are one
 order_same : (a b : List ℕ) → is_eq (name_order a b) ≡ str_eq_ignore_ascii_case b a
-order_same a b = sym (eq_reversed (name_order a b)) ∙ ap is_eq (sym (nat_list_cmp_total.antisymm (str_to_ascii_lowercase b) (str_to_ascii_lowercase a))) ∙ same_from_order b a
+order_same a b = sym (eq_reversed (name_order a b)) ∙ ap is_eq (sym (nat_list_cmp_total.antisymm (str_to_ascii_lowercase b)
+    (str_to_ascii_lowercase a))) ∙ same_from_order b a
 
 -- no order is two at once
 less_or_equal : (o : Ordering) → is_lt o ≡ true → is_eq o ≡ true → ⊥
@@ -68,11 +72,13 @@ equal_below Greater Equal l n e = absurd (omega arith)
 equal_below Greater Greater l n e = e
 
 -- what passes of a parted list stands in front
-pub front_parts : {X : Type 0} (p : X → Bool) (xs : List X) → IsPartitionedBy p xs → IsPartitionPoint (λ x. p x ≡ true) (λ x. p x ≡ false) xs (prefix_len p xs)
+pub front_parts : {X : Type 0} (p : X → Bool) (xs : List X) → IsPartitionedBy p xs
+    → IsPartitionPoint (λ x. p x ≡ true) (λ x. p x ≡ false) xs (prefix_len p xs)
 front_parts p xs parts = (
   λ k d _ l. prefix_len_passes p xs k d l,
   λ k d l m. false_from_ne_true (p (slice_index_or xs k d))
-      (λ e. both_ways (p (slice_index_or xs (prefix_len p xs) d)) (prefix_len_stops p xs d (omega arith)) (parts (prefix_len p xs) k d l m e)),
+      (λ e. both_ways (p (slice_index_or xs (prefix_len p xs) d)) (prefix_len_stops p xs d (omega arith))
+      (parts (prefix_len p xs) k d l m e)),
 )
 
 module _ (fields : List (List ℕ × List ℕ)) (names : List PlacedName) (name : List ℕ) (placed : ArePlaced fields names) where
@@ -80,14 +86,16 @@ module _ (fields : List (List ℕ × List ℕ)) (names : List PlacedName) (name 
   order_of n = name_order n.name.now name
 
   rising : IsNonDecreasingBy (λ n. ordering_index (order_of n)) names
-  rising = searchable_from_sorted nat_list_cmp_total (λ n. str_to_ascii_lowercase n.name.now) names (str_to_ascii_lowercase name) placed.sorted
+  rising = searchable_from_sorted nat_list_cmp_total (λ n. str_to_ascii_lowercase n.name.now) names (str_to_ascii_lowercase name)
+      placed.sorted
 
   -- what stands before a name stands before what follows
   pub parted_less : IsPartitionedBy (λ n. is_lt (name_order n.name.now name)) names
   parted_less i j d l m e = less_below (order_of (slice_index_or names i d)) (order_of (slice_index_or names j d)) (rising i j d l m) e
 
   module _ (from : ℕ) (behind : List PlacedName) (is : behind ≡ drop from names)
-      (less : IsPartitionPoint (λ n. is_lt (name_order n.name.now name) ≡ true) (λ n. is_lt (name_order n.name.now name) ≡ false) names from) where
+      (less : IsPartitionPoint (λ n. is_lt (name_order n.name.now name) ≡ true) (λ n. is_lt (name_order n.name.now name) ≡ false) names
+      from) where
     at_behind : (k : ℕ) (d : PlacedName) → slice_index_or behind k d ≡ slice_index_or names (from + k) d
     at_behind k d = ap (λ l. slice_index_or l k d) is ∙ get_or-drop from names k d
 
@@ -105,9 +113,11 @@ module _ (fields : List (List ℕ × List ℕ)) (names : List PlacedName) (name 
         sym (order_same one.name.now name) ∙ equal_below (order_of one) (order_of other) up not_less (order_same other.name.now name ∙ e)
 
     module _ (count : ℕ) (few : count ≤ length behind)
-        (same : IsPartitionPoint (λ n. str_eq_ignore_ascii_case name n.name.now ≡ true) (λ n. str_eq_ignore_ascii_case name n.name.now ≡ false) behind count) where
+        (same : IsPartitionPoint (λ n. str_eq_ignore_ascii_case name n.name.now ≡ true)
+        (λ n. str_eq_ignore_ascii_case name n.name.now ≡ false) behind count) where
       -- a field of the name has its place there
-      has_one : (i j : ℕ) (d : PlacedName) → j < length names → (slice_index_or names j d).place ≡ i → str_eq_ignore_ascii_case name (slice_index_or names j d).name.now ≡ true
+      has_one : (i j : ℕ) (d : PlacedName) → j < length names → (slice_index_or names j d).place ≡ i
+          → str_eq_ignore_ascii_case name (slice_index_or names j d).name.now ≡ true
           → has_place i (take count behind) ≡ true
       has_one i j d l at e = elim (cases_lt j from) [
         | inl before ↦ (
@@ -115,10 +125,13 @@ module _ (fields : List (List ℕ × List ℕ)) (names : List PlacedName) (name 
             absurd (less_or_equal (order_of n) (less.0 j d (omega arith) before) (order_same n.name.now name ∙ e)))
         | inr past ↦ (
             let there : from + (j - from) ≡ j = omega arith in
-            let one : slice_index_or behind (j - from) d ≡ slice_index_or names j d = at_behind (j - from) d ∙ ap (λ k. slice_index_or names k d) there in
+            let one : slice_index_or behind (j - from) d ≡ slice_index_or names j d =
+            at_behind (j - from) d ∙ ap (λ k. slice_index_or names k d) there in
             elim (cases_lt (j - from) count) [
-              | inl within ↦ list_any_at (λ n. n.place == i) (take count behind) (j - from) d (omega (arith, length-take-le count behind few))
-                  (eq-eqb (slice_index_or (take count behind) (j - from) d).place i (ap (λ n. n.place) (get_or-take count behind (j - from) d within ∙ one) ∙ at))
+              | inl within ↦ list_any_at (λ n. n.place == i) (take count behind) (j - from) d
+                  (omega (arith, length-take-le count behind few))
+                  (eq-eqb (slice_index_or (take count behind) (j - from) d).place i
+                  (ap (λ n. n.place) (get_or-take count behind (j - from) d within ∙ one) ∙ at))
               | inr above ↦ absurd (both_ways (str_eq_ignore_ascii_case name (slice_index_or names j d).name.now)
                   (sym (ap (λ n. str_eq_ignore_ascii_case name n.name.now) one) ∙ same.1 (j - from) d above (omega (arith, size))) e)
             ])
@@ -128,11 +141,14 @@ module _ (fields : List (List ℕ × List ℕ)) (names : List PlacedName) (name 
       has_none : (i : ℕ) → str_eq_ignore_ascii_case name (name_at fields i) ≡ false → has_place i (take count behind) ≡ false
       has_none i other = list_any_none (λ n. n.place == i) (take count behind) (λ k d l.
           let within : k < count = omega (arith, length-take-le count behind few) in
-          let one : slice_index_or (take count behind) k d ≡ slice_index_or names (from + k) d = get_or-take count behind k d within ∙ at_behind k d in
+          let one : slice_index_or (take count behind) k d ≡ slice_index_or names (from + k) d =
+          get_or-take count behind k d within ∙ at_behind k d in
           let n = slice_index_or names (from + k) d in
           let is_named = (placed.have.places (from + k) d (omega (arith, size))).1 in
-          let is_same : str_eq_ignore_ascii_case name n.name.now ≡ true = sym (ap (λ m. str_eq_ignore_ascii_case name m.name.now) (at_behind k d)) ∙ same.0 k d (omega arith) within in
-          ap (λ m. m.place == i) one ∙ ne_eqb n.place i (λ e. both_ways (str_eq_ignore_ascii_case name n.name.now) (ap (str_eq_ignore_ascii_case name) (is_named ∙ ap (name_at fields) e) ∙ other) is_same))
+          let is_same : str_eq_ignore_ascii_case name n.name.now ≡ true =
+          sym (ap (λ m. str_eq_ignore_ascii_case name m.name.now) (at_behind k d)) ∙ same.0 k d (omega arith) within in
+          ap (λ m. m.place == i) one ∙ ne_eqb n.place i (λ e. both_ways (str_eq_ignore_ascii_case name n.name.now)
+          (ap (str_eq_ignore_ascii_case name) (is_named ∙ ap (name_at fields) e) ∙ other) is_same))
 
       pub run_has : (i : ℕ) → i < length fields → has_place i (take count behind) ≡ str_eq_ignore_ascii_case name (name_at fields i)
       run_has i l =
@@ -140,7 +156,8 @@ module _ (fields : List (List ℕ × List ℕ)) (names : List PlacedName) (name 
           let n = one.0 in
           let j = one.1.0 in
           let at : (slice_index_or names j n).place ≡ i = ap (λ m. m.place) one.1.2 ∙ one.2 in
-          let is_named : (slice_index_or names j n).name.now ≡ name_at fields i = (placed.have.places j n one.1.1).1 ∙ ap (name_at fields) at in
+          let is_named : (slice_index_or names j n).name.now ≡ name_at fields i =
+          (placed.have.places j n one.1.1).1 ∙ ap (name_at fields) at in
           elim (cases_Bool (str_eq_ignore_ascii_case name (name_at fields i))) [
             | inl is ↦ has_one i j n one.1.1 at (ap (str_eq_ignore_ascii_case name) is_named ∙ is) ∙ sym is
             | inr other ↦ has_none i other ∙ sym other
@@ -148,7 +165,8 @@ module _ (fields : List (List ℕ × List ℕ)) (names : List PlacedName) (name 
 
 -- where one field of the name is marked, all are
 alike_marked : (fields : List (List ℕ × List ℕ)) (named : List Bool) (name : List ℕ) (p : ℕ) → AreAlike fields named → p < length fields
-    → str_eq_ignore_ascii_case name (name_at fields p) ≡ true → slice_index_or named p false ≡ true → Marks (λ other. str_eq_ignore_ascii_case name other) fields named named
+    → str_eq_ignore_ascii_case name (name_at fields p) ≡ true → slice_index_or named p false ≡ true
+    → Marks (λ other. str_eq_ignore_ascii_case name other) fields named named
 alike_marked fields named name p alike l same marked = record {
   size = refl;
   each = λ i m _. elim (cases_Bool (str_eq_ignore_ascii_case name (name_at fields i))) [
@@ -160,9 +178,12 @@ alike_marked fields named name p alike l same marked = record {
 }
 
 -- where the first of these names is marked and the fields of the name are in front, all are marked that it is
-pub front_marked : (fields : List (List ℕ × List ℕ)) (named : List Bool) (names : List PlacedName) (name : List ℕ) (d : PlacedName) → AreAlike fields named
-    → All (λ n. n.place < length fields) names → ((i : ℕ) → i < length fields → has_place i (run_of name names) ≡ str_eq_ignore_ascii_case name (name_at fields i))
-    → 0 < length names → slice_index_or named (slice_index_or names 0 d).place false ≡ true → Marks (λ other. str_eq_ignore_ascii_case name other) fields named named
+pub front_marked : (fields : List (List ℕ × List ℕ)) (named : List Bool) (names : List PlacedName) (name : List ℕ) (d : PlacedName)
+    → AreAlike fields named
+    → All (λ n. n.place < length fields) names → ((i : ℕ) → i < length fields
+    → has_place i (run_of name names) ≡ str_eq_ignore_ascii_case name (name_at fields i))
+    → 0 < length names → slice_index_or named (slice_index_or names 0 d).place false ≡ true
+    → Marks (λ other. str_eq_ignore_ascii_case name other) fields named named
 front_marked fields named [] name d alike within front some marked = absurd (omega arith)
 front_marked fields named (n ∷ names) name d alike within front some marked =
     let l : n.place < length fields = within 0 n some in
@@ -172,7 +193,8 @@ front_marked fields named (n ∷ names) name d alike within front some marked =
           let some_run : prefix_len test (n ∷ names) ≡ 1 + prefix_len test names = rw is refl in
           let has : has_place n.place (run_of name (n ∷ names)) ≡ true =
           list_any_at (λ m. m.place == n.place) (run_of name (n ∷ names)) 0 n (omega (arith, length-prefix_len test (n ∷ names), some_run))
-          (eq-eqb (slice_index_or (run_of name (n ∷ names)) 0 n).place n.place (ap (λ m. m.place) (get_or-take (prefix_len test (n ∷ names)) (n ∷ names) 0 n (omega (arith, some_run))))) in
+          (eq-eqb (slice_index_or (run_of name (n ∷ names)) 0 n).place n.place
+          (ap (λ m. m.place) (get_or-take (prefix_len test (n ∷ names)) (n ∷ names) 0 n (omega (arith, some_run))))) in
           alike_marked fields named name n.place alike l (sym (front n.place l) ∙ has) marked)
       | inr other ↦ record {
         size = refl;
@@ -186,16 +208,20 @@ front_marked fields named (n ∷ names) name d alike within front some marked =
 pub run_is : (names : List PlacedName) (name : List ℕ) (k : ℕ) (d : PlacedName) → k ≤ length names
     → ((j : ℕ) (e : PlacedName) → j < k → str_eq_ignore_ascii_case name (slice_index_or names j e).name.now ≡ true)
     → (k < length names → str_eq_ignore_ascii_case name (slice_index_or names k d).name.now ≡ false) → run_of name names ≡ take k names
-run_is names name k d l passes stops = ap (λ n. take n names) (prefix_len_is (λ n. str_eq_ignore_ascii_case name n.name.now) names k d l (λ j m. passes j d m) stops)
+run_is names name k d l passes stops = ap (λ n. take n names) (prefix_len_is (λ n. str_eq_ignore_ascii_case name n.name.now) names k d l
+    (λ j m. passes j d m) stops)
 
-pub run_all : (names : List PlacedName) (name : List ℕ) → ((j : ℕ) (e : PlacedName) → j < length names → str_eq_ignore_ascii_case name (slice_index_or names j e).name.now ≡ true)
+pub run_all : (names : List PlacedName) (name : List ℕ)
+    → ((j : ℕ) (e : PlacedName) → j < length names → str_eq_ignore_ascii_case name (slice_index_or names j e).name.now ≡ true)
     → run_of name names ≡ names
 run_all [] name passes = refl
 run_all (n ∷ names) name passes =
-    run_is (n ∷ names) name (length (n ∷ names)) n (omega arith) passes (λ m. absurd (omega arith)) ∙ take_all (length (n ∷ names)) (n ∷ names) (omega arith)
+    run_is (n ∷ names) name (length (n ∷ names)) n (omega arith) passes (λ m. absurd (omega arith))
+    ∙ take_all (length (n ∷ names)) (n ∷ names) (omega arith)
 
 -- a sort keeps the names and their places
-pub have_sorted : (fields : List (List ℕ × List ℕ)) (xs ys : List PlacedName) → IsPermutation xs ys → HavePlaces fields xs → HavePlaces fields ys
+pub have_sorted : (fields : List (List ℕ × List ℕ)) (xs ys : List PlacedName) → IsPermutation xs ys → HavePlaces fields xs
+    → HavePlaces fields ys
 have_sorted fields xs ys p h = record {
   places = All-permutation (λ n. (n.place < length fields) × (n.name.now ≡ name_at fields n.place)) xs ys p h.places;
   all = λ i l. let one = h.all i l in (one.0, Contains-permutation xs ys one.0 p one.1, one.2);

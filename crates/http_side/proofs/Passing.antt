@@ -1,5 +1,6 @@
 -- What goes on of a head's fields, and what doesn't.
-use Rattle.std.proofs.Common.{◌≡◌, ℕ, inl, inr, Bool, true, false, not, ◌||◌, ◌&&◌, List, [], ◌∷◌, ◌++◌, map, take, drop, Option, Some, None, refl, sym, ap, ◌∙◌}
+use Rattle.std.proofs.Common.{◌≡◌, ℕ, inl, inr, Bool, true, false, not, ◌||◌, ◌&&◌, List, [], ◌∷◌, ◌++◌, map, take, drop, Option, Some}
+use Rattle.std.proofs.Common.{None, refl, sym, ap, ◌∙◌}
 use Rattle.std.specs.Prelude.{codes, bytes_eq}
 use Rattle.std.specs.List.{filter}
 use Rattle.std.specs.Str.{str_to_ascii_lowercase, str_eq_ignore_ascii_case}
@@ -14,19 +15,23 @@ use Rattle.http_side.specs.Forward.{hop_names, framing_names, is_named_by, stays
 
 -- names that are one have the same of others
 pub same_as : (a b c : List ℕ) → str_eq_ignore_ascii_case a b ≡ true → str_eq_ignore_ascii_case a c ≡ str_eq_ignore_ascii_case b c
-same_as a b c e = ap (λ t. bytes_eq t (str_to_ascii_lowercase c)) ((bytes_eq-Decides (str_to_ascii_lowercase a) (str_to_ascii_lowercase b)).0 e)
+same_as a b c e = ap (λ t. bytes_eq t (str_to_ascii_lowercase c)) ((bytes_eq-Decides (str_to_ascii_lowercase a)
+    (str_to_ascii_lowercase b)).0 e)
 
 same_to : (a b c : List ℕ) → str_eq_ignore_ascii_case a b ≡ true → str_eq_ignore_ascii_case c a ≡ str_eq_ignore_ascii_case c b
-same_to a b c e = ap (λ t. bytes_eq (str_to_ascii_lowercase c) t) ((bytes_eq-Decides (str_to_ascii_lowercase a) (str_to_ascii_lowercase b)).0 e)
+same_to a b c e = ap (λ t. bytes_eq (str_to_ascii_lowercase c) t) ((bytes_eq-Decides (str_to_ascii_lowercase a)
+    (str_to_ascii_lowercase b)).0 e)
 
 pub among_as : (names : List (List ℕ)) (a b : List ℕ) → str_eq_ignore_ascii_case a b ≡ true → is_among names a ≡ is_among names b
 among_as [] a b e = refl
 among_as (n ∷ names) a b e = rw (same_to a b n e, among_as names a b e) refl
 
-pub values-cons-same : (name : List ℕ) (f : List ℕ × List ℕ) (xs : List (List ℕ × List ℕ)) → str_eq_ignore_ascii_case f.0 name ≡ true → values_of name (f ∷ xs) ≡ f.1 ∷ values_of name xs
+pub values-cons-same : (name : List ℕ) (f : List ℕ × List ℕ) (xs : List (List ℕ × List ℕ)) → str_eq_ignore_ascii_case f.0 name ≡ true
+    → values_of name (f ∷ xs) ≡ f.1 ∷ values_of name xs
 values-cons-same name f xs e = rw e refl
 
-pub values-cons-no : (name : List ℕ) (f : List ℕ × List ℕ) (xs : List (List ℕ × List ℕ)) → str_eq_ignore_ascii_case f.0 name ≡ false → values_of name (f ∷ xs) ≡ values_of name xs
+pub values-cons-no : (name : List ℕ) (f : List ℕ × List ℕ) (xs : List (List ℕ × List ℕ)) → str_eq_ignore_ascii_case f.0 name ≡ false
+    → values_of name (f ∷ xs) ≡ values_of name xs
 values-cons-no name f xs e = rw e refl
 
 pub values-append : (name : List ℕ) (xs ys : List (List ℕ × List ℕ)) → values_of name (xs ++ ys) ≡ values_of name xs ++ values_of name ys
@@ -34,11 +39,13 @@ values-append name xs ys = ap (map (λ f. f.1)) (filter-append (λ f. str_eq_ign
 
 -- where each field of the name stays, its values stay
 pub values-kept : (name : List ℕ) (test : List ℕ × List ℕ → Bool) (xs : List (List ℕ × List ℕ))
-    → ((f : List ℕ × List ℕ) → str_eq_ignore_ascii_case f.0 name ≡ true → test f ≡ true) → values_of name (filter test xs) ≡ values_of name xs
+    → ((f : List ℕ × List ℕ) → str_eq_ignore_ascii_case f.0 name ≡ true → test f ≡ true)
+    → values_of name (filter test xs) ≡ values_of name xs
 values-kept name test [] all = refl
 values-kept name test (f ∷ xs) all = elim (cases_Bool (str_eq_ignore_ascii_case f.0 name)) [
   | inl same ↦ ap (values_of name) (let e : filter test (f ∷ xs) ≡ f ∷ filter test xs = rw (all f same) refl in e)
-      ∙ values-cons-same name f (filter test xs) same ∙ ap (λ t. f.1 ∷ t) (values-kept name test xs all) ∙ sym (values-cons-same name f xs same)
+      ∙ values-cons-same name f (filter test xs) same ∙ ap (λ t. f.1 ∷ t) (values-kept name test xs all)
+      ∙ sym (values-cons-same name f xs same)
   | inr differ ↦ elim (cases_Bool (test f)) [
     | inl on ↦ ap (values_of name) (let e : filter test (f ∷ xs) ≡ f ∷ filter test xs = rw on refl in e)
         ∙ values-cons-no name f (filter test xs) differ ∙ values-kept name test xs all ∙ sym (values-cons-no name f xs differ)
@@ -66,10 +73,12 @@ LENGTH = codes "content-length"
 abbrev pub CODING : List ℕ
 CODING = codes "transfer-encoding"
 
-once-skip : (seen : Bool) (f : List ℕ × List ℕ) (xs : List (List ℕ × List ℕ)) → is_length f ≡ true → seen ≡ true → once seen (f ∷ xs) ≡ once seen xs
+once-skip : (seen : Bool) (f : List ℕ × List ℕ) (xs : List (List ℕ × List ℕ)) → is_length f ≡ true → seen ≡ true
+    → once seen (f ∷ xs) ≡ once seen xs
 once-skip seen f xs e s = rw (e, s) refl
 
-once-keep : (seen : Bool) (f : List ℕ × List ℕ) (xs : List (List ℕ × List ℕ)) → (is_length f && seen) ≡ false → once seen (f ∷ xs) ≡ f ∷ once (seen || is_length f) xs
+once-keep : (seen : Bool) (f : List ℕ × List ℕ) (xs : List (List ℕ × List ℕ)) → (is_length f && seen) ≡ false
+    → once seen (f ∷ xs) ≡ f ∷ once (seen || is_length f) xs
 once-keep seen f xs e = rw e refl
 
 off_right : (b : Bool) → (b && false) ≡ false
@@ -106,17 +115,21 @@ once-none name seen (f ∷ xs) e = elim (cases_Bool (str_eq_ignore_ascii_case f.
       let rest = sym (values-cons-no name f xs differ) ∙ e in
       elim (cases_Bool (is_length f && seen)) [
         | inl drop ↦ ap (values_of name) (let x : once seen (f ∷ xs) ≡ once seen xs = rw drop refl in x) ∙ once-none name seen xs rest
-        | inr on ↦ ap (values_of name) (once-keep seen f xs on) ∙ values-cons-no name f (once (seen || is_length f) xs) differ ∙ once-none name (seen || is_length f) xs rest
+        | inr on ↦ ap (values_of name) (once-keep seen f xs on) ∙ values-cons-no name f (once (seen || is_length f) xs) differ
+            ∙ once-none name (seen || is_length f) xs rest
       ]
 ]
 
 -- a Host's value has differ part in the other fields
-pub values-hosted : (name : List ℕ) (authority : Option (List ℕ)) (xs : List (List ℕ × List ℕ)) → str_eq_ignore_ascii_case name (codes "host") ≡ false
+pub values-hosted : (name : List ℕ) (authority : Option (List ℕ)) (xs : List (List ℕ × List ℕ))
+    → str_eq_ignore_ascii_case name (codes "host") ≡ false
     → values_of name (map (hosted authority) xs) ≡ values_of name xs
 values-hosted name authority [] off = refl
 values-hosted name None (f ∷ xs) off = elim (cases_Bool (str_eq_ignore_ascii_case f.0 name)) [
-  | inl same ↦ values-cons-same name f (map (hosted None) xs) same ∙ ap (λ t. f.1 ∷ t) (values-hosted name None xs off) ∙ sym (values-cons-same name f xs same)
-  | inr differ ↦ values-cons-no name f (map (hosted None) xs) differ ∙ values-hosted name None xs off ∙ sym (values-cons-no name f xs differ)
+  | inl same ↦ values-cons-same name f (map (hosted None) xs) same ∙ ap (λ t. f.1 ∷ t) (values-hosted name None xs off)
+      ∙ sym (values-cons-same name f xs same)
+  | inr differ ↦ values-cons-no name f (map (hosted None) xs) differ ∙ values-hosted name None xs off
+      ∙ sym (values-cons-no name f xs differ)
 ]
 values-hosted name (Some a) (f ∷ xs) off =
     let rest = values-hosted name (Some a) xs off in
@@ -127,12 +140,15 @@ values-hosted name (Some a) (f ∷ xs) off =
             | inl same ↦ absurd (let x : true ≡ false = sym host ∙ same_as f.0 name (codes "host") same ∙ off in cc)
             | inr differ ↦ differ
           ] in
-          ap (λ g. values_of name (g ∷ map (hosted (Some a)) xs)) here ∙ values-cons-no name (f.0, a) (map (hosted (Some a)) xs) differ ∙ rest ∙ sym (values-cons-no name f xs differ)
+          ap (λ g. values_of name (g ∷ map (hosted (Some a)) xs)) here ∙ values-cons-no name (f.0, a) (map (hosted (Some a)) xs) differ
+          ∙ rest ∙ sym (values-cons-no name f xs differ)
       | inr other ↦
           let here : host_line a f ≡ f = rw other refl in
           elim (cases_Bool (str_eq_ignore_ascii_case f.0 name)) [
-            | inl same ↦ ap (λ g. values_of name (g ∷ map (hosted (Some a)) xs)) here ∙ values-cons-same name f (map (hosted (Some a)) xs) same ∙ ap (λ t. f.1 ∷ t) rest ∙ sym (values-cons-same name f xs same)
-            | inr differ ↦ ap (λ g. values_of name (g ∷ map (hosted (Some a)) xs)) here ∙ values-cons-no name f (map (hosted (Some a)) xs) differ ∙ rest ∙ sym (values-cons-no name f xs differ)
+            | inl same ↦ ap (λ g. values_of name (g ∷ map (hosted (Some a)) xs)) here
+                ∙ values-cons-same name f (map (hosted (Some a)) xs) same ∙ ap (λ t. f.1 ∷ t) rest ∙ sym (values-cons-same name f xs same)
+            | inr differ ↦ ap (λ g. values_of name (g ∷ map (hosted (Some a)) xs)) here
+                ∙ values-cons-no name f (map (hosted (Some a)) xs) differ ∙ rest ∙ sym (values-cons-no name f xs differ)
           ]
     ]
 
@@ -160,21 +176,25 @@ length_goes expect fields f e =
     both true = refl
     both false = refl
 
-coding_goes : (beside : Beside) (fields : List (List ℕ × List ℕ)) (f : List ℕ × List ℕ) → str_eq_ignore_ascii_case f.0 CODING ≡ true → stays beside fields f ≡ false
+coding_goes : (beside : Beside) (fields : List (List ℕ × List ℕ)) (f : List ℕ × List ℕ) → str_eq_ignore_ascii_case f.0 CODING ≡ true
+    → stays beside fields f ≡ false
 coding_goes beside fields f e =
     let hop : is_among hop_names f.0 ≡ true = among_as hop_names f.0 CODING e in
     rw hop refl
 
 -- the first length goes on, or none does; differ coding does
-pub kept-length : (expect : Bool) (fields : List (List ℕ × List ℕ)) → values_of LENGTH (kept_fields (record { expect = expect; length = false }) fields) ≡ take 1 (values_of LENGTH fields)
+pub kept-length : (expect : Bool) (fields : List (List ℕ × List ℕ))
+    → values_of LENGTH (kept_fields (record { expect = expect; length = false }) fields) ≡ take 1 (values_of LENGTH fields)
 kept-length expect fields =
     let b : Beside = record { expect = expect; length = false } in
     once-first (filter (stays b fields) fields) ∙ ap (take 1) (values-kept LENGTH (stays b fields) fields (length_stays expect fields))
 
-pub kept-no_length : (expect : Bool) (fields : List (List ℕ × List ℕ)) → values_of LENGTH (kept_fields (record { expect = expect; length = true }) fields) ≡ []
+pub kept-no_length : (expect : Bool) (fields : List (List ℕ × List ℕ))
+    → values_of LENGTH (kept_fields (record { expect = expect; length = true }) fields) ≡ []
 kept-no_length expect fields =
     let b : Beside = record { expect = expect; length = true } in
     once-none LENGTH false (filter (stays b fields) fields) (values-gone LENGTH (stays b fields) fields (length_goes expect fields))
 
 pub kept-no_coding : (beside : Beside) (fields : List (List ℕ × List ℕ)) → values_of CODING (kept_fields beside fields) ≡ []
-kept-no_coding beside fields = once-none CODING false (filter (stays beside fields) fields) (values-gone CODING (stays beside fields) fields (coding_goes beside fields))
+kept-no_coding beside fields = once-none CODING false (filter (stays beside fields) fields)
+    (values-gone CODING (stays beside fields) fields (coding_goes beside fields))

@@ -1,5 +1,6 @@
 -- What has to be answered to a text that may begin with a request's head is answered.
-use Rattle.std.proofs.Common.{◌≡◌, ◌≢◌, ℕ, ◌<◌, ◌≤◌, ◌⊎◌, inl, inr, Bool, true, false, List, [], ◌++◌, length, drop, Some, None, Result, Ok, Err, refl, sym, ap, ◌∙◌, subst, arith, lt-ltb, le-ltb}
+use Rattle.std.proofs.Common.{◌≡◌, ◌≢◌, ℕ, ◌<◌, ◌≤◌, ◌⊎◌, inl, inr, Bool, true, false, List, [], ◌++◌, length, drop, Some, None, Result, Ok}
+use Rattle.std.proofs.Common.{Err, refl, sym, ap, ◌∙◌, subst, arith, lt-ltb, le-ltb}
 use Rattle.std.specs.Prelude.{IfOk, IfErr, IsOkAnd}
 use Rattle.std.proofs.lemmas.List.{length-map, append-nil}
 use Rattle.httparse.specs.Grammar.{RequestHead, ReadsRequest, print_request, HasNoRequest, NeverHasRequest, MayBecomeRequest}
@@ -7,7 +8,8 @@ use Rattle.httparse.specs.Spans.{name_and_value, RequestExceeds, RequestOverflow
 use Rattle.httparse.proofs.GrammarLemmas.{request_unique}
 use Rattle.http_side.specs.declared.head.Head.{Head}
 use Rattle.http_side.specs.declared.fault.HttpFault.{HttpFault}
-use Rattle.http_side.specs.declared.fault.HttpFault.TheVariants.{More, Bad, TooLong, TooMany, BothLengths, Lengths, Coding, Target, Connect, NoMemory}
+use Rattle.http_side.specs.declared.fault.HttpFault.TheVariants.{More, Bad, TooLong, TooMany, BothLengths, Lengths, Coding, Target, Connect}
+use Rattle.http_side.specs.declared.fault.HttpFault.TheVariants.{NoMemory}
 use Rattle.http_side.specs.Heads.{RequestParts, request_parts, judged, unended, request_fault, is_connect, IsRequestAt}
 use Rattle.http_side.specs.Targets.{IsServedIn}
 use Rattle.http_side.specs.Requests.{Refuses, HasRefused, MayRefuseRequest, IsTaken, IsRead, IsUnfinished, RefusesRequest}
@@ -23,7 +25,8 @@ one_at text r p n m x y =
 
 abbrev Late : Bool → RequestParts → HttpFault → Type 0
 Late adapted r f =
-    ((f ≡ Connect) × (is_connect r ≡ true)) ⊎ ((f ≡ Target) × (is_connect r ≡ false) × (IsServedIn adapted r → ⊥)) ⊎ ((f ≡ NoMemory) × (is_connect r ≡ false))
+    ((f ≡ Connect) × (is_connect r ≡ true)) ⊎ ((f ≡ Target) × (is_connect r ≡ false) × (IsServedIn adapted r → ⊥))
+    ⊎ ((f ≡ NoMemory) × (is_connect r ≡ false))
 
 abbrev Cause : Bool → RequestParts → HttpFault → Type 0
 Cause adapted r f = (request_fault r ≡ Some f) ⊎ ((request_fault r ≡ None) × Late adapted r f)
@@ -134,7 +137,8 @@ agrees adapted text f g (inr (inr (inl x))) (inl y) = absurd (omega (arith, x.2 
 agrees adapted text f g (inr (inr (inl x))) (inr (inl y)) = absurd (y.1.2 x.1)
 agrees adapted text f g (inr (inr (inl x))) (inr (inr (inl y))) = inl (x.0 ∙ sym y.0)
 agrees adapted text f g (inr (inr (inl x))) (inr (inr (inr y))) =
-    let reads : ReadsRequest (judged text ++ []) y.1.0 y.1.1 = subst (λ t. ReadsRequest t y.1.0 y.1.1) (sym (append-nil (judged text))) y.1.2 in
+    let reads : ReadsRequest (judged text ++ []) y.1.0 y.1.1 =
+    subst (λ t. ReadsRequest t y.1.0 y.1.1) (sym (append-nil (judged text))) y.1.2 in
     absurd (omega (arith, x.2 [] y.1.0 y.1.1 reads, y.1.3))
 agrees adapted text f g (inr (inr (inr x))) y =
     let it = with_head adapted text x.0 x.1 x.2 x.3 g y in
@@ -143,7 +147,8 @@ agrees adapted text f g (inr (inr (inr x))) y =
 pub few_of : (text : List ℕ) (r : RequestParts) (n : ℕ) (at : IsRequestAt text r n) → length r.fields ≤ 100 → length at.head.fields ≤ 100
 few_of text r n at few = omega (arith, length-map at.head.fields name_and_value, ap (λ x. length x.fields) at.parts_are)
 
-not_read : (adapted : Bool) (text : List ℕ) (r : RequestParts) (n : ℕ) (g : HttpFault) → IsRead adapted text r n → RefusesRequest adapted text g → ⊥
+not_read : (adapted : Bool) (text : List ℕ) (r : RequestParts) (n : ℕ) (g : HttpFault) → IsRead adapted text r n
+    → RefusesRequest adapted text g → ⊥
 not_read adapted text r n g read stands =
     let at = read.there in
     let it = with_head adapted text at.head (drop n (judged text)) at.reads (few_of (judged text) r n at read.few) g stands in
@@ -154,7 +159,8 @@ not_read adapted text r n g read stands =
 abbrev pub Told : Result (Head RequestParts) HttpFault → HttpFault → Type 0
 Told result g = (result ≡ Err g) ⊎ ((g ≡ Target) × (result ≡ Err NoMemory))
 
-pub fault_told : (adapted : Bool) (text : List ℕ) (result : Result (Head RequestParts) HttpFault) → IfOk result (λ head. IsRead adapted text head.value head.length)
+pub fault_told : (adapted : Bool) (text : List ℕ) (result : Result (Head RequestParts) HttpFault)
+    → IfOk result (λ head. IsRead adapted text head.value head.length)
     → IfErr result (MayRefuseRequest adapted text) → (g : HttpFault) → RefusesRequest adapted text g → Told result g
 fault_told adapted text (Ok head) read refused g stands = absurd (not_read adapted text head.value head.length g read stands)
 fault_told adapted text (Err f) read refused g stands = told (agrees adapted text f g (answer_of adapted text f refused) stands)
@@ -163,12 +169,15 @@ fault_told adapted text (Err f) read refused g stands = told (agrees adapted tex
     told (inl same) = inl (ap Err same)
     told (inr other) = inr (other.0, ap Err other.1)
 
-refused_read : (adapted : Bool) (text : List ℕ) (f : HttpFault) (r : RequestParts) (n : ℕ) → Answer adapted text f → IsRead adapted text r n → f ≡ NoMemory
+refused_read : (adapted : Bool) (text : List ℕ) (f : HttpFault) (r : RequestParts) (n : ℕ) → Answer adapted text f → IsRead adapted text r n
+    → f ≡ NoMemory
 refused_read adapted text f r n (inl x) read = absurd (x.1.0 read.there.head (drop n (judged text)) read.there.reads)
-refused_read adapted text f r n (inr (inl x)) read = absurd (never_here (judged text) x.1 read.there.head (drop n (judged text)) read.there.reads)
+refused_read adapted text f r n (inr (inl x)) read =
+    absurd (never_here (judged text) x.1 read.there.head (drop n (judged text)) read.there.reads)
 refused_read adapted text f r n (inr (inr (inl x))) read =
     let at = read.there in
-    let reads : ReadsRequest (judged text ++ []) at.head (drop n (judged text)) = subst (λ t. ReadsRequest t at.head (drop n (judged text))) (sym (append-nil (judged text))) at.reads in
+    let reads : ReadsRequest (judged text ++ []) at.head (drop n (judged text)) =
+    subst (λ t. ReadsRequest t at.head (drop n (judged text))) (sym (append-nil (judged text))) at.reads in
     absurd (omega (arith, x.2 [] at.head (drop n (judged text)) reads, few_of (judged text) r n at read.few))
 refused_read adapted text f r n (inr (inr (inr x))) read =
     let at = read.there in
@@ -182,15 +191,18 @@ refused_read adapted text f r n (inr (inr (inr x))) read =
     memory (inr (none, inr (inl c))) = absurd (c.2 read.taken.served)
     memory (inr (none, inr (inr c))) = c.0
 
-pub head_told : (adapted : Bool) (text : List ℕ) (result : Result (Head RequestParts) HttpFault) → IfOk result (λ head. IsRead adapted text head.value head.length)
+pub head_told : (adapted : Bool) (text : List ℕ) (result : Result (Head RequestParts) HttpFault)
+    → IfOk result (λ head. IsRead adapted text head.value head.length)
     → IfErr result (MayRefuseRequest adapted text) → (r : RequestParts) (n : ℕ) → IsRead adapted text r n
     → (result ≡ Err NoMemory) ⊎ IsOkAnd result (λ head. (head.value ≡ r) × (head.length ≡ n))
 head_told adapted text (Ok head) read refused r n there = inr (one_at (judged text) head.value r head.length n read.there there.there)
-head_told adapted text (Err f) read refused r n there = inl (ap Err (refused_read adapted text f r n (answer_of adapted text f refused) there))
+head_told adapted text (Err f) read refused r n there =
+    inl (ap Err (refused_read adapted text f r n (answer_of adapted text f refused) there))
 
 -- ---- one answer
 
-pub head_or_fault : (adapted : Bool) (text : List ℕ) (r : RequestParts) (n : ℕ) (g : HttpFault) → RefusesRequest adapted text g → ¬ (IsRead adapted text r n)
+pub head_or_fault : (adapted : Bool) (text : List ℕ) (r : RequestParts) (n : ℕ) (g : HttpFault) → RefusesRequest adapted text g
+    → ¬ (IsRead adapted text r n)
 head_or_fault adapted text r n g stands read = not_read adapted text r n g read stands
 
 same_fault : (f g : HttpFault) → f ≢ NoMemory → Allowed f g → f ≡ g

@@ -1,5 +1,6 @@
 -- What has to be answered to a text that may begin with a response's head is answered.
-use Rattle.std.proofs.Common.{◌≡◌, ◌≢◌, ℕ, ◌≤◌, ◌⊎◌, inl, inr, Bool, false, List, [], ◌++◌, length, drop, Some, None, Result, Ok, Err, refl, sym, ap, ◌∙◌, subst, arith}
+use Rattle.std.proofs.Common.{◌≡◌, ◌≢◌, ℕ, ◌≤◌, ◌⊎◌, inl, inr, Bool, false, List, [], ◌++◌, length, drop, Some, None, Result, Ok, Err, refl}
+use Rattle.std.proofs.Common.{sym, ap, ◌∙◌, subst, arith}
 use Rattle.std.specs.Prelude.{IfOk, IfErr, IsOkAnd}
 use Rattle.std.proofs.lemmas.List.{length-map, append-nil}
 use Rattle.httparse.specs.Grammar.{ResponseHead, ReadsResponse, print_response, HasNoResponse, NeverHasResponse}
@@ -7,14 +8,17 @@ use Rattle.httparse.specs.Spans.{name_and_value, ResponseExceeds, ResponseOverfl
 use Rattle.httparse.proofs.GrammarLemmas.{response_unique}
 use Rattle.http_side.specs.declared.head.Head.{Head}
 use Rattle.http_side.specs.declared.fault.HttpFault.{HttpFault}
-use Rattle.http_side.specs.declared.fault.HttpFault.TheVariants.{More, Bad, TooLong, TooMany, BothLengths, Lengths, Coding, Target, Connect, NoMemory}
+use Rattle.http_side.specs.declared.fault.HttpFault.TheVariants.{More, Bad, TooLong, TooMany, BothLengths, Lengths, Coding, Target, Connect}
+use Rattle.http_side.specs.declared.fault.HttpFault.TheVariants.{NoMemory}
 use Rattle.http_side.specs.Heads.{ResponseParts, response_parts, judged, unended, response_fault, IsResponseAt}
-use Rattle.http_side.specs.Responses.{RefusesAnswer, HasRefusedAnswer, MayRefuseResponse, IsResponseRead, IsUnfinishedResponse, RefusesResponse}
+use Rattle.http_side.specs.Responses.{RefusesAnswer, HasRefusedAnswer, MayRefuseResponse, IsResponseRead, IsUnfinishedResponse}
+use Rattle.http_side.specs.Responses.{RefusesResponse}
 use Rattle.http_side.proofs.RequestAnswers.{short_is, long_is}
 
 -- ---- one head
 
-pub one_at : (text : List ℕ) (r p : ResponseParts) (n m : ℕ) → IsResponseAt text r n → IsResponseAt text p m → r.to_head ≡ p.to_head → (r ≡ p) × (n ≡ m)
+pub one_at : (text : List ℕ) (r p : ResponseParts) (n m : ℕ) → IsResponseAt text r n → IsResponseAt text p m → r.to_head ≡ p.to_head
+    → (r ≡ p) × (n ≡ m)
 one_at text r p n m x y asked =
     let same = (response_unique text x.head y.head (drop n text) (drop m text) x.reads y.reads).0 in (
       sym x.parts_are ∙ ap (λ h. response_parts h r.to_head) same ∙ ap (response_parts y.head) asked ∙ y.parts_are,
@@ -97,7 +101,8 @@ agrees text f g (inr (inr (inl x))) (inl y) = absurd (omega (arith, x.2 y.1.1.0 
 agrees text f g (inr (inr (inl x))) (inr (inl y)) = absurd (y.1.1 x.1)
 agrees text f g (inr (inr (inl x))) (inr (inr (inl y))) = x.0 ∙ sym y.0
 agrees text f g (inr (inr (inl x))) (inr (inr (inr y))) =
-    let reads : ReadsResponse (judged text ++ []) y.1.0 y.1.1 = subst (λ t. ReadsResponse t y.1.0 y.1.1) (sym (append-nil (judged text))) y.1.2 in
+    let reads : ReadsResponse (judged text ++ []) y.1.0 y.1.1 =
+    subst (λ t. ReadsResponse t y.1.0 y.1.1) (sym (append-nil (judged text))) y.1.2 in
     absurd (omega (arith, x.2 [] y.1.0 y.1.1 reads, y.1.3))
 agrees text f g (inr (inr (inr x))) y =
     let it = with_head text x.0 x.1 x.2 x.3 g y in
@@ -106,7 +111,8 @@ agrees text f g (inr (inr (inr x))) y =
 pub few_of : (text : List ℕ) (r : ResponseParts) (n : ℕ) (at : IsResponseAt text r n) → length r.fields ≤ 100 → length at.head.fields ≤ 100
 few_of text r n at few = omega (arith, length-map at.head.fields name_and_value, ap (λ x. length x.fields) at.parts_are)
 
-not_read : (to_head : Bool) (text : List ℕ) (r : ResponseParts) (n : ℕ) (g : HttpFault) → IsResponseRead to_head text r n → RefusesResponse text g → ⊥
+not_read : (to_head : Bool) (text : List ℕ) (r : ResponseParts) (n : ℕ) (g : HttpFault) → IsResponseRead to_head text r n
+    → RefusesResponse text g → ⊥
 not_read to_head text r n g read stands =
     let at = read.there in
     let it = with_head text at.head (drop n (judged text)) at.reads (few_of (judged text) r n at read.few) g stands in
@@ -119,36 +125,44 @@ not_read to_head text r n g read stands =
 
 -- ---- the answers
 
-pub fault_told : (to_head : Bool) (text : List ℕ) (result : Result (Head ResponseParts) HttpFault) → IfOk result (λ head. IsResponseRead to_head text head.value head.length)
+pub fault_told : (to_head : Bool) (text : List ℕ) (result : Result (Head ResponseParts) HttpFault)
+    → IfOk result (λ head. IsResponseRead to_head text head.value head.length)
     → IfErr result (MayRefuseResponse text) → (g : HttpFault) → RefusesResponse text g → result ≡ Err g
 fault_told to_head text (Ok head) read refused g stands = absurd (not_read to_head text head.value head.length g read stands)
 fault_told to_head text (Err f) read refused g stands = ap Err (agrees text f g (answer_of text f refused) stands)
 
-refused_read : (to_head : Bool) (text : List ℕ) (f : HttpFault) (r : ResponseParts) (n : ℕ) → Answer text f → IsResponseRead to_head text r n → f ≡ NoMemory
+refused_read : (to_head : Bool) (text : List ℕ) (f : HttpFault) (r : ResponseParts) (n : ℕ) → Answer text f
+    → IsResponseRead to_head text r n → f ≡ NoMemory
 refused_read to_head text f r n (inl x) read = absurd (x.1.0 read.there.head (drop n (judged text)) read.there.reads)
-refused_read to_head text f r n (inr (inl x)) read = absurd (never_here (judged text) x.1 read.there.head (drop n (judged text)) read.there.reads)
+refused_read to_head text f r n (inr (inl x)) read =
+    absurd (never_here (judged text) x.1 read.there.head (drop n (judged text)) read.there.reads)
 refused_read to_head text f r n (inr (inr (inl x))) read =
     let at = read.there in
-    let reads : ReadsResponse (judged text ++ []) at.head (drop n (judged text)) = subst (λ t. ReadsResponse t at.head (drop n (judged text))) (sym (append-nil (judged text))) at.reads in
+    let reads : ReadsResponse (judged text ++ []) at.head (drop n (judged text)) =
+    subst (λ t. ReadsResponse t at.head (drop n (judged text))) (sym (append-nil (judged text))) at.reads in
     absurd (omega (arith, x.2 [] at.head (drop n (judged text)) reads, few_of (judged text) r n at read.few))
 refused_read to_head text f r n (inr (inr (inr x))) read =
     let at = read.there in
     let same = (response_unique (judged text) x.0 at.head x.1 (drop n (judged text)) x.2 at.reads).0 in
-    memory (cause_of (response_parts x.0 false) f x.4) (ap (λ h. response_fault (response_parts h r.to_head)) same ∙ ap response_fault at.parts_are ∙ read.no_fault)
+    memory (cause_of (response_parts x.0 false) f x.4) (ap (λ h. response_fault (response_parts h r.to_head)) same
+    ∙ ap response_fault at.parts_are ∙ read.no_fault)
   where
     memory : Cause (response_parts x.0 false) f → response_fault (response_parts x.0 r.to_head) ≡ None → f ≡ NoMemory
     memory (inl c) none = absurd (some_none (sym c ∙ none))
     memory (inr c) none = c.1
 
-pub head_told : (to_head : Bool) (text : List ℕ) (result : Result (Head ResponseParts) HttpFault) → IfOk result (λ head. IsResponseRead to_head text head.value head.length)
+pub head_told : (to_head : Bool) (text : List ℕ) (result : Result (Head ResponseParts) HttpFault)
+    → IfOk result (λ head. IsResponseRead to_head text head.value head.length)
     → IfErr result (MayRefuseResponse text) → (r : ResponseParts) (n : ℕ) → IsResponseRead to_head text r n
     → (result ≡ Err NoMemory) ⊎ IsOkAnd result (λ head. (head.value ≡ r) × (head.length ≡ n))
-head_told to_head text (Ok head) read refused r n there = inr (one_at (judged text) head.value r head.length n read.there there.there (read.asked ∙ sym there.asked))
+head_told to_head text (Ok head) read refused r n there =
+    inr (one_at (judged text) head.value r head.length n read.there there.there (read.asked ∙ sym there.asked))
 head_told to_head text (Err f) read refused r n there = inl (ap Err (refused_read to_head text f r n (answer_of text f refused) there))
 
 -- ---- one answer
 
-pub head_or_fault : (to_head : Bool) (text : List ℕ) (r : ResponseParts) (n : ℕ) (g : HttpFault) → RefusesResponse text g → ¬ (IsResponseRead to_head text r n)
+pub head_or_fault : (to_head : Bool) (text : List ℕ) (r : ResponseParts) (n : ℕ) (g : HttpFault) → RefusesResponse text g
+    → ¬ (IsResponseRead to_head text r n)
 head_or_fault to_head text r n g stands read = not_read to_head text r n g read stands
 
 pub one_fault : (text : List ℕ) (f g : HttpFault) → RefusesResponse text f → RefusesResponse text g → f ≡ g

@@ -1,5 +1,6 @@
 -- A head that goes on has one length at most, and its reader sees the framing that was chosen.
-use Rattle.std.proofs.Common.{◌≡◌, ℕ, ◌<◌, ◌≤◌, Bool, true, false, not, ◌&&◌, List, [], ◌∷◌, ◌++◌, length, take, Option, Some, None, Result, Ok, Err, refl, ap, ◌∙◌, arith, length-take}
+use Rattle.std.proofs.Common.{◌≡◌, ℕ, ◌<◌, ◌≤◌, Bool, true, false, not, ◌&&◌, List, [], ◌∷◌, ◌++◌, length, take, Option, Some, None, Result}
+use Rattle.std.proofs.Common.{Ok, Err, refl, ap, ◌∙◌, arith, length-take}
 use Rattle.std.specs.Prelude.{codes, fold, is_err, if◌then◌else◌, ◌==◌}
 use Rattle.std.proofs.lemmas.List.{append-nil}
 use Rattle.adapt_bytes.specs.Text.{comma_items, comma_parts, trim}
@@ -15,10 +16,13 @@ use Rattle.http_side.specs.Lengths.{agreed, content_length, coding_of}
 use Rattle.http_side.specs.Framings.{by_length, by_coding, by_fields}
 use Rattle.http_side.specs.Heads.{RequestParts, ResponseParts, both_lengths, unless, count_of, bad_hosts}
 use Rattle.http_side.specs.Targets.{authority_of}
-use Rattle.http_side.specs.Forward.{length_found, length_of, kept_length, by_kept_length, has_no_place, is_response, has_body, next_framing, is_chunks, gets_zero, is_none, extra_of, added_fields}
-use Rattle.http_side.specs.Laws.{WasRead, WasReadRequest, WasReadResponse, passed_fields, minor_of, forwarded_fields, HasOneLength, framing_seen}
+use Rattle.http_side.specs.Forward.{length_found, length_of, kept_length, by_kept_length, has_no_place, is_response, has_body, next_framing}
+use Rattle.http_side.specs.Forward.{is_chunks, gets_zero, is_none, extra_of, added_fields}
+use Rattle.http_side.specs.Laws.{WasRead, WasReadRequest, WasReadResponse, passed_fields, minor_of, forwarded_fields, HasOneLength}
+use Rattle.http_side.specs.Laws.{framing_seen}
 use Rattle.http_side.proofs.Passing.{LENGTH, CODING, values-append}
-use Rattle.http_side.proofs.Choices.{on, added-length, added-coding, request-length, request-coding, response-length, response-coding, first_is, no_values}
+use Rattle.http_side.proofs.Choices.{on, added-length, added-coding, request-length, request-coding, response-length, response-coding}
+use Rattle.http_side.proofs.Choices.{first_is, no_values}
 
 -- ---- the fields of a head that was read
 
@@ -56,12 +60,15 @@ passed-coding authority (Response r) = response-coding r.now.fields
 
 -- and their number
 kept_is : (m : Message) → WasRead m → fold agreed (Ok None) (kept_values m) ≡ Ok (kept_length m)
-kept_is (Request r) w = first_is (values_of LENGTH r.now.fields) (length_of r.now.fields) (ok_found (content_length r.now.fields) (request_sound r.now w))
+kept_is (Request r) w = first_is (values_of LENGTH r.now.fields) (length_of r.now.fields)
+    (ok_found (content_length r.now.fields) (request_sound r.now w))
 kept_is (Response r) w = by_test (both_lengths r.now.fields)
   where
-    by_test : (b : Bool) → fold agreed (Ok None) (if b then [] else take 1 (values_of LENGTH r.now.fields)) ≡ Ok (if b then None else length_of r.now.fields)
+    by_test : (b : Bool) → fold agreed (Ok None) (if b then [] else take 1 (values_of LENGTH r.now.fields))
+        ≡ Ok (if b then None else length_of r.now.fields)
     by_test true = refl
-    by_test false = first_is (values_of LENGTH r.now.fields) (length_of r.now.fields) (ok_found (content_length r.now.fields) (response_sound r.now w))
+    by_test false = first_is (values_of LENGTH r.now.fields) (length_of r.now.fields)
+        (ok_found (content_length r.now.fields) (response_sound r.now w))
 
 one_of : (values : List (List ℕ)) → length (take 1 values) ≤ 1
 one_of values = omega (arith, length-take 1 values)
@@ -77,34 +84,41 @@ kept_one (Response r) = by_test (both_lengths r.now.fields)
 forwarded-length : (f : Forward) → values_of LENGTH (forwarded_fields f) ≡ kept_values f.message ++ on (gets_zero f) (codes "0")
 forwarded-length f =
     values-append LENGTH (passed_fields (authority_of f.user.now.target) f.message) (added_fields (extra_of f) (minor_of f.message))
-    ∙ ap (λ t. t ++ values_of LENGTH (added_fields (extra_of f) (minor_of f.message))) (passed-length (authority_of f.user.now.target) f.message)
+    ∙ ap (λ t. t ++ values_of LENGTH (added_fields (extra_of f) (minor_of f.message)))
+    (passed-length (authority_of f.user.now.target) f.message)
     ∙ ap (λ t. kept_values f.message ++ t) (added-length (extra_of f) (minor_of f.message))
 
 forwarded-coding : (f : Forward) → values_of CODING (forwarded_fields f) ≡ on (is_chunks (next_framing f)) (codes "chunked")
 forwarded-coding f =
     values-append CODING (passed_fields (authority_of f.user.now.target) f.message) (added_fields (extra_of f) (minor_of f.message))
-    ∙ ap (λ t. t ++ values_of CODING (added_fields (extra_of f) (minor_of f.message))) (passed-coding (authority_of f.user.now.target) f.message)
+    ∙ ap (λ t. t ++ values_of CODING (added_fields (extra_of f) (minor_of f.message)))
+    (passed-coding (authority_of f.user.now.target) f.message)
     ∙ added-coding (extra_of f) (minor_of f.message)
 
 -- ---- the choice, by what it is made of
 
 abbrev chosen : Bool → Bool → Bool → Bool → Option ℕ → Framing
 chosen response bare body old k =
-    if bare then NoBody else by_kept_length k (if body then (if response && old then Close else Chunked) else (if response then Length 0 else NoBody))
+    if bare then NoBody else by_kept_length k (if body then (if response && old then Close else Chunked) else
+    (if response then Length 0 else NoBody))
 
 abbrev zeroed : Bool → Bool → Bool → Option ℕ → Bool
 zeroed response bare body k = response && (not bare && (is_none k && not body))
 
 -- the values of both names, of such a choice
 one_length : (response bare body old : Bool) (k : Option ℕ) (values : List (List ℕ)) → length values ≤ 1 → (k ≡ None → values ≡ [])
-    → (length (values ++ on (zeroed response bare body k) (codes "0")) ≤ 1) × (length (on (is_chunks (chosen response bare body old k)) (codes "chunked")) ≤ 1)
-    × (0 < length (on (is_chunks (chosen response bare body old k)) (codes "chunked")) → length (values ++ on (zeroed response bare body k) (codes "0")) ≡ 0)
-one_length response bare body old k values few none = (lengths response bare body k few none, codings (is_chunks (chosen response bare body old k)), never response bare body old k none)
+    → (length (values ++ on (zeroed response bare body k) (codes "0")) ≤ 1)
+    × (length (on (is_chunks (chosen response bare body old k)) (codes "chunked")) ≤ 1)
+    × (0 < length (on (is_chunks (chosen response bare body old k)) (codes "chunked"))
+    → length (values ++ on (zeroed response bare body k) (codes "0")) ≡ 0)
+one_length response bare body old k values few none =
+    (lengths response bare body k few none, codings (is_chunks (chosen response bare body old k)), never response bare body old k none)
   where
     same : length (values ++ []) ≡ length values
     same = ap length (append-nil values)
 
-    lengths : (response bare body : Bool) (k : Option ℕ) → length values ≤ 1 → (k ≡ None → values ≡ []) → length (values ++ on (zeroed response bare body k) (codes "0")) ≤ 1
+    lengths : (response bare body : Bool) (k : Option ℕ) → length values ≤ 1 → (k ≡ None → values ≡ [])
+        → length (values ++ on (zeroed response bare body k) (codes "0")) ≤ 1
     lengths false bare body k few none = omega (arith, same)
     lengths true true body k few none = omega (arith, same)
     lengths true false body (Some n) few none = omega (arith, same)
@@ -116,7 +130,8 @@ one_length response bare body old k values few none = (lengths response bare bod
     codings false = omega arith
 
     never : (response bare body old : Bool) (k : Option ℕ) → (k ≡ None → values ≡ [])
-        → 0 < length (on (is_chunks (chosen response bare body old k)) (codes "chunked")) → length (values ++ on (zeroed response bare body k) (codes "0")) ≡ 0
+        → 0 < length (on (is_chunks (chosen response bare body old k)) (codes "chunked"))
+        → length (values ++ on (zeroed response bare body k) (codes "0")) ≡ 0
     never response true body old k none l = absurd (omega arith)
     never response false body old (Some n) none l = absurd (omega arith)
     never true false true true None none l = absurd (omega arith)
@@ -128,12 +143,14 @@ one_length response bare body old k values few none = (lengths response bare bod
 no_kept : (m : Message) → WasRead m → kept_length m ≡ None → kept_values m ≡ []
 no_kept m w e = no_values (kept_values m) (kept_is m w ∙ ap Ok e)
 
-counted : (name : List ℕ) (fields : List (List ℕ × List ℕ)) (values : List (List ℕ)) → values_of name fields ≡ values → count_of name fields ≡ length values
+counted : (name : List ℕ) (fields : List (List ℕ × List ℕ)) (values : List (List ℕ)) → values_of name fields ≡ values
+    → count_of name fields ≡ length values
 counted name fields values e = ap length e
 
 pub has_one_length : (f : Forward) → WasRead f.message → HasOneLength (forwarded_fields f)
 has_one_length f w =
-    let one = one_length (is_response f.message) (has_no_place f.message) (has_body f.part f.message) (f.user.now.minor == 0) (kept_length f.message) (kept_values f.message) (kept_one f.message) (no_kept f.message w) in
+    let one = one_length (is_response f.message) (has_no_place f.message) (has_body f.part f.message) (f.user.now.minor == 0)
+    (kept_length f.message) (kept_values f.message) (kept_one f.message) (no_kept f.message w) in
     let l = ap length (forwarded-length f) in
     let c = ap length (forwarded-coding f) in
     record {
@@ -157,8 +174,10 @@ seen codings lengths last = by_coding (coding_of codings) (by_length (fold agree
 abbrev last_of : Bool → Framing
 last_of response = if response then Close else NoBody
 
-seen_is : (response body old : Bool) (k : Option ℕ) (values : List (List ℕ)) → fold agreed (Ok None) values ≡ Ok k → (k ≡ None → values ≡ [])
-    → seen (on (is_chunks (chosen response false body old k)) (codes "chunked")) (values ++ on (zeroed response false body k) (codes "0")) (last_of response) ≡ chosen response false body old k
+seen_is : (response body old : Bool) (k : Option ℕ) (values : List (List ℕ)) → fold agreed (Ok None) values ≡ Ok k
+    → (k ≡ None → values ≡ [])
+    → seen (on (is_chunks (chosen response false body old k)) (codes "chunked")) (values ++ on (zeroed response false body k) (codes "0"))
+    (last_of response) ≡ chosen response false body old k
 seen_is false body old (Some n) values is none = rw (append-nil values, is) refl
 seen_is true body old (Some n) values is none = rw (append-nil values, is) refl
 seen_is false true old None values is none = rw chunked_is refl
@@ -167,20 +186,27 @@ seen_is true true true None values is none = rw (none refl) refl
 seen_is true true false None values is none = rw chunked_is refl
 seen_is true false old None values is none = rw (none refl) refl
 
-by_values : (fields : List (List ℕ × List ℕ)) (codings lengths : List (List ℕ)) (last : Framing) → values_of CODING fields ≡ codings → values_of LENGTH fields ≡ lengths
+by_values : (fields : List (List ℕ × List ℕ)) (codings lengths : List (List ℕ)) (last : Framing) → values_of CODING fields ≡ codings
+    → values_of LENGTH fields ≡ lengths
     → by_fields fields last ≡ seen codings lengths last
-by_values fields codings lengths last c l = ap (λ t. by_coding (coding_of t) (by_length (content_length fields) last)) c ∙ ap (λ t. by_coding (coding_of codings) (by_length (fold agreed (Ok None) t) last)) l
+by_values fields codings lengths last c l = ap (λ t. by_coding (coding_of t) (by_length (content_length fields) last)) c
+    ∙ ap (λ t. by_coding (coding_of codings) (by_length (fold agreed (Ok None) t) last)) l
 
-by_place : (bare response body old : Bool) (k : Option ℕ) (fields : List (List ℕ × List ℕ)) (values : List (List ℕ)) → fold agreed (Ok None) values ≡ Ok k → (k ≡ None → values ≡ [])
-    → values_of CODING fields ≡ on (is_chunks (chosen response bare body old k)) (codes "chunked") → values_of LENGTH fields ≡ values ++ on (zeroed response bare body k) (codes "0")
+by_place : (bare response body old : Bool) (k : Option ℕ) (fields : List (List ℕ × List ℕ)) (values : List (List ℕ))
+    → fold agreed (Ok None) values ≡ Ok k → (k ≡ None → values ≡ [])
+    → values_of CODING fields ≡ on (is_chunks (chosen response bare body old k)) (codes "chunked")
+    → values_of LENGTH fields ≡ values ++ on (zeroed response bare body k) (codes "0")
     → (if bare then NoBody else by_fields fields (last_of response)) ≡ chosen response bare body old k
 by_place true response body old k fields values is none c l = refl
-by_place false response body old k fields values is none c l = by_values fields _ _ (last_of response) c l ∙ seen_is response body old k values is none
+by_place false response body old k fields values is none c l =
+    by_values fields _ _ (last_of response) c l ∙ seen_is response body old k values is none
 
 pub framed_as_chosen : (f : Forward) → WasRead f.message → framing_seen f.message (forwarded_fields f) ≡ next_framing f
-framed_as_chosen f w = same_seen f.message (forwarded_fields f) ∙ by_place (has_no_place f.message) (is_response f.message) (has_body f.part f.message) (f.user.now.minor == 0) (kept_length f.message)
+framed_as_chosen f w = same_seen f.message (forwarded_fields f) ∙ by_place (has_no_place f.message) (is_response f.message)
+    (has_body f.part f.message) (f.user.now.minor == 0) (kept_length f.message)
     (forwarded_fields f) (kept_values f.message) (kept_is f.message w) (no_kept f.message w) (forwarded-coding f) (forwarded-length f)
   where
-    same_seen : (m : Message) (fields : List (List ℕ × List ℕ)) → framing_seen m fields ≡ (if has_no_place m then NoBody else by_fields fields (last_of (is_response m)))
+    same_seen : (m : Message) (fields : List (List ℕ × List ℕ))
+        → framing_seen m fields ≡ (if has_no_place m then NoBody else by_fields fields (last_of (is_response m)))
     same_seen (Request r) fields = refl
     same_seen (Response r) fields = refl

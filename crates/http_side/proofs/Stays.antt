@@ -1,5 +1,6 @@
 -- A head stays whatever follows, and each beginning of it is unfinished; where one fault stands, no other does.
-use Rattle.std.proofs.Common.{◌≡◌, ℕ, ◌+◌, ◌-◌, ◌<◌, ◌≤◌, inl, inr, Bool, List, [], ◌∷◌, ◌++◌, length, take, drop, zero, suc, refl, sym, ap, ◌∙◌, subst, arith, length-append, length-take, take_all}
+use Rattle.std.proofs.Common.{◌≡◌, ℕ, ◌+◌, ◌-◌, ◌<◌, ◌≤◌, inl, inr, Bool, List, [], ◌∷◌, ◌++◌, length, take, drop, zero, suc, refl, sym, ap}
+use Rattle.std.proofs.Common.{◌∙◌, subst, arith, length-append, length-take, take_all}
 use Rattle.std.proofs.lemmas.List.{append-nil, take-append-drop, take-append-le}
 use Rattle.std.proofs.lemmas.Bool.{cases_lt}
 use Rattle.std.proofs.Math.Seq.{drop-append_seam, take-append-add}
@@ -18,7 +19,8 @@ judged-append text more = elim (cases_lt (length text) 16384) [
   | inl short ↦ (
     take (16384 - length text) more,
     ap (λ n. take n (text ++ more)) (let e : 16384 ≡ length text + (16384 - length text) = omega (arith, short) in e)
-        ∙ take-append-add text more (16384 - length text) ∙ ap (λ t. t ++ take (16384 - length text) more) (sym (take_all 16384 text (omega (arith, short)))),
+        ∙ take-append-add text more (16384 - length text) ∙ ap (λ t. t ++ take (16384 - length text) more)
+        (sym (take_all 16384 text (omega (arith, short)))),
   )
   | inr long ↦ ([], take-append-le 16384 text more (omega (arith, long)) ∙ sym (append-nil (judged text)))
 ]
@@ -27,28 +29,44 @@ judged-append text more = elim (cases_lt (length text) 16384) [
 behind : (text p rest : List ℕ) (n : ℕ) → text ≡ p ++ rest → n ≡ length p → drop n text ≡ rest
 behind text p rest n e l = ap (drop n) e ∙ ap (λ k. drop k (p ++ rest)) l ∙ drop-append_seam p rest
 
-pub request_stays : (adapted : Bool) (text more : List ℕ) (r : RequestParts) (n : ℕ) → IsRead adapted text r n → IsRead adapted (text ++ more) r n
+pub request_stays : (adapted : Bool) (text more : List ℕ) (r : RequestParts) (n : ℕ) → IsRead adapted text r n
+    → IsRead adapted (text ++ more) r n
 request_stays adapted text more r n read =
     let at = read.there in
     let extra = judged-append text more in
     let longer = ReadsRequest-append (judged text) at.head (drop n (judged text)) extra.0 at.reads in
-    let here : ReadsRequest (judged (text ++ more)) at.head (drop n (judged text) ++ extra.0) = subst (λ t. ReadsRequest t at.head (drop n (judged text) ++ extra.0)) (sym extra.1) longer in
-    let rest : drop n (judged (text ++ more)) ≡ drop n (judged text) ++ extra.0 = behind (judged (text ++ more)) (print_request at.head) (drop n (judged text) ++ extra.0) n here.1 at.len_is in
+    let here : ReadsRequest (judged (text ++ more)) at.head (drop n (judged text) ++ extra.0) =
+    subst (λ t. ReadsRequest t at.head (drop n (judged text) ++ extra.0)) (sym extra.1) longer in
+    let rest : drop n (judged (text ++ more)) ≡ drop n (judged text) ++ extra.0 =
+    behind (judged (text ++ more)) (print_request at.head) (drop n (judged text) ++ extra.0) n here.1 at.len_is in
     record {
-      there = record { head = at.head; reads = subst (λ t. ReadsRequest (judged (text ++ more)) at.head t) (sym rest) here; len_is = at.len_is; parts_are = at.parts_are };
+      there = record {
+        head = at.head;
+        reads = subst (λ t. ReadsRequest (judged (text ++ more)) at.head t) (sym rest) here;
+        len_is = at.len_is;
+        parts_are = at.parts_are;
+      };
       few = read.few;
       taken = read.taken;
     }
 
-pub response_stays : (to_head : Bool) (text more : List ℕ) (r : ResponseParts) (n : ℕ) → IsResponseRead to_head text r n → IsResponseRead to_head (text ++ more) r n
+pub response_stays : (to_head : Bool) (text more : List ℕ) (r : ResponseParts) (n : ℕ) → IsResponseRead to_head text r n
+    → IsResponseRead to_head (text ++ more) r n
 response_stays to_head text more r n read =
     let at = read.there in
     let extra = judged-append text more in
     let longer = ReadsResponse-append (judged text) at.head (drop n (judged text)) extra.0 at.reads in
-    let here : ReadsResponse (judged (text ++ more)) at.head (drop n (judged text) ++ extra.0) = subst (λ t. ReadsResponse t at.head (drop n (judged text) ++ extra.0)) (sym extra.1) longer in
-    let rest : drop n (judged (text ++ more)) ≡ drop n (judged text) ++ extra.0 = behind (judged (text ++ more)) (print_response at.head) (drop n (judged text) ++ extra.0) n here.1 at.len_is in
+    let here : ReadsResponse (judged (text ++ more)) at.head (drop n (judged text) ++ extra.0) =
+    subst (λ t. ReadsResponse t at.head (drop n (judged text) ++ extra.0)) (sym extra.1) longer in
+    let rest : drop n (judged (text ++ more)) ≡ drop n (judged text) ++ extra.0 =
+    behind (judged (text ++ more)) (print_response at.head) (drop n (judged text) ++ extra.0) n here.1 at.len_is in
     record {
-      there = record { head = at.head; reads = subst (λ t. ReadsResponse (judged (text ++ more)) at.head t) (sym rest) here; len_is = at.len_is; parts_are = at.parts_are };
+      there = record {
+        head = at.head;
+        reads = subst (λ t. ReadsResponse (judged (text ++ more)) at.head t) (sym rest) here;
+        len_is = at.len_is;
+        parts_are = at.parts_are;
+      };
       few = read.few;
       asked = read.asked;
       no_fault = read.no_fault;
@@ -84,7 +102,8 @@ cut_of text p rest cut e l =
       size = size;
     }
 
-pub request_beginning : (adapted : Bool) (text : List ℕ) (r : RequestParts) (n cut : ℕ) → IsRead adapted text r n → cut < n → RefusesRequest adapted (take cut text) More
+pub request_beginning : (adapted : Bool) (text : List ℕ) (r : RequestParts) (n cut : ℕ) → IsRead adapted text r n → cut < n
+    → RefusesRequest adapted (take cut text) More
 request_beginning adapted text r n cut read l =
     let at = read.there in
     let p = print_request at.head in
@@ -104,7 +123,8 @@ request_beginning adapted text r n cut read l =
     ) in
     inl (short_is (length (take cut text)) (omega (arith, it.size, it.small)), subst AwaitsRequest (sym it.whole) awaits)
 
-pub response_beginning : (to_head : Bool) (text : List ℕ) (r : ResponseParts) (n cut : ℕ) → IsResponseRead to_head text r n → cut < n → RefusesResponse (take cut text) More
+pub response_beginning : (to_head : Bool) (text : List ℕ) (r : ResponseParts) (n cut : ℕ) → IsResponseRead to_head text r n → cut < n
+    → RefusesResponse (take cut text) More
 response_beginning to_head text r n cut read l =
     let at = read.there in
     let p = print_response at.head in
@@ -114,7 +134,14 @@ response_beginning to_head text r n cut read l =
           let longer = ReadsResponse-append (take cut text) k q (drop cut (judged text)) reads in
           let whole = subst (λ t. ReadsResponse t k (q ++ drop cut (judged text))) it.joined longer in
           let same = (response_unique (judged text) k at.head (q ++ drop cut (judged text)) (drop n (judged text)) whole at.reads).0 in
-          omega (arith, ap (λ h. length (print_response h)) same, at.len_is, ap length reads.1, length-append (print_response k) q, it.size),
+          omega (
+            arith,
+            ap (λ h. length (print_response h)) same,
+            at.len_is,
+            ap length reads.1,
+            length-append (print_response k) q,
+            it.size,
+          ),
       (
         drop cut p,
         at.head,

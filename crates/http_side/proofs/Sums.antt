@@ -5,7 +5,8 @@ use Rattle.std.proofs.Common.{◌≡◌, ℕ, ◌+◌, ◌-◌, ◌^◌, ◌<◌
 one_more : (m x y a b s : ℕ) → x ≡ min a m → y ≡ min b m → s ≡ min (x + y) m → s ≡ min (a + b) m
 one_more m x y a b s e f g = omega arith
 
-pub parts : (m a b c d first host fields added s1 s2 s3 s : ℕ) → 2 ≤ m → first ≡ min a m → host ≡ min b m → fields ≡ min c m → added ≡ min d m
+pub parts : (m a b c d first host fields added s1 s2 s3 s : ℕ) → 2 ≤ m → first ≡ min a m → host ≡ min b m → fields ≡ min c m
+    → added ≡ min d m
     → s1 ≡ min (first + host) m → s2 ≡ min (s1 + fields) m → s3 ≡ min (s2 + added) m → s ≡ min (s3 + 2) m → s ≡ min (a + b + c + d + 2) m
 parts m a b c d first host fields added s1 s2 s3 s l e f g h i j k n =
     let one = one_more m first host a b s1 e f i in
@@ -15,7 +16,8 @@ parts m a b c d first host fields added s1 s2 s3 s l e f g h i j k n =
     one_more m s3 2 (a + b + c + d) 2 s three small n
 
 -- a size that memory was found for is no sum that stopped: there is room for all parts
-pub is_exact : (a b c d size left : ℕ) → size ≡ min (a + b + c + d + 2) (2 ^ 64 - 1) → left ≡ size → size < 2 ^ 63 → left ≡ a + (b + (c + (d + 2)))
+pub is_exact : (a b c d size left : ℕ) → size ≡ min (a + b + c + d + 2) (2 ^ 64 - 1) → left ≡ size → size < 2 ^ 63
+    → left ≡ a + (b + (c + (d + 2)))
 is_exact a b c d size left e f l = omega arith
 
 -- behind a part there is room for the others

@@ -1,5 +1,6 @@
 -- The parts of a target that is served, by its grammar.
-use Rattle.std.proofs.Common.{◌≡◌, ℕ, ◌<◌, Bool, true, false, not, ◌||◌, ◌&&◌, List, [], ◌∷◌, ◌++◌, length, take, drop, Option, Some, None, refl, sym, ap, ◌∙◌, subst, inl, inr, arith, get_or, zero, suc, append_assoc, length-append, rules}
+use Rattle.std.proofs.Common.{◌≡◌, ℕ, ◌<◌, Bool, true, false, not, ◌||◌, ◌&&◌, List, [], ◌∷◌, ◌++◌, length, take, drop, Option, Some, None}
+use Rattle.std.proofs.Common.{refl, sym, ap, ◌∙◌, subst, inl, inr, arith, get_or, zero, suc, append_assoc, length-append, rules}
 use Rattle.std.specs.Prelude.{codes, ◌==◌, bytes_eq, slice_index, IsUtf8}
 use Rattle.std.specs.List.{prefix_len}
 use Rattle.std.specs.Char.{to_ascii_lowercase}
@@ -13,7 +14,8 @@ use Rattle.http_uri.specs.Grammar.{IsScheme, normal_scheme, IsAuthority, IsTail,
 use Rattle.http_uri.specs.Uri.{Spells, uri_scheme, uri_authority, uri_data}
 use Rattle.http_uri.specs.declared.uri.Uri.{Uri as Target}
 use Rattle.http_uri.proofs.AuthorityLemmas.{IsAuthority_utf8, IsAuthority_no_delimiter}
-use Rattle.http_side.specs.Targets.{is_delimiter, is_hash, count_before, before, from, authority_of, path_of, is_rooted, rooted, origin_form, serves, serves_uri, IsServed, is_plain_authority, has_path_behind}
+use Rattle.http_side.specs.Targets.{is_delimiter, is_hash, count_before, before, from, authority_of, path_of, is_rooted, rooted}
+use Rattle.http_side.specs.Targets.{origin_form, serves, serves_uri, IsServed, is_plain_authority, has_path_behind}
 use Rattle.http_side.specs.Forward.{target_form}
 
 -- ---- counts
@@ -35,7 +37,8 @@ count_on : (test : ℕ → Bool) (b : ℕ) (t : List ℕ) → test b ≡ false �
 count_on test b t e = rw e refl
 
 -- a front without such a byte, and then one or the end
-count_front : (test : ℕ → Bool) (a tail : List ℕ) → ((k : ℕ) → k < length a → test (get_or a k 0) ≡ false) → count_before test tail ≡ 0 → count_before test (a ++ tail) ≡ length a
+count_front : (test : ℕ → Bool) (a tail : List ℕ) → ((k : ℕ) → k < length a → test (get_or a k 0) ≡ false) → count_before test tail ≡ 0
+    → count_before test (a ++ tail) ≡ length a
 count_front test [] tail none stops = stops
 count_front test (b ∷ a) tail none stops =
     count_on test b (a ++ tail) (none 0 (omega arith)) ∙ ap suc (count_front test a tail (λ k l. none (suc k) (omega arith)) stops)
@@ -75,7 +78,8 @@ name_length name e = elim (cases_Bool (bytes_eq (lowercase name) (codes "http"))
       let four : length (lowercase name) ≡ 4 = ap length same in
       omega (arith, four, length-map name to_ascii_lowercase)
   | inr other ↦ elim (cases_Bool (bytes_eq (lowercase name) (codes "https"))) [
-    | inl https ↦ absurd (let x : codes "https" ≡ codes "http" = sym (let y : normal_scheme name ≡ codes "https" = rw (other, https) refl in y) ∙ e in
+    | inl https ↦ absurd (let x : codes "https" ≡ codes "http" = sym (let y : normal_scheme name ≡ codes "https" = rw (other, https) refl in
+        y) ∙ e in
         let n : 5 ≡ 4 = ap length x in omega (arith, n))
     | inr neither ↦ let x : name ≡ codes "http" = sym (let y : normal_scheme name ≡ name = rw (other, neither) refl in y) ∙ e in ap length x
   ]
@@ -108,17 +112,22 @@ abbrev pub Form : Bool → List ℕ → Option (List ℕ) → Type 0
 Form adapted t None = (adapted ≡ true) × (is_rooted t ≡ true) × IsUtf8 (before is_hash t)
 Form adapted t (Some a) = IsAbsolute t a
 
-absolute : (t name a tail kept : List ℕ) → t ≡ name ++ codes "://" ++ a ++ tail → IsScheme name → normal_scheme name ≡ codes "http" → IsAuthority a → IsTail tail kept → IsAbsolute t a
+absolute : (t name a tail kept : List ℕ) → t ≡ name ++ codes "://" ++ a ++ tail → IsScheme name → normal_scheme name ≡ codes "http"
+    → IsAuthority a → IsTail tail kept → IsAbsolute t a
 absolute t name a tail kept spelled scheme http authority ends =
     let four = name_length name http in
     let front : length (name ++ codes "://") ≡ 7 = omega (arith, length-append name (codes "://"), four, three) in
     let whole : t ≡ (name ++ codes "://") ++ (a ++ tail) = spelled ∙ append_assoc (name ++ codes "://") a tail in
-    let behind : drop 7 t ≡ a ++ tail = ap (drop 7) whole ∙ ap (λ n. drop n ((name ++ codes "://") ++ (a ++ tail))) (sym front) ∙ drop-append_seam (name ++ codes "://") (a ++ tail) in
-    let none : (k : ℕ) → k < length a → is_delimiter (get_or a k 0) ≡ false = λ k l. sym (same_delimiter (get_or a k 0)) ∙ flip (ends_authority (get_or a k 0)) (IsAuthority_no_delimiter a authority k l) in
+    let behind : drop 7 t ≡ a ++ tail = ap (drop 7) whole ∙ ap (λ n. drop n ((name ++ codes "://") ++ (a ++ tail))) (sym front)
+    ∙ drop-append_seam (name ++ codes "://") (a ++ tail) in
+    let none : (k : ℕ) → k < length a → is_delimiter (get_or a k 0) ≡ false =
+    λ k l. sym (same_delimiter (get_or a k 0)) ∙ flip (ends_authority (get_or a k 0)) (IsAuthority_no_delimiter a authority k l) in
     let count : count_before is_delimiter (a ++ tail) ≡ length a = count_front is_delimiter a tail none (tail_stops tail kept ends) in
-    let rest : from is_delimiter (drop 7 t) ≡ tail = ap (from is_delimiter) behind ∙ ap (λ n. drop n (a ++ tail)) count ∙ drop-append_seam a tail in
+    let rest : from is_delimiter (drop 7 t) ≡ tail =
+    ap (from is_delimiter) behind ∙ ap (λ n. drop n (a ++ tail)) count ∙ drop-append_seam a tail in
     record {
-      plain = ap is_rooted (whole ∙ append_assoc name (codes "://") (a ++ tail)) ∙ first_of_scheme name (codes "://" ++ (a ++ tail)) scheme (omega (arith, four));
+      plain = ap is_rooted (whole ∙ append_assoc name (codes "://") (a ++ tail))
+          ∙ first_of_scheme name (codes "://" ++ (a ++ tail)) scheme (omega (arith, four));
       authority = authority;
       cut = ap (before is_delimiter) behind ∙ ap (λ n. take n (a ++ tail)) count ∙ take-append_seam a tail;
       utf8 = subst (λ x. IsUtf8 (before is_hash x)) (sym rest) (tail_utf8 tail kept ends);
@@ -133,7 +142,8 @@ both true true e = (refl, refl)
 both true false e = absurd (differ (sym e))
 both false y e = absurd (differ (sym e))
 
-pub form_of : (adapted needs : Bool) (t : List ℕ) (s a : Option (List ℕ)) (kept : List ℕ) → IsUriText t s a kept → serves adapted needs t s a ≡ true → Form adapted t a
+pub form_of : (adapted needs : Bool) (t : List ℕ) (s a : Option (List ℕ)) (kept : List ℕ) → IsUriText t s a kept
+    → serves adapted needs t s a ≡ true → Form adapted t a
 form_of adapted needs t None None kept h e =
     let two = both adapted (slice_index t 0 == 47) e in
     (two.0, two.1, subst IsUtf8 (sym (without_is t)) h.1.0.1.kept.utf8)
@@ -145,7 +155,8 @@ form_of adapted needs t (Some s) (Some a) kept h e =
     absolute t h.1.name a h.1.tail kept h.1.spelled h.1.is_scheme (sym h.1.normal ∙ http) h.1.is_authority h.1.is_tail
 
 -- the authority is that of the URI
-pub finds_authority : (needs : Bool) (t : List ℕ) (uri : Target) → Spells t uri → serves_uri false needs t uri ≡ true → uri_authority uri ≡ Some (authority_of t)
+pub finds_authority : (needs : Bool) (t : List ℕ) (uri : Target) → Spells t uri → serves_uri false needs t uri ≡ true
+    → uri_authority uri ≡ Some (authority_of t)
 finds_authority needs t uri h e = told (uri_authority uri) (form_of false needs t (uri_scheme uri) (uri_authority uri) (uri_data uri) h e)
   where
     told : (a : Option (List ℕ)) → Form false t a → a ≡ Some (authority_of t)
@@ -174,8 +185,10 @@ authority_utf8 needs t h = told (uri_authority h.0) (form_of false needs t (uri_
     told None f = absurd (differ (sym f.0))
     told (Some a) f = subst IsUtf8 (sym f.cut) (IsAuthority_utf8 a f.authority)
 
-pub target_utf8 : (adapted needs whose full : Bool) (t user : List ℕ) → IsServed adapted needs t → IsServed false whose user → IsUtf8 (target_form full (authority_of user) t)
+pub target_utf8 : (adapted needs whose full : Bool) (t user : List ℕ) → IsServed adapted needs t → IsServed false whose user
+    → IsUtf8 (target_form full (authority_of user) t)
 target_utf8 adapted needs whose false t user h u = rooted_utf8 (path_of t) (path_utf8 adapted needs t h)
 target_utf8 adapted needs whose true t user h u =
     IsUtf8-append (codes "http://") (authority_of user ++ origin_form t) scheme_utf8
-    (IsUtf8-append (authority_of user) (origin_form t) (authority_utf8 whose user u) (rooted_utf8 (path_of t) (path_utf8 adapted needs t h)))
+    (IsUtf8-append (authority_of user) (origin_form t) (authority_utf8 whose user u)
+    (rooted_utf8 (path_of t) (path_utf8 adapted needs t h)))

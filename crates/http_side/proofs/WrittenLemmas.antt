@@ -1,12 +1,14 @@
 -- What is written is a head of the grammar.
-use Rattle.std.proofs.Common.{◌≡◌, ◌≢◌, ℕ, ◌+◌, ◌<◌, Bool, true, false, not, ◌||◌, ◌&&◌, List, [], ◌∷◌, ◌++◌, length, map, take, drop, Some, IsTrue, reverse, refl, sym, ap, ap₂, ◌∙◌, subst, inl, inr, arith, append_assoc, length-append, rules, get_or}
+use Rattle.std.proofs.Common.{◌≡◌, ◌≢◌, ℕ, ◌+◌, ◌<◌, Bool, true, false, not, ◌||◌, ◌&&◌, List, [], ◌∷◌, ◌++◌, length, map, take, drop, Some}
+use Rattle.std.proofs.Common.{IsTrue, reverse, refl, sym, ap, ap₂, ◌∙◌, subst, inl, inr, arith, append_assoc, length-append, rules, get_or}
 use Rattle.std.specs.Prelude.{All, codes, ◌==◌, nat_lt}
 use Rattle.std.specs.List.{flat_map, list_all, filter}
 use Rattle.std.proofs.lemmas.Bool.{cases_Bool}
 use Rattle.std.proofs.lemmas.List.Elements.{All-map, All-cons, All-tail, All-append, All-take, All-drop, All-filter}
 use Rattle.std.proofs.lemmas.List.{append-nil}
 use Rattle.std.specs.Str.{str_eq_ignore_ascii_case}
-use Rattle.httparse.specs.Grammar.{Field, IsField, IsToken, AllPass, skip_ows, is_value_byte, is_uri_byte, is_token_byte, print_field, print_request, print_response, print_version, print_end, crlf}
+use Rattle.httparse.specs.Grammar.{Field, IsField, IsToken, AllPass, skip_ows, is_value_byte, is_uri_byte, is_token_byte, print_field}
+use Rattle.httparse.specs.Grammar.{print_request, print_response, print_version, print_end, crlf}
 use Rattle.httparse.specs.Spans.{name_and_value}
 use Rattle.httparse.proofs.GrammarLemmas.{print_request-append, cons-append}
 use Rattle.httparse.proofs.TrimLemmas.{AllPass-trim_ows}
@@ -16,19 +18,23 @@ use Rattle.http_side.specs.Heads.{RequestParts, ResponseParts, both_lengths, is_
 use Rattle.http_side.specs.Targets.{authority_of, count_before, is_delimiter, is_hash, is_rooted, rooted, path_of, origin_form}
 use Rattle.http_side.specs.declared.writing.Extra.{Extra}
 use Rattle.http_side.specs.declared.writing.Beside.{Beside}
-use Rattle.http_side.specs.Forward.{field_line, field_lines, head_text, request_line, status_line, target_form, request_fields, response_fields, added_fields, extra_of, kept_fields, stays, once, is_length, hosted, host_line, when, via_value, has_host}
+use Rattle.http_side.specs.Forward.{field_line, field_lines, head_text, request_line, status_line, target_form, request_fields}
+use Rattle.http_side.specs.Forward.{response_fields, added_fields, extra_of, kept_fields, stays, once, is_length, hosted, host_line, when}
+use Rattle.http_side.specs.Forward.{via_value, has_host}
 use Rattle.http_side.specs.Laws.{WasRead, WasReadRequest, WasReadResponse, passed_fields, minor_of}
 use Rattle.http_side.specs.declared.forward.Message.{Message}
 use Rattle.http_side.specs.declared.forward.Message.TheVariants.{Request, Response}
 use Rattle.httparse.proofs.TrimLemmas.{trim_ows_space}
 use Rattle.http_side.proofs.Trimmed.{trimmed_front, trimmed_back, visible_front, visible_back}
 use Rattle.http_side.proofs.TargetForms.{target_utf8}
-use Rattle.http_side.specs.Written.{written_field, written_request, written_response, IsWritable, IsUnbroken, HasNoBreak, ReadsBackRequest, ReadsBackResponse, WritesNoBreaks}
+use Rattle.http_side.specs.Written.{written_field, written_request, written_response, IsWritable, IsUnbroken, HasNoBreak, ReadsBackRequest}
+use Rattle.http_side.specs.Written.{ReadsBackResponse, WritesNoBreaks}
 
 -- ---- texts
 
 all_fields : (fields : List (List ℕ × List ℕ)) → All IsWritable fields → All IsField (map written_field fields)
-all_fields fields h = All-map IsField written_field fields (λ k d l. let w = h k d l in record { name = w.name; raw = All-cons (λ b. IsTrue (is_value_byte b)) 32 _ refl w.value })
+all_fields fields h = All-map IsField written_field fields (λ k d l. let w = h k d l in
+    record { name = w.name; raw = All-cons (λ b. IsTrue (is_value_byte b)) 32 _ refl w.value })
 
 line_printed : (f : List ℕ × List ℕ) → field_line f ≡ print_field (written_field f)
 line_printed f = simp append_assoc refl
@@ -38,15 +44,19 @@ lines_printed [] = refl
 lines_printed (f ∷ fields) = rw (lines_printed fields) (ap (λ t. t ++ flat_map print_field (map written_field fields)) (line_printed f))
 
 -- the same parts, grouped otherwise
-regroup : (m t v l s e : List ℕ) → ((m ++ 32 ∷ [] ++ t ++ (32 ∷ v)) ++ e ++ l) ++ e ≡ [] ++ (m ++ 32 ∷ (t ++ 32 ∷ (v ++ (e ++ ((l ++ e) ++ [])))))
+regroup : (m t v l s e : List ℕ) → ((m ++ 32 ∷ [] ++ t ++ (32 ∷ v)) ++ e ++ l) ++ e ≡ []
+    ++ (m ++ 32 ∷ (t ++ 32 ∷ (v ++ (e ++ ((l ++ e) ++ [])))))
 regroup m t v l s e = simp (append_assoc, cons-append, append-nil) refl
 
-head_printed : (method target : List ℕ) (fields : List (List ℕ × List ℕ)) → head_text (request_line method target) fields ≡ print_request (written_request method target fields) ++ []
+head_printed : (method target : List ℕ) (fields : List (List ℕ × List ℕ))
+    → head_text (request_line method target) fields ≡ print_request (written_request method target fields) ++ []
 head_printed method target fields =
     let h = written_request method target fields in
-    rw (lines_printed fields) (regroup method target (print_version 1) (flat_map print_field (map written_field fields)) [] (print_end crlf) ∙ sym (print_request-append h []))
+    rw (lines_printed fields) (regroup method target (print_version 1) (flat_map print_field (map written_field fields)) [] (print_end crlf)
+    ∙ sym (print_request-append h []))
 
-answer_printed : (status : ℕ) (phrase : List ℕ) (fields : List (List ℕ × List ℕ)) → head_text (status_line status phrase) fields ≡ print_response (written_response status phrase fields) ++ []
+answer_printed : (status : ℕ) (phrase : List ℕ) (fields : List (List ℕ × List ℕ))
+    → head_text (status_line status phrase) fields ≡ print_response (written_response status phrase fields) ++ []
 unfolding print_response
 answer_printed status phrase fields =
     let lines = flat_map print_field (map written_field fields) in
@@ -65,10 +75,12 @@ read_fields fields h = All-map IsWritable name_and_value fields (λ k d l. let w
     record { name = w.name; value = AllPass-trim_ows is_value_byte _ w.raw; front = trimmed_front _; back = trimmed_back _ })
 
 pub request_writable : (r : RequestParts) → WasReadRequest r → All IsWritable r.fields
-request_writable r w = let at = w.3.there in subst (λ x. All IsWritable x.fields) at.parts_are (read_fields at.head.fields at.reads.0.fields)
+request_writable r w = let at = w.3.there in subst (λ x. All IsWritable x.fields) at.parts_are
+    (read_fields at.head.fields at.reads.0.fields)
 
 pub response_writable : (r : ResponseParts) → WasReadResponse r → All IsWritable r.fields
-response_writable r w = let at = w.3.there in subst (λ x. All IsWritable x.fields) at.parts_are (read_fields at.head.fields at.reads.0.fields)
+response_writable r w = let at = w.3.there in subst (λ x. All IsWritable x.fields) at.parts_are
+    (read_fields at.head.fields at.reads.0.fields)
 
 -- a test of each byte of a text
 tested : (test : ℕ → Bool) (xs : List ℕ) → list_all test xs ≡ true → AllPass test xs
@@ -83,7 +95,8 @@ all_once : (seen : Bool) (xs : List (List ℕ × List ℕ)) → All IsWritable x
 all_once seen [] h = h
 all_once seen (f ∷ xs) h = elim (cases_Bool (is_length f && seen)) [
   | inl gone ↦ rw gone (all_once seen xs (All-tail IsWritable f xs h))
-  | inr on ↦ rw on (All-cons IsWritable f (once (seen || is_length f) xs) (h 0 f (omega arith)) (all_once (seen || is_length f) xs (All-tail IsWritable f xs h)))
+  | inr on ↦ rw on (All-cons IsWritable f (once (seen || is_length f) xs) (h 0 f (omega arith))
+      (all_once (seen || is_length f) xs (All-tail IsWritable f xs h)))
 ]
 
 all_kept : (beside : Beside) (fields : List (List ℕ × List ℕ)) → All IsWritable fields → All IsWritable (kept_fields beside fields)
@@ -95,7 +108,8 @@ host_ok authority v f w = elim (cases_Bool (str_eq_ignore_ascii_case f.0 (codes 
   | inr other ↦ rw other w
 ]
 
-all_hosted : (authority : List ℕ) (xs : List (List ℕ × List ℕ)) → IsValue authority → All IsWritable xs → All IsWritable (map (hosted (Some authority)) xs)
+all_hosted : (authority : List ℕ) (xs : List (List ℕ × List ℕ)) → IsValue authority → All IsWritable xs
+    → All IsWritable (map (hosted (Some authority)) xs)
 all_hosted authority xs v h = All-map IsWritable (hosted (Some authority)) xs (λ k d l. host_ok authority v _ (h k d l))
 
 none_is : All IsWritable []
@@ -117,7 +131,8 @@ via_ok minor = elim (cases_Bool (minor == 0)) [
   | inr new ↦ rw new (value (codes "1.1 adaptproxy") refl refl refl)
 ]
 
-four_words : (x : Extra) (minor : ℕ) → IsWritable (codes "Content-Length", codes "0") → IsWritable (codes "Transfer-Encoding", codes "chunked")
+four_words : (x : Extra) (minor : ℕ) → IsWritable (codes "Content-Length", codes "0")
+    → IsWritable (codes "Transfer-Encoding", codes "chunked")
     → IsWritable (codes "Connection", codes "close") → IsWritable (codes "Via", via_value minor) → All IsWritable (added_fields x minor)
 four_words x minor a b c d =
     let e = when x.empty (codes "Content-Length", codes "0") in
@@ -126,7 +141,8 @@ four_words x minor a b c d =
     let h = when x.via (codes "Via", via_value minor) in
     All-append IsWritable ((e ++ f) ++ g) h
     (All-append IsWritable (e ++ f) g
-    (All-append IsWritable e f (all_when x.empty (codes "Content-Length", codes "0") a) (all_when x.chunked (codes "Transfer-Encoding", codes "chunked") b))
+    (All-append IsWritable e f (all_when x.empty (codes "Content-Length", codes "0") a)
+    (all_when x.chunked (codes "Transfer-Encoding", codes "chunked") b))
     (all_when x.close (codes "Connection", codes "close") c))
     (all_when x.via (codes "Via", via_value minor) d)
 
@@ -142,11 +158,13 @@ host_word : (authority : List ℕ) → IsValue authority → IsWritable (codes "
 unfolding is_token_byte
 host_word authority v = word (codes "Host") authority refl refl v
 
-pub request_all : (r : RequestParts) (authority : List ℕ) (x : Extra) → WasReadRequest r → IsValue authority → All IsWritable (request_fields authority r.fields ++ added_fields x r.minor)
+pub request_all : (r : RequestParts) (authority : List ℕ) (x : Extra) → WasReadRequest r → IsValue authority
+    → All IsWritable (request_fields authority r.fields ++ added_fields x r.minor)
 request_all r authority x w v =
     let b : Beside = record { expect = true; length = false } in
     All-append IsWritable (request_fields authority r.fields) (added_fields x r.minor)
-    (All-append IsWritable (when (not (has_host r.fields)) (codes "Host", authority)) (map (hosted (Some authority)) (kept_fields b r.fields))
+    (All-append IsWritable (when (not (has_host r.fields)) (codes "Host", authority))
+    (map (hosted (Some authority)) (kept_fields b r.fields))
     (all_when (not (has_host r.fields)) (codes "Host", authority) (host_word authority v))
     (all_hosted authority (kept_fields b r.fields) v (all_kept b r.fields (request_writable r w))))
     (all_added x r.minor)
@@ -177,7 +195,8 @@ path_visible : (t : List ℕ) → IsVisible t → IsVisible (path_of t)
 path_visible t h = elim (cases_Bool (is_rooted t)) [
   | inl on ↦ rw on (visible_take (count_before is_hash t) t h)
   | inr off ↦ rw off (let behind = drop (count_before is_delimiter (drop 7 t)) (drop 7 t) in
-      visible_take (count_before is_hash behind) behind (visible_drop (count_before is_delimiter (drop 7 t)) (drop 7 t) (visible_drop 7 t h)))
+      visible_take (count_before is_hash behind) behind (visible_drop (count_before is_delimiter (drop 7 t)) (drop 7 t)
+      (visible_drop 7 t h)))
 ]
 
 rooted_ok : (p : List ℕ) → IsVisible p → (0 < length (rooted p)) × IsVisible (rooted p)
@@ -187,7 +206,8 @@ rooted_ok (b ∷ p) h = elim (cases_Bool (is_rooted (b ∷ p))) [
   | inr off ↦ rw off (omega arith, All-cons (λ b. IsTrue (is_uri_byte b)) 47 (b ∷ p) refl h)
 ]
 
-target_ok : (absolute : Bool) (authority t : List ℕ) → IsVisible authority → IsVisible t → (0 < length (target_form absolute authority t)) × IsVisible (target_form absolute authority t)
+target_ok : (absolute : Bool) (authority t : List ℕ) → IsVisible authority → IsVisible t
+    → (0 < length (target_form absolute authority t)) × IsVisible (target_form absolute authority t)
 target_ok false authority t a h = rooted_ok (path_of t) (path_visible t h)
 target_ok true authority t a h =
     let path = rooted_ok (path_of t) (path_visible t h) in (
@@ -200,7 +220,11 @@ value_of_visible : (b : ℕ) → IsTrue (is_uri_byte b) → IsTrue (is_value_byt
 value_of_visible b h = search rules
 
 values_of_visible : (t : List ℕ) → IsVisible t → IsValue t
-values_of_visible t h = record { bytes = λ k d l. value_of_visible (get_or t k d) (h k d l); front = visible_front t h; back = visible_back t h }
+values_of_visible t h = record {
+  bytes = λ k d l. value_of_visible (get_or t k d) (h k d l);
+  front = visible_front t h;
+  back = visible_back t h;
+}
 
 -- ---- what is read again
 
@@ -253,7 +277,8 @@ reads_back_response r w small extra =
         },
         answer_printed r.status r.phrase fields,
       ),
-      ap (λ n. sent n (map name_and_value (map written_field fields))) (digits_back r.status small) ∙ ap (sent r.status) (fields_back fields all),
+      ap (λ n. sent n (map name_and_value (map written_field fields))) (digits_back r.status small)
+          ∙ ap (sent r.status) (fields_back fields all),
     )
   where
     sent : ℕ → List (List ℕ × List ℕ) → ResponseParts
@@ -265,11 +290,15 @@ differs : (test : ℕ → Bool) (b c : ℕ) → test c ≡ false → IsTrue (tes
 differs test b c off on = λ e. absurd (let x : true ≡ false = sym on ∙ ap test e ∙ off in cc)
 
 unbroken : (test : ℕ → Bool) (t : List ℕ) → test 13 ≡ false → test 10 ≡ false → test 0 ≡ false → AllPass test t → HasNoBreak t
-unbroken test t a b c h = λ k d l. let on = h k d l in (differs test (get_or t k d) 13 a on, differs test (get_or t k d) 10 b on, differs test (get_or t k d) 0 c on)
+unbroken test t a b c h = λ k d l. let on = h k d l in
+    (differs test (get_or t k d) 13 a on, differs test (get_or t k d) 10 b on, differs test (get_or t k d) 0 c on)
 
 field_unbroken : (f : List ℕ × List ℕ) → IsWritable f → IsUnbroken f
 unfolding is_token_byte
-field_unbroken f w = record { name = unbroken is_token_byte f.0 refl refl refl w.name.1; value = unbroken is_value_byte f.1 refl refl refl w.value }
+field_unbroken f w = record {
+  name = unbroken is_token_byte f.0 refl refl refl w.name.1;
+  value = unbroken is_value_byte f.1 refl refl refl w.value;
+}
 
 all_unbroken : (fields : List (List ℕ × List ℕ)) → All IsWritable fields → All IsUnbroken fields
 all_unbroken fields h = λ k d l. field_unbroken (get_or fields k d) (h k d l)
@@ -277,7 +306,8 @@ all_unbroken fields h = λ k d l. field_unbroken (get_or fields k d) (h k d l)
 pub writes_no_breaks : WritesNoBreaks
 writes_no_breaks f w u = by_message f.message w
   where
-    by_message : (m : Message) → WasRead m → All IsUnbroken (passed_fields (authority_of f.user.now.target) m ++ added_fields (extra_of f) (minor_of m))
+    by_message : (m : Message) → WasRead m → All IsUnbroken (passed_fields (authority_of f.user.now.target) m
+        ++ added_fields (extra_of f) (minor_of m))
     by_message (Request r) w =
         let user = f.user.now in
         let from_user : WasReadRequest user = (false, u.0, u.1, u.2) in

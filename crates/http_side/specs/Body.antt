@@ -1,5 +1,6 @@
 -- A body by its framing: which texts are whole bodies, and what a reader has read.
-use Rattle.std.specs.Prelude.{◌≡◌, ℕ, ◌-◌, ◌≤◌, Bool, true, false, is_some, List, [], length, Option, Some, None as Nothing, if◌then◌else◌, ◌==◌, nat_lt}
+use Rattle.std.specs.Prelude.{◌≡◌, ℕ, ◌-◌, ◌≤◌, Bool, true, false, is_some, List, [], length, Option, Some, None as Nothing, if◌then◌else◌}
+use Rattle.std.specs.Prelude.{◌==◌, nat_lt}
 use Rattle.icap_chunks.specs.Grammar.{IsChunked}
 use Rattle.icap_chunks.specs.Machine as chunks
 use Rattle.icap_chunks.specs.declared.reader.ChunkReader.{ChunkReader}

@@ -1,5 +1,6 @@
 -- The heads that are written: which fields go on, and the text (RFC 9110, section 7.6; RFC 9112, section 3.2).
-use Rattle.std.specs.Prelude.{◌≡◌, ℕ, ◌+◌, ◌-◌, ◌^◌, ◌<◌, min, All, Bool, true, false, not, ◌||◌, ◌&&◌, List, [], ◌∷◌, ◌++◌, length, slice_index_or, map, Option, Some, None, codes, if◌then◌else◌, ◌==◌, nat_lt, codes}
+use Rattle.std.specs.Prelude.{◌≡◌, ℕ, ◌+◌, ◌-◌, ◌^◌, ◌<◌, min, All, Bool, true, false, not, ◌||◌, ◌&&◌, List, [], ◌∷◌, ◌++◌, length}
+use Rattle.std.specs.Prelude.{slice_index_or, map, Option, Some, None, codes, if◌then◌else◌, ◌==◌, nat_lt, codes}
 use Rattle.std.specs.List.{list_any, flat_map, filter}
 use Rattle.std.specs.Prelude.{Result, Ok, Err}
 use Rattle.std.specs.Str.{str_eq_ignore_ascii_case}
@@ -43,12 +44,14 @@ is_named_by fields name = list_any (has_item name) (values_of (codes "connection
 
 -- it is marked at each place whether Connection names the field there
 abbrev pub AreNamed : List (List ℕ × List ℕ) → List Bool → Type 0
-AreNamed fields named = (i : ℕ) → i < length fields → i < length named → slice_index_or named i false ≡ is_named_by fields (name_at fields i)
+AreNamed fields named = (i : ℕ) → i < length fields → i < length named
+    → slice_index_or named i false ≡ is_named_by fields (name_at fields i)
 
 -- the fields whose names pass the test are marked too
 pub record Marks (test : List ℕ → Bool) (fields : List (List ℕ × List ℕ)) (old new : List Bool) : Type 0 where
   pub size : length new ≡ length old
-  pub each : (i : ℕ) → i < length fields → i < length old → slice_index_or new i false ≡ (slice_index_or old i false || test (name_at fields i))
+  pub each : (i : ℕ) → i < length fields → i < length old
+      → slice_index_or new i false ≡ (slice_index_or old i false || test (name_at fields i))
 
 -- a field ends here: also Expect in requests, and Content-Length in a response that has both lengths
 abbrev pub is_removed : Beside → List (List ℕ × List ℕ) → List ℕ → Bool
@@ -104,14 +107,16 @@ response_fields fields = kept_fields (record { expect = false; length = both_len
 -- the fields of a request as they go on: Host is the target's authority, in its place, or added first
 abbrev pub request_fields : List ℕ → List (List ℕ × List ℕ) → List (List ℕ × List ℕ)
 request_fields authority fields =
-    when (not (has_host fields)) (codes "Host", authority) ++ map (hosted (Some authority)) (kept_fields (record { expect = true; length = false }) fields)
+    when (not (has_host fields)) (codes "Host", authority) ++ map (hosted (Some authority))
+    (kept_fields (record { expect = true; length = false }) fields)
 
 abbrev pub via_value : ℕ → List ℕ
 via_value minor = if minor == 0 then codes "1.0 adaptproxy" else codes "1.1 adaptproxy"
 
 -- what is added after them, each where it holds: how long the body is
 abbrev pub framing_fields : Extra → List (List ℕ × List ℕ)
-framing_fields extra = when extra.empty (codes "Content-Length", codes "0") ++ when extra.chunked (codes "Transfer-Encoding", codes "chunked")
+framing_fields extra = when extra.empty (codes "Content-Length", codes "0")
+    ++ when extra.chunked (codes "Transfer-Encoding", codes "chunked")
 
 -- and where the connection ends, and who sends it
 abbrev pub ending_fields : Extra → ℕ → List (List ℕ × List ℕ)
@@ -154,7 +159,8 @@ target_form absolute authority target = if absolute then absolute_form authority
 -- the head of a request of this authority, as it is written
 abbrev pub request_text : RequestParts → List ℕ → Bool → Extra → List ℕ
 request_text r authority absolute extra =
-    head_text (request_line r.method (target_form absolute authority r.target)) (request_fields authority r.fields ++ added_fields extra r.minor)
+    head_text (request_line r.method (target_form absolute authority r.target))
+    (request_fields authority r.fields ++ added_fields extra r.minor)
 
 -- the head of a response
 abbrev pub response_text : ResponseParts → Extra → List ℕ
@@ -244,7 +250,8 @@ is_none None = true
 is_none (Some x) = false
 
 abbrev pub gets_zero : Forward → Bool
-gets_zero f = is_response f.message && (not (has_no_place f.message) && (is_none (kept_length f.message) && not (has_body f.part f.message)))
+gets_zero f = is_response f.message && (not (has_no_place f.message) &&
+    (is_none (kept_length f.message) && not (has_body f.part f.message)))
 
 -- an origin's connection ends after the answer to this request
 abbrev pub is_once : OriginUse → Bool

@@ -1,6 +1,8 @@
 -- Heads by their parts, and which of them a proxy takes (RFC 9112, sections 2 to 6).
-use Rattle.std.specs.Prelude.{◌≡◌, ℕ, Bool, ◌||◌, ◌&&◌, List, [], length, map, take, drop, Option, Some, None, is_err, codes, if◌then◌else◌, ◌==◌, nat_lt, bytes_eq}
-use Rattle.httparse.specs.Grammar.{RequestHead, print_request, ReadsRequest, ResponseHead, print_response, ReadsResponse, status_code, reason_phrase}
+use Rattle.std.specs.Prelude.{◌≡◌, ℕ, Bool, ◌||◌, ◌&&◌, List, [], length, map, take, drop, Option, Some, None, is_err, codes, if◌then◌else◌}
+use Rattle.std.specs.Prelude.{◌==◌, nat_lt, bytes_eq}
+use Rattle.httparse.specs.Grammar.{RequestHead, print_request, ReadsRequest, ResponseHead, print_response, ReadsResponse, status_code}
+use Rattle.httparse.specs.Grammar.{reason_phrase}
 use Rattle.httparse.specs.Spans.{name_and_value, span_bytes, header_bytes}
 use Rattle.httparse.specs.declared.spans.HeaderSpan.{HeaderSpan}
 use Rattle.httparse.specs.declared.spans.RequestSpans.{RequestSpans}
@@ -45,7 +47,13 @@ abbrev pub request_parts : RequestHead → RequestParts
 request_parts h = record { method = h.method; target = h.target; minor = h.minor; fields = map name_and_value h.fields }
 
 abbrev pub response_parts : ResponseHead → Bool → ResponseParts
-response_parts h to_head = record { status = status_code h; phrase = reason_phrase h.reason; minor = h.minor; fields = map name_and_value h.fields; to_head = to_head }
+response_parts h to_head = record {
+  status = status_code h;
+  phrase = reason_phrase h.reason;
+  minor = h.minor;
+  fields = map name_and_value h.fields;
+  to_head = to_head;
+}
 
 -- the text is the head of a request with these parts, and nothing more
 abbrev pub IsRequestText : List ℕ → RequestParts → Type 0
@@ -111,8 +119,19 @@ response_fault r = fields_fault r.fields
 -- the parts that the parser's offsets give
 abbrev pub parts_at : List ℕ → RequestSpans → List HeaderSpan → RequestParts
 parts_at buf spans lines =
-    record { method = span_bytes buf spans.method; target = span_bytes buf spans.path; minor = spans.version; fields = map (header_bytes buf) lines }
+    record {
+      method = span_bytes buf spans.method;
+      target = span_bytes buf spans.path;
+      minor = spans.version;
+      fields = map (header_bytes buf) lines;
+    }
 
 abbrev pub response_at : List ℕ → ResponseSpans → List HeaderSpan → Bool → ResponseParts
 response_at buf spans lines to_head =
-    record { status = spans.code; phrase = span_bytes buf spans.reason; minor = spans.version; fields = map (header_bytes buf) lines; to_head = to_head }
+    record {
+      status = spans.code;
+      phrase = span_bytes buf spans.reason;
+      minor = spans.version;
+      fields = map (header_bytes buf) lines;
+      to_head = to_head;
+    }

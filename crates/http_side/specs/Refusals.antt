@@ -8,7 +8,8 @@ is_own_status status = (status == 400) || ((status == 501) || ((status == 502) |
 -- the status and its phrase
 abbrev pub status_text : ℕ → List ℕ
 status_text s =
-    if s == 400 then codes "400 Bad Request" else (if s == 501 then codes "501 Not Implemented" else (if s == 502 then codes "502 Bad Gateway"
+    if s == 400 then codes "400 Bad Request" else (if s == 501 then codes "501 Not Implemented" else
+    (if s == 502 then codes "502 Bad Gateway"
     else (if s == 503 then codes "503 Service Unavailable" else codes "504 Gateway Timeout")))
 
 abbrev pub refusal : ℕ → List ℕ

@@ -4,7 +4,8 @@ use Rattle.httparse.specs.Grammar.{RequestHead, ReadsRequest, HasNoRequest, Neve
 use Rattle.httparse.specs.Spans.{RequestOverflows, RequestExceeds}
 use Rattle.adapt_bytes.specs.declared.limits.TheConstants.{MAX_HEAD, MAX_FIELDS}
 use Rattle.http_side.specs.declared.fault.HttpFault.{HttpFault}
-use Rattle.http_side.specs.declared.fault.HttpFault.TheVariants.{More, Bad, TooLong, TooMany, BothLengths, Lengths, Coding, Target, Connect, NoMemory}
+use Rattle.http_side.specs.declared.fault.HttpFault.TheVariants.{More, Bad, TooLong, TooMany, BothLengths, Lengths, Coding, Target, Connect}
+use Rattle.http_side.specs.declared.fault.HttpFault.TheVariants.{NoMemory}
 use Rattle.http_side.specs.Heads.{RequestParts, request_parts, IsRequestAt, judged, unended, request_fault, is_connect}
 use Rattle.http_side.specs.Targets.{IsServedIn}
 
@@ -28,7 +29,8 @@ pub record IsTaken (adapted : Bool) (r : RequestParts) : Type 0 where
 -- the text begins with a head that is refused so
 abbrev pub HasRefused : Bool → List ℕ → HttpFault → Type 0
 HasRefused adapted text fault =
-    (head : RequestHead) × (rest : List ℕ) × ReadsRequest text head rest × (length head.fields ≤ MAX_FIELDS) × Refuses adapted (request_parts head) fault
+    (head : RequestHead) × (rest : List ℕ) × ReadsRequest text head rest × (length head.fields ≤ MAX_FIELDS)
+    × Refuses adapted (request_parts head) fault
 
 -- no head is there, and more bytes may make one
 abbrev pub IsUnfinished : List ℕ → Type 0

@@ -17,7 +17,8 @@ RefusesAnswer r _ = ⊥
 -- the text begins with a head that is refused so
 abbrev pub HasRefusedAnswer : List ℕ → HttpFault → Type 0
 HasRefusedAnswer text fault =
-    (head : ResponseHead) × (rest : List ℕ) × ReadsResponse text head rest × (length head.fields ≤ MAX_FIELDS) × RefusesAnswer (response_parts head false) fault
+    (head : ResponseHead) × (rest : List ℕ) × ReadsResponse text head rest × (length head.fields ≤ MAX_FIELDS)
+    × RefusesAnswer (response_parts head false) fault
 
 -- no head is there, and more bytes may make one
 abbrev pub IsUnfinishedResponse : List ℕ → Type 0
@@ -34,7 +35,8 @@ MayRefuseResponse text fault = HasRefusedAnswer (judged text) fault
 -- no head is there, and some bytes more make one of at most 100 fields
 abbrev pub AwaitsResponse : List ℕ → Type 0
 AwaitsResponse text =
-    HasNoResponse text × ((more : List ℕ) × (head : ResponseHead) × ReadsResponse (text ++ more) head [] × (length head.fields ≤ MAX_FIELDS))
+    HasNoResponse text × ((more : List ℕ) × (head : ResponseHead) × ReadsResponse (text ++ more) head []
+    × (length head.fields ≤ MAX_FIELDS))
 
 -- no bytes more make a head, and not for the number of the fields alone
 abbrev pub IsNoResponse : List ℕ → Type 0

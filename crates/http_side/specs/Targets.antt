@@ -1,5 +1,6 @@
 -- The request targets that a proxy serves (RFC 9112, section 3.2).
-use Rattle.std.specs.Prelude.{◌≡◌, ℕ, Bool, true, false, not, ◌||◌, ◌&&◌, List, [], ◌∷◌, length, drop, take, ◌++◌, suc, if◌then◌else◌, slice_index, Option, Some, None, codes, ◌==◌, nat_le, nat_lt, bytes_eq}
+use Rattle.std.specs.Prelude.{◌≡◌, ℕ, Bool, true, false, not, ◌||◌, ◌&&◌, List, [], ◌∷◌, length, drop, take, ◌++◌, suc, if◌then◌else◌}
+use Rattle.std.specs.Prelude.{slice_index, Option, Some, None, codes, ◌==◌, nat_le, nat_lt, bytes_eq}
 use Rattle.std.specs.List.{list_any}
 use Rattle.http_uri.specs.Uri.{Spells, uri_scheme, uri_authority}
 use Rattle.http_uri.specs.Grammar.{authority_host}

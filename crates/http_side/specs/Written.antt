@@ -1,6 +1,7 @@
 -- What is written is a head that is read back.
 use Rattle.std.specs.Prelude.{◌≡◌, ◌≢◌, ℕ, ◌<◌, List, [], ◌∷◌, ◌++◌, map, reverse, All, Some, Bool, false}
-use Rattle.httparse.specs.Grammar.{Field, crlf, IsToken, AllPass, is_value_byte, skip_ows, RequestHead, ReadsRequest, ResponseHead, ReadsResponse}
+use Rattle.httparse.specs.Grammar.{Field, crlf, IsToken, AllPass, is_value_byte, skip_ows, RequestHead, ReadsRequest, ResponseHead}
+use Rattle.httparse.specs.Grammar.{ReadsResponse}
 use Rattle.adapt_bytes.specs.Numeral.{three_digits}
 use Rattle.http_side.specs.Heads.{RequestParts, ResponseParts, response_parts, IsRequestText}
 use Rattle.http_side.specs.Requests.{IsRead}
@@ -21,7 +22,15 @@ written_request method target fields =
 
 abbrev pub written_response : ℕ → List ℕ → List (List ℕ × List ℕ) → ResponseHead
 written_response status phrase fields =
-    record { blank = []; minor = 1; digits = three_digits status; reason = Some phrase; line_end = crlf; fields = map written_field fields; last = crlf }
+    record {
+      blank = [];
+      minor = 1;
+      digits = three_digits status;
+      reason = Some phrase;
+      line_end = crlf;
+      fields = map written_field fields;
+      last = crlf;
+    }
 
 -- a field that may be written: a token, and a value of the grammar without blanks at its ends
 pub record IsWritable (f : List ℕ × List ℕ) : Type 0 where
@@ -44,11 +53,22 @@ WasReadFromUser user = (text : List ℕ) × (len : ℕ) × IsRead false text use
 -- the request that is meant: of HTTP/1.1, with the fields that go on and those that are added
 abbrev pub sent_request : RequestParts → List ℕ → Bool → Extra → RequestParts
 sent_request r authority absolute extra =
-    record { method = r.method; target = target_form absolute authority r.target; minor = 1; fields = request_fields authority r.fields ++ added_fields extra r.minor }
+    record {
+      method = r.method;
+      target = target_form absolute authority r.target;
+      minor = 1;
+      fields = request_fields authority r.fields ++ added_fields extra r.minor;
+    }
 
 abbrev pub sent_response : ResponseParts → Extra → ResponseParts
 sent_response r extra =
-    record { status = r.status; phrase = r.phrase; minor = 1; fields = response_fields r.fields ++ added_fields extra r.minor; to_head = r.to_head }
+    record {
+      status = r.status;
+      phrase = r.phrase;
+      minor = 1;
+      fields = response_fields r.fields ++ added_fields extra r.minor;
+      to_head = r.to_head;
+    }
 
 -- a request that was read is written as a head that is read as the request that is meant
 abbrev pub ReadsBackRequest : Type 0

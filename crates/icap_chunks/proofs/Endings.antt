@@ -1,5 +1,6 @@
 -- A reader reads what the grammar has, and nothing else.
-use Rattle.std.proofs.Common.{◌≡◌, ℕ, ◌+◌, ◌<◌, Bool, List, [], ◌∷◌, ◌++◌, length, take, drop, Option, Some, None, refl, sym, ap, ◌∙◌, subst, arith, length-append}
+use Rattle.std.proofs.Common.{◌≡◌, ℕ, ◌+◌, ◌<◌, Bool, List, [], ◌∷◌, ◌++◌, length, take, drop, Option, Some, None, refl, sym, ap, ◌∙◌}
+use Rattle.std.proofs.Common.{subst, arith, length-append}
 use Rattle.std.specs.Prelude.{◌↔◌}
 use Rattle.std.proofs.lemmas.List.{append-nil, take-append-drop, take-append-le}
 use Rattle.std.proofs.Math.Seq.{take-length}
@@ -54,26 +55,32 @@ chunked_ends text body ieof w =
     let whole = whole_walk text body ieof w in (
       record {
         ended = ap end_of whole.reads;
-        first = λ k l. option_cases (end_of (run start (take k text))) _ (λ x e. absurd (early k x (rw (all_but_last-is text body ieof w) at l) (ap (λ t. end_of (run start (take k t))) (sym (all_but_last-is text body ieof w)) ∙ e))) (λ e. e);
+        first = λ k l. option_cases (end_of (run start (take k text))) _
+            (λ x e. absurd (early k x (rw (all_but_last-is text body ieof w) at l)
+            (ap (λ t. end_of (run start (take k t))) (sym (all_but_last-is text body ieof w)) ∙ e))) (λ e. e);
       },
       whole.finds,
     )
   where
-    early : (k : ℕ) (x : Bool) → k < length (all_but_last w ++ 10 ∷ []) → end_of (run start (take k (all_but_last w ++ 10 ∷ []))) ≡ Some x → ⊥
+    early : (k : ℕ) (x : Bool) → k < length (all_but_last w ++ 10 ∷ []) → end_of (run start (take k (all_but_last w ++ 10 ∷ []))) ≡ Some x
+        → ⊥
     early k x l e =
         let xs = all_but_last w in
         let stays = end_stays (run start (take k (xs ++ 10 ∷ []))) x (drop k xs) e in
         let is : run (run start (take k (xs ++ 10 ∷ []))) (drop k xs) ≡ at (length body) (LastCr (length w.trailers + 1) ieof)
-        = sym (run-append start (take k (xs ++ 10 ∷ [])) (drop k xs)) ∙ ap (run start) (front_of xs 10 k l) ∙ (open_walk text body ieof w).reads in
+        = sym (run-append start (take k (xs ++ 10 ∷ [])) (drop k xs)) ∙ ap (run start) (front_of xs 10 k l)
+        ∙ (open_walk text body ieof w).reads in
         no_end_last (length body) (length w.trailers + 1) ieof x (ap end_of (sym is) ∙ stays)
 
 pub ends_chunked : (text : List ℕ) (ieof : Bool) → EndsAt text ieof → IsChunked text (body_of start text) ieof
 ends_chunked text ieof e =
     let place = ended_at (run start text).place ieof e.ended in
-    let g : HasEnded text (body_of start text) ieof = let P : Position → Type 0 = λ p. LeavesAt text (body_of start text) (run start text).sum p in subst P place (text_leaves text) in
+    let g : HasEnded text (body_of start text) ieof = let P : Position → Type 0 =
+    λ p. LeavesAt text (body_of start text) (run start text).sum p in subst P place (text_leaves text) in
     no_rest text (body_of start text) ieof e g.whole g.rest g.is g.text_is
   where
-    no_rest : (text body : List ℕ) (ieof : Bool) → EndsAt text ieof → (whole rest : List ℕ) → IsChunked whole body ieof → text ≡ whole ++ rest → IsChunked text body ieof
+    no_rest : (text body : List ℕ) (ieof : Bool) → EndsAt text ieof → (whole rest : List ℕ) → IsChunked whole body ieof
+        → text ≡ whole ++ rest → IsChunked text body ieof
     no_rest text body ieof e whole [] is t = let P : List ℕ → Type 0 = λ x. IsChunked x body ieof in subst P (sym (t ∙ append-nil whole)) is
     no_rest text body ieof e whole (b ∷ rest) is t =
         let ends = (chunked_ends whole body ieof is).0.ended in
@@ -86,4 +93,7 @@ abbrev pub ReadsChunked : Type 0
 ReadsChunked = (text body : List ℕ) (ieof : Bool) → (EndsAt text ieof × (body_of start text ≡ body)) ↔ IsChunked text body ieof
 
 pub reads_chunked : ReadsChunked
-reads_chunked text body ieof = (λ e. let P : List ℕ → Type 0 = λ x. IsChunked text x ieof in subst P e.1 (ends_chunked text ieof e.0), chunked_ends text body ieof)
+reads_chunked text body ieof = (
+  λ e. let P : List ℕ → Type 0 = λ x. IsChunked text x ieof in subst P e.1 (ends_chunked text ieof e.0),
+  chunked_ends text body ieof,
+)

@@ -1,5 +1,6 @@
 -- What a piece adds to what was read.
-use Rattle.std.proofs.Common.{◌≡◌, ℕ, ◌+◌, ◌-◌, ◌<◌, ◌≤◌, Bool, List, [], ◌++◌, length, take, Option, Some, None, sym, ap, ◌∙◌, arith, length-append, length-take, take-take, inl, inr}
+use Rattle.std.proofs.Common.{◌≡◌, ℕ, ◌+◌, ◌-◌, ◌<◌, ◌≤◌, Bool, List, [], ◌++◌, length, take, Option, Some, None, sym, ap, ◌∙◌, arith}
+use Rattle.std.proofs.Common.{length-append, length-take, take-take, inl, inr}
 use Rattle.std.proofs.lemmas.List.{append-nil, take-append-le}
 use Rattle.std.proofs.lemmas.Bool.{cases_lt}
 use Rattle.std.proofs.Math.Seq.{take-append-add}
@@ -20,9 +21,11 @@ module _ (text body : List ℕ) (old new : ChunkReader) (h : HasRead text body o
   run_on bytes = run-append start text bytes ∙ ap (λ r. run r bytes) h.read
 
   body_on : (bytes : List ℕ) → body_of start (text ++ bytes) ≡ body ++ body_of old bytes
-  body_on bytes = body_of-append start text bytes ∙ ap (λ x. x ++ body_of (run start text) bytes) h.found ∙ ap (λ r. body ++ body_of r bytes) h.read
+  body_on bytes = body_of-append start text bytes ∙ ap (λ x. x ++ body_of (run start text) bytes) h.found
+      ∙ ap (λ r. body ++ body_of r bytes) h.read
 
-  pub HasRead-more : (used : ℕ) (part : List ℕ) → used ≤ length piece → new ≡ run old (take used piece) → part ≡ body_of old (take used piece)
+  pub HasRead-more : (used : ℕ) (part : List ℕ) → used ≤ length piece → new ≡ run old (take used piece)
+      → part ≡ body_of old (take used piece)
       → ((k : ℕ) → k < used → end_of (run old (take k piece)) ≡ None) → HasRead (text ++ take used piece) (body ++ part) new
   HasRead-more used part within read part_is first = record {
     read = run_on (take used piece) ∙ sym read;
@@ -36,26 +39,35 @@ module _ (text body : List ℕ) (old new : ChunkReader) (h : HasRead text body o
           let below : j < used = omega arith in
           let index : k ≡ length text + j = omega arith in
           let same : take k (text ++ take used piece) ≡ text ++ take j piece
-          = ap (λ i. take i (text ++ take used piece)) index ∙ take-append-add text (take used piece) j ∙ ap (λ x. text ++ x) (take-take j used piece (omega arith)) in
+          = ap (λ i. take i (text ++ take used piece)) index ∙ take-append-add text (take used piece) j
+          ∙ ap (λ x. text ++ x) (take-take j used piece (omega arith)) in
           ap (λ t. end_of (run start t)) same ∙ ap end_of (run_on (take j piece)) ∙ first j below
     ];
   }
 
-  pub breaks_more : (fault : ChunkFault) → fault_of new ≡ Some fault → new ≡ run old piece → body_of old piece ≡ [] → Breaks (text ++ piece) body fault
+  pub breaks_more : (fault : ChunkFault) → fault_of new ≡ Some fault → new ≡ run old piece → body_of old piece ≡ []
+      → Breaks (text ++ piece) body fault
   breaks_more fault is read none =
-      (answers_faults (text ++ piece) body fault).0 (ap fault_of (run_on piece ∙ sym read) ∙ is, body_on piece ∙ ap (λ x. body ++ x) none ∙ append-nil body)
+      (answers_faults (text ++ piece) body fault).0 (
+        ap fault_of (run_on piece ∙ sym read) ∙ is,
+        body_on piece ∙ ap (λ x. body ++ x) none ∙ append-nil body,
+      )
 
 -- ---- the clauses of `feed`, from those of `read_piece`
 
 module _ (old new : ChunkReader) (piece : List ℕ) where
-  pub fed_read : (r : Result Fed ChunkFault) → IfOk r (λ fed. (fed.part.0 ≤ fed.part.1) × (fed.part.1 ≤ fed.used) × (fed.used ≤ length piece))
-      → IfOk r (λ fed. new ≡ run old (take fed.used piece)) → IfOk r (λ fed. slice_range piece fed.part.0 fed.part.1 ≡ body_of old (take fed.used piece))
+  pub fed_read : (r : Result Fed ChunkFault) → IfOk r (λ fed. (fed.part.0 ≤ fed.part.1) × (fed.part.1 ≤ fed.used)
+      × (fed.used ≤ length piece))
+      → IfOk r (λ fed. new ≡ run old (take fed.used piece))
+      → IfOk r (λ fed. slice_range piece fed.part.0 fed.part.1 ≡ body_of old (take fed.used piece))
       → IfOk r (λ fed. (k : ℕ) → k < fed.used → end_of (run old (take k piece)) ≡ None)
-      → IfOk r (λ fed. (text body : List ℕ) → HasRead text body old → HasRead (text ++ take fed.used piece) (body ++ slice_range piece fed.part.0 fed.part.1) new)
+      → IfOk r (λ fed. (text body : List ℕ) → HasRead text body old
+      → HasRead (text ++ take fed.used piece) (body ++ slice_range piece fed.part.0 fed.part.1) new)
   fed_read (Ok fed) within read part first = λ text body h. HasRead-more text body old new h piece fed.used _ within.2 read part first
   fed_read (Err fault) within read part first = tt
 
-  pub fed_fault : (r : Result Fed ChunkFault) → IfErr r (λ fault. fault_of new ≡ Some fault) → IfErr r (λ fault. new ≡ run old piece) → IfErr r (λ fault. body_of old piece ≡ [])
+  pub fed_fault : (r : Result Fed ChunkFault) → IfErr r (λ fault. fault_of new ≡ Some fault) → IfErr r (λ fault. new ≡ run old piece)
+      → IfErr r (λ fault. body_of old piece ≡ [])
       → IfErr r (λ fault. (text body : List ℕ) → HasRead text body old → Breaks (text ++ piece) body fault)
   fed_fault (Ok fed) is read none = tt
   fed_fault (Err fault) is read none = λ text body h. breaks_more text body old new h piece fault is read none
@@ -63,7 +75,8 @@ module _ (old new : ChunkReader) (piece : List ℕ) where
   same_some : {A : Type 0} {x y : A} → Some x ≡ Some y → x ≡ y
   same_some e = cc
 
-  pub fed_faulted : (r : Result Fed ChunkFault) (o : Option ChunkFault) → fault_of old ≡ o → IfOk r (λ fed. new ≡ run old (take fed.used piece)) → OnOk r (fault_of new ≡ None)
+  pub fed_faulted : (r : Result Fed ChunkFault) (o : Option ChunkFault) → fault_of old ≡ o
+      → IfOk r (λ fed. new ≡ run old (take fed.used piece)) → OnOk r (fault_of new ≡ None)
       → IfErr r (λ fault. fault_of new ≡ Some fault) → IfErr r (λ fault. new ≡ run old piece) → IfSome o (λ fault. r ≡ Err fault)
   fed_faulted r None e read none is read_all = tt
   fed_faulted (Ok fed) (Some fault) e read none is read_all =
@@ -71,17 +84,23 @@ module _ (old new : ChunkReader) (piece : List ℕ) where
   fed_faulted (Err x) (Some fault) e read none is read_all =
       ap Err (same_some (sym is ∙ ap fault_of (read_all ∙ (fault_stays old fault piece e).0) ∙ e))
 
-  pub fed_over : (r : Result Fed ChunkFault) (o : Option Bool) → end_of old ≡ o → IfOk r (λ fed. new ≡ run old (take fed.used piece)) → IfOk r (λ fed. fed.ended ≡ end_of new)
+  pub fed_over : (r : Result Fed ChunkFault) (o : Option Bool) → end_of old ≡ o → IfOk r (λ fed. new ≡ run old (take fed.used piece))
+      → IfOk r (λ fed. fed.ended ≡ end_of new)
       → IfOk r (λ fed. (k : ℕ) → k < fed.used → end_of (run old (take k piece)) ≡ None)
       → IfErr r (λ fault. fault_of new ≡ Some fault) → IfErr r (λ fault. new ≡ run old piece)
       → IfSome o (λ ieof. (new ≡ old) × IsOkAnd r (λ fed. (fed.used ≡ 0) × (fed.ended ≡ Some ieof)))
   fed_over r None e read ended first is read_all = tt
   fed_over (Ok fed) (Some ieof) e read ended first is read_all =
-      let none : fed.used ≡ 0 = elim (cases_lt 0 fed.used) [ inl some ↦ absurd (some_none (sym e ∙ first 0 some)) | inr zero_used ↦ omega arith ] in
+      let none : fed.used ≡ 0 = elim (cases_lt 0 fed.used) [
+        | inl some ↦ absurd (some_none (sym e ∙ first 0 some))
+        | inr zero_used ↦
+            omega arith
+      ] in
       let same : new ≡ old = read ∙ ap (λ k. run old (take k piece)) none in
       (same, (none, ended ∙ ap end_of same ∙ e))
   fed_over (Err fault) (Some ieof) e read ended first is read_all =
-      absurd (no_both new.place ieof fault (ended_at new.place ieof (ap end_of read_all ∙ end_stays old ieof piece e)) (fault_is new.place fault is))
+      absurd (no_both new.place ieof fault (ended_at new.place ieof (ap end_of read_all ∙ end_stays old ieof piece e))
+      (fault_is new.place fault is))
     where
       no_both : (p : Position) (ieof : Bool) (fault : ChunkFault) → p ≡ Ended ieof → p ≡ Faulted fault → ⊥
       no_both p ieof fault a b = let c : Ended ieof ≡ Faulted fault = sym a ∙ b in cc

@@ -1,14 +1,18 @@
 -- Where in a body a reader stands behind the bytes that it has read.
-use Rattle.std.proofs.Common.{◌≡◌, ℕ, ◌+◌, ◌-◌, ◌<◌, Bool, true, false, true≢false, ◌||◌, ◌&&◌, List, [], ◌∷◌, ◌++◌, length, refl, sym, ap, subst, ◌∙◌, arith, append_assoc, nat_lt, nat_le, if◌then◌else◌, ◌==◌, length-append, lit<, lit≤}
+use Rattle.std.proofs.Common.{◌≡◌, ℕ, ◌+◌, ◌-◌, ◌<◌, Bool, true, false, true≢false, ◌||◌, ◌&&◌, List, [], ◌∷◌, ◌++◌, length, refl, sym, ap}
+use Rattle.std.proofs.Common.{subst, ◌∙◌, arith, append_assoc, nat_lt, nat_le, if◌then◌else◌, ◌==◌, length-append, lit<, lit≤}
 use Rattle.std.proofs.lemmas.List.{append-nil}
 use Rattle.std.proofs.lemmas.Bool.Decides.{nat_tests}
 use Rattle.icap_chunks.specs.declared.positions.Position.{Position}
-use Rattle.icap_chunks.specs.declared.positions.Position.TheVariants.{Digits, Pad, Extension, LineCr, Data, DataEnd, DataCr, TrailerStart, Trailer, TrailerCr, LastCr, Ended, Faulted}
+use Rattle.icap_chunks.specs.declared.positions.Position.TheVariants.{Digits, Pad, Extension, LineCr, Data, DataEnd, DataCr, TrailerStart}
+use Rattle.icap_chunks.specs.declared.positions.Position.TheVariants.{Trailer, TrailerCr, LastCr, Ended, Faulted}
 use Rattle.icap_chunks.specs.declared.reader.ChunkReader.{ChunkReader}
 use Rattle.icap_chunks.specs.Grammar.{crlf, is_line_byte, AllPass, print_line, print_extension, IsSizeLine, no_chunk, chunk, line}
-use Rattle.icap_chunks.specs.Machine.{start, step, run, body_of, is_data, in_data, in_data_end, in_data_cr, in_trailer_start, in_trailer, in_trailer_cr, in_last_cr}
+use Rattle.icap_chunks.specs.Machine.{start, step, run, body_of, is_data, in_data, in_data_end, in_data_cr, in_trailer_start, in_trailer}
+use Rattle.icap_chunks.specs.Machine.{in_trailer_cr, in_last_cr}
 use Rattle.icap_chunks.proofs.Standing.{Front, InChunk, InTrailers, HasEnded, LeavesAt}
-use Rattle.icap_chunks.proofs.LineSteps.{Front_more, Front_text, Front_as, All_push, LeavesReader, choose, or_left, or_right, is_nle, is_eq, is_lt, line_byte_from, digits_step, pad_step, extension_step, line_end_step}
+use Rattle.icap_chunks.proofs.LineSteps.{Front_more, Front_text, Front_as, All_push, LeavesReader, choose, or_left, or_right, is_nle, is_eq}
+use Rattle.icap_chunks.proofs.LineSteps.{is_lt, line_byte_from, digits_step, pad_step, extension_step, line_end_step}
 
 module _ (text body : List ℕ) (sum more b : ℕ) (s : InChunk text body sum (more + 1) []) where
   data_one : (left : ℕ) → left ≡ more → InChunk (text ++ b ∷ []) (body ++ b ∷ []) sum left []
@@ -44,7 +48,8 @@ module _ (text body : List ℕ) (sum b : ℕ) where
         bytes = s.bytes;
         l = s.l;
         size = s.size;
-        front = Front_as (Front_more b s.front) (simp (append_assoc, append-nil) (ap (λ c. s.l.digits ++ (s.l.pad ++ (print_extension s.l.extension ++ 13 ∷ 10 ∷ (s.bytes ++ c ∷ [])))) (is_eq b 13 e)));
+        front = Front_as (Front_more b s.front) (simp (append_assoc, append-nil)
+            (ap (λ c. s.l.digits ++ (s.l.pad ++ (print_extension s.l.extension ++ 13 ∷ 10 ∷ (s.bytes ++ c ∷ [])))) (is_eq b 13 e)));
         is = s.is;
         body_is = s.body_is;
         sum_is = s.sum_is;
@@ -83,7 +88,8 @@ module _ (text body : List ℕ) (sum b : ℕ) where
 
 module _ (text body : List ℕ) (sum count : ℕ) (ieof : Bool) (b : ℕ) where
   -- one more byte in the part
-  part_one : (part : List ℕ) → InTrailers text body sum count ieof part → count < 8192 → InTrailers (text ++ b ∷ []) body sum (count + 1) ieof (part ++ b ∷ [])
+  part_one : (part : List ℕ) → InTrailers text body sum count ieof part → count < 8192
+      → InTrailers (text ++ b ∷ []) body sum (count + 1) ieof (part ++ b ∷ [])
   part_one part s room = record {
     l = s.l;
     trailers = s.trailers;
@@ -102,17 +108,25 @@ module _ (text body : List ℕ) (sum count : ℕ) (ieof : Bool) (b : ℕ) where
       (λ e. ending (is_eq b 13 e) (part_one [] s room))
       (λ cr. (b ∷ [], part_one [] s room, lit< tt, (line_byte_from b cr (or_left (b == 10) _ go), tt))))
     where
-      ending : b ≡ 13 → InTrailers (text ++ b ∷ []) body sum (count + 1) ieof (b ∷ []) → InTrailers (text ++ b ∷ []) body sum (count + 1) ieof (13 ∷ [])
+      ending : b ≡ 13 → InTrailers (text ++ b ∷ []) body sum (count + 1) ieof (b ∷ [])
+          → InTrailers (text ++ b ∷ []) body sum (count + 1) ieof (13 ∷ [])
       ending e x = let P : ℕ → Type 0 = λ c. InTrailers (text ++ b ∷ []) body sum (count + 1) ieof (c ∷ []) in subst P e x
 
-  trailer_step : (part : List ℕ) → InTrailers text body sum count ieof part → 0 < length part → AllPass is_line_byte part → LeavesAt (text ++ b ∷ []) body sum (in_trailer count ieof b)
+  trailer_step : (part : List ℕ) → InTrailers text body sum count ieof part → 0 < length part → AllPass is_line_byte part
+      → LeavesAt (text ++ b ∷ []) body sum (in_trailer count ieof b)
   unfolding in_trailer
   trailer_step part s some all = let G = LeavesAt (text ++ b ∷ []) body sum in choose G ((b == 10) || nat_le 8192 count) _ _ (λ _. tt)
       (λ go. let room = is_nle 8192 count (or_right (b == 10) _ go) in choose G (b == 13) _ _
       (λ e. (part, ending (is_eq b 13 e) (part_one part s room), some, all))
-      (λ cr. (part ++ b ∷ [], part_one part s room, omega (arith, length-append part (b ∷ [])), All_push is_line_byte part b all (line_byte_from b cr (or_left (b == 10) _ go)))))
+      (λ cr. (
+        part ++ b ∷ [],
+        part_one part s room,
+        omega (arith, length-append part (b ∷ [])),
+        All_push is_line_byte part b all (line_byte_from b cr (or_left (b == 10) _ go)),
+      )))
     where
-      ending : b ≡ 13 → InTrailers (text ++ b ∷ []) body sum (count + 1) ieof (part ++ b ∷ []) → InTrailers (text ++ b ∷ []) body sum (count + 1) ieof (part ++ 13 ∷ [])
+      ending : b ≡ 13 → InTrailers (text ++ b ∷ []) body sum (count + 1) ieof (part ++ b ∷ [])
+          → InTrailers (text ++ b ∷ []) body sum (count + 1) ieof (part ++ 13 ∷ [])
       ending e x = let P : ℕ → Type 0 = λ c. InTrailers (text ++ b ∷ []) body sum (count + 1) ieof (part ++ c ∷ []) in subst P e x
 
   both_left : (x y : Bool) → (x && y) ≡ true → x ≡ true
@@ -137,7 +151,13 @@ module _ (text body : List ℕ) (sum count : ℕ) (ieof : Bool) (b : ℕ) where
         is = s.is;
         ieof_is = s.ieof_is;
         lines = line s.lines part some all;
-        count_is = omega (arith, s.count_is, length-append part (13 ∷ []), length-append s.trailers (part ++ crlf), length-append part crlf);
+        count_is = omega (
+          arith,
+          s.count_is,
+          length-append part (13 ∷ []),
+          length-append s.trailers (part ++ crlf),
+          length-append part crlf,
+        );
         short = omega arith;
       }
 
@@ -170,9 +190,15 @@ module _ (text body : List ℕ) (b : ℕ) where
   same r g = let P : List ℕ → Type 0 = λ x. LeavesReader (text ++ b ∷ []) x r in subst P (sym (append-nil body)) g
 
   ended_step : (ieof : Bool) → HasEnded text body ieof → HasEnded (text ++ b ∷ []) body ieof
-  ended_step ieof s = record { whole = s.whole; rest = s.rest ++ b ∷ []; is = s.is; text_is = ap (λ t. t ++ b ∷ []) s.text_is ∙ append_assoc s.whole s.rest (b ∷ []) }
+  ended_step ieof s = record {
+    whole = s.whole;
+    rest = s.rest ++ b ∷ [];
+    is = s.is;
+    text_is = ap (λ t. t ++ b ∷ []) s.text_is ∙ append_assoc s.whole s.rest (b ∷ []);
+  }
 
-  pub step_leaves : (sum : ℕ) (p : Position) → LeavesAt text body sum p → LeavesReader (text ++ b ∷ []) (body ++ (if is_data p then b ∷ [] else [])) (step (record { sum = sum; place = p }) b)
+  pub step_leaves : (sum : ℕ) (p : Position) → LeavesAt text body sum p
+      → LeavesReader (text ++ b ∷ []) (body ++ (if is_data p then b ∷ [] else [])) (step (record { sum = sum; place = p }) b)
   unfolding step is_data
   step_leaves sum (Digits count size) s = same _ (digits_step text body sum count size b s)
   step_leaves sum (Pad count size) s = same _ (pad_step text body sum count size b s)
@@ -189,16 +215,19 @@ module _ (text body : List ℕ) (b : ℕ) where
   step_leaves sum (Faulted fault) s = tt
 
 -- any bytes more
-pub run_leaves : (front body : List ℕ) (r : ChunkReader) (text : List ℕ) → LeavesReader front body r → LeavesReader (front ++ text) (body ++ body_of r text) (run r text)
+pub run_leaves : (front body : List ℕ) (r : ChunkReader) (text : List ℕ) → LeavesReader front body r
+    → LeavesReader (front ++ text) (body ++ body_of r text) (run r text)
 run_leaves front body r [] g =
     let P : List ℕ → List ℕ → Type 0 = λ x y. LeavesReader x y r in
     let h : P (front ++ []) body = let Q : List ℕ → Type 0 = λ x. P x body in subst Q (sym (append-nil front)) g in
     let Q : List ℕ → Type 0 = λ y. P (front ++ []) y in subst Q (sym (append-nil body)) h
 run_leaves front body r (b ∷ text) g =
-    let next = run_leaves (front ++ b ∷ []) (body ++ (if is_data r.place then b ∷ [] else [])) (step r b) text (step_leaves front body b r.sum r.place g) in
+    let next = run_leaves (front ++ b ∷ []) (body ++ (if is_data r.place then b ∷ [] else [])) (step r b) text
+    (step_leaves front body b r.sum r.place g) in
     let s = run (step r b) text in
     let h : LeavesReader (front ++ b ∷ text) ((body ++ (if is_data r.place then b ∷ [] else [])) ++ body_of (step r b) text) s
-    = let Q : List ℕ → Type 0 = λ x. LeavesReader x ((body ++ (if is_data r.place then b ∷ [] else [])) ++ body_of (step r b) text) s in subst Q (append_assoc front (b ∷ []) text) next in
+    = let Q : List ℕ → Type 0 = λ x. LeavesReader x ((body ++ (if is_data r.place then b ∷ [] else [])) ++ body_of (step r b) text) s in
+    subst Q (append_assoc front (b ∷ []) text) next in
     let Q : List ℕ → Type 0 = λ y. LeavesReader (front ++ b ∷ text) y s in
     subst Q (append_assoc body (if is_data r.place then b ∷ [] else []) (body_of (step r b) text)) h
 

@@ -1,5 +1,6 @@
 -- Where a reader stands behind one byte more of a size line.
-use Rattle.std.proofs.Common.{◌≡◌, ℕ, ◌+◌, ◌-◌, ◌*◌, ◌<◌, Bool, true, false, true≢false, ◌||◌, List, [], ◌∷◌, ◌++◌, Some, None, refl, sym, ap, ◌∙◌, arith, append_assoc, nat_lt, nat_le, if◌then◌else◌, ◌==◌, length-append, lit<, lit≤}
+use Rattle.std.proofs.Common.{◌≡◌, ℕ, ◌+◌, ◌-◌, ◌*◌, ◌<◌, Bool, true, false, true≢false, ◌||◌, List, [], ◌∷◌, ◌++◌, Some, None, refl, sym}
+use Rattle.std.proofs.Common.{ap, ◌∙◌, arith, append_assoc, nat_lt, nat_le, if◌then◌else◌, ◌==◌, length-append, lit<, lit≤}
 use Rattle.std.proofs.lemmas.List.{append-nil}
 use Rattle.std.proofs.lemmas.Bool.Decides.{nat_tests}
 use Rattle.std.specs.Char.{digit_value}
@@ -12,7 +13,8 @@ use Rattle.icap_chunks.specs.declared.positions.Position.TheVariants.{Extension}
 use Rattle.icap_chunks.specs.declared.reader.ChunkReader.{ChunkReader}
 use Rattle.adapt_bytes.specs.Text.{is_blank}
 use Rattle.icap_chunks.specs.Grammar.{is_line_byte, AllPass, print_line, IsSizeLine, no_line}
-use Rattle.icap_chunks.specs.Machine.{start, step, run, body_of, is_data, item_with, in_digits, in_pad, in_extension, in_line_cr, in_data, in_data_end, in_data_cr, in_trailer_start, in_trailer, in_trailer_cr, in_last_cr}
+use Rattle.icap_chunks.specs.Machine.{start, step, run, body_of, is_data, item_with, in_digits, in_pad, in_extension, in_line_cr, in_data}
+use Rattle.icap_chunks.specs.Machine.{in_data_end, in_data_cr, in_trailer_start, in_trailer, in_trailer_cr, in_last_cr}
 use Rattle.icap_chunks.specs.Machine as machine
 use Rattle.icap_chunks.proofs.Standing.{Front, InDigits, InPad, InExtension, InLineEnd, InChunk, InTrailers, LeavesAt, extension_with}
 use Rattle.icap_chunks.proofs.Words.{extension_behind-append, answer, extension_found}
@@ -62,7 +64,8 @@ pub is_lt : (m n : ℕ) → nat_lt m n ≡ true → m < n
 is_lt m n e = grind (arith, nat_tests)
 
 module _ (text body : List ℕ) (sum count size b : ℕ) (s : InDigits text body sum count size) where
-  digits_one : digit_value b < 16 → count < 256 → size * 16 + digit_value b < 4611686018427387904 → InDigits (text ++ b ∷ []) body sum (count + 1) (size * 16 + digit_value b)
+  digits_one : digit_value b < 16 → count < 256 → size * 16 + digit_value b < 4611686018427387904
+      → InDigits (text ++ b ∷ []) body sum (count + 1) (size * 16 + digit_value b)
   digits_one low room fits = record {
     digits = s.digits ++ b ∷ [];
     front = Front_more b s.front;
@@ -108,7 +111,13 @@ module _ (text body : List ℕ) (sum count size b : ℕ) (s : InDigits text body
   digits_end e pos = record {
     l = record { digits = s.digits; pad = []; extension = None };
     front = Front_as (Front_more b s.front) (ap (λ c. s.digits ++ c ∷ []) e ∙ ap (λ d. d ++ 13 ∷ []) (sym (append-nil s.digits)));
-    is = record { digits = writes pos; pad = tt; extension = tt; short = omega (arith, s.count_is, s.short, length-append s.digits []); fits = s.fits };
+    is = record {
+      digits = writes pos;
+      pad = tt;
+      extension = tt;
+      short = omega (arith, s.count_is, s.short, length-append s.digits []);
+      fits = s.fits;
+    };
     ieof_is = refl;
   }
 
@@ -154,7 +163,8 @@ module _ (text body : List ℕ) (sum count size b : ℕ) (s : InPad text body su
   pad_end : b ≡ 13 → InLineEnd (text ++ b ∷ []) body sum size false
   pad_end e = record {
     l = record { digits = s.digits; pad = s.pad; extension = None };
-    front = Front_as (Front_more b s.front) (ap (λ c. (s.digits ++ s.pad) ++ c ∷ []) e ∙ ap (λ d. (s.digits ++ d) ++ 13 ∷ []) (sym (append-nil s.pad)));
+    front = Front_as (Front_more b s.front) (ap (λ c. (s.digits ++ s.pad) ++ c ∷ []) e
+        ∙ ap (λ d. (s.digits ++ d) ++ 13 ∷ []) (sym (append-nil s.pad)));
     is = record {
       digits = s.writes;
       pad = s.blanks;
@@ -175,7 +185,8 @@ module _ (text body : List ℕ) (sum count size b : ℕ) (s : InPad text body su
 pub line_byte_from : (b : ℕ) → (b == 13) ≡ false → (b == 10) ≡ false → is_line_byte b ≡ true
 line_byte_from b p q = rw (p, q) refl
 
-module _ (text body : List ℕ) (sum count size : ℕ) (item : Item) (found : Bool) (b : ℕ) (s : InExtension text body sum count size item found) where
+module _ (text body : List ℕ) (sum count size : ℕ) (item : Item) (found : Bool) (b : ℕ)
+    (s : InExtension text body sum count size item found) where
   extension_one : count < 256 → is_line_byte b ≡ true
       → InExtension (text ++ b ∷ []) body sum (count + 1) size (extension_with (item, found) b).0 (extension_with (item, found) b).1
   extension_one room pass = record {
@@ -200,7 +211,13 @@ module _ (text body : List ℕ) (sum count size : ℕ) (item : Item) (found : Bo
       digits = s.writes;
       pad = s.blanks;
       extension = s.all;
-      short = omega (arith, s.count_is, s.short, length-append s.digits (s.pad ++ 59 ∷ s.extension), length-append s.pad (59 ∷ s.extension));
+      short = omega (
+        arith,
+        s.count_is,
+        s.short,
+        length-append s.digits (s.pad ++ 59 ∷ s.extension),
+        length-append s.pad (59 ∷ s.extension),
+      );
       fits = s.fits;
     };
     ieof_is = sym (extension_found s.extension) ∙ ap answer s.behind;
@@ -208,7 +225,8 @@ module _ (text body : List ℕ) (sum count size : ℕ) (item : Item) (found : Bo
 
   by_byte : (t : Bool) → (let x : Item × Bool = if t then (Blank, found || machine.is_word item) else (item_with item b, found) in
       InExtension (text ++ b ∷ []) body sum (count + 1) size x.0 x.1)
-      → LeavesAt (text ++ b ∷ []) body sum (if t then Extension (count + 1) size Blank (found || machine.is_word item) else Extension (count + 1) size (item_with item b) found)
+      → LeavesAt (text ++ b ∷ []) body sum (if t then Extension (count + 1) size Blank (found || machine.is_word item) else Extension
+      (count + 1) size (item_with item b) found)
   by_byte true x = x
   by_byte false x = x
 
@@ -222,13 +240,15 @@ module _ (text body : List ℕ) (sum count size : ℕ) (item : Item) (found : Bo
 abbrev pub LeavesReader : List ℕ → List ℕ → ChunkReader → Type 0
 LeavesReader text body r = LeavesAt text body r.sum r.place
 
-pub choose_reader : (P : ChunkReader → Type 0) (t : Bool) (x y : ChunkReader) → (t ≡ true → P x) → (t ≡ false → P y) → P (if t then x else y)
+pub choose_reader : (P : ChunkReader → Type 0) (t : Bool) (x y : ChunkReader) → (t ≡ true → P x) → (t ≡ false → P y)
+    → P (if t then x else y)
 choose_reader P true x y p q = p refl
 choose_reader P false x y p q = q refl
 
 module _ (text body : List ℕ) (sum size : ℕ) (ieof : Bool) (b : ℕ) (s : InLineEnd text body sum size ieof) where
   line_front : b ≡ 10 → Front (text ++ b ∷ []) body (print_line s.l ++ (13 ∷ 10 ∷ ([] ++ []))) sum
-  line_front e = Front_as (Front_more b s.front) (append_assoc (print_line s.l) (13 ∷ []) (b ∷ []) ∙ ap (λ c. print_line s.l ++ (13 ∷ c ∷ [])) e)
+  line_front e = Front_as (Front_more b s.front) (append_assoc (print_line s.l) (13 ∷ []) (b ∷ [])
+      ∙ ap (λ c. print_line s.l ++ (13 ∷ c ∷ [])) e)
 
   last_one : b ≡ 10 → size ≡ 0 → InTrailers (text ++ b ∷ []) body (sum + size) 0 ieof []
   last_one e none = record {

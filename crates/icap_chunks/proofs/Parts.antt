@@ -1,17 +1,21 @@
 -- A text ends in a part of the grammar where the reader stands at a place, and the two have the same faults.
-use Rattle.std.proofs.Common.{◌≡◌, ℕ, suc, ◌+◌, ◌-◌, ◌<◌, Bool, false, List, [], ◌∷◌, ◌++◌, length, Option, Some, None, refl, sym, ap, ◌∙◌, subst, arith, length-append, inl, inr}
+use Rattle.std.proofs.Common.{◌≡◌, ℕ, suc, ◌+◌, ◌-◌, ◌<◌, Bool, false, List, [], ◌∷◌, ◌++◌, length, Option, Some, None, refl, sym, ap, ◌∙◌}
+use Rattle.std.proofs.Common.{subst, arith, length-append, inl, inr}
 use Rattle.std.proofs.lemmas.List.{append-nil}
 use Rattle.std.specs.Str.Parse.{digits_value}
 use Rattle.icap_chunks.specs.declared.extension.Item.{Item}
 use Rattle.icap_chunks.specs.declared.extension.Item.TheVariants.{Blank}
 use Rattle.icap_chunks.specs.declared.positions.Position.{Position}
-use Rattle.icap_chunks.specs.declared.positions.Position.TheVariants.{Digits, Pad, Extension, LineCr, Data, DataEnd, DataCr, TrailerStart, Trailer, TrailerCr, LastCr, Ended, Faulted}
+use Rattle.icap_chunks.specs.declared.positions.Position.TheVariants.{Digits, Pad, Extension, LineCr, Data, DataEnd, DataCr, TrailerStart}
+use Rattle.icap_chunks.specs.declared.positions.Position.TheVariants.{Trailer, TrailerCr, LastCr, Ended, Faulted}
 use Rattle.icap_chunks.specs.Grammar.{is_line_byte, AllPass, print_line, has_ieof}
 use Rattle.icap_chunks.specs.Machine.{fault_of, step, end_at, faulted_at}
-use Rattle.icap_chunks.specs.Faults.{Part, in_line, behind_line, in_data, behind_data, behind_data_cr, in_trailers, behind_trailers_cr, fault_at, Behind, InLine, InChunk, InTrailers, EndsIn}
+use Rattle.icap_chunks.specs.Faults.{Part, in_line, behind_line, in_data, behind_data, behind_data_cr, in_trailers, behind_trailers_cr}
+use Rattle.icap_chunks.specs.Faults.{fault_at, Behind, InLine, InChunk, InTrailers, EndsIn}
 use Rattle.icap_chunks.proofs.Standing.{Front, InDigits, InPad, InExtension, LeavesAt, extension_behind}
 use Rattle.icap_chunks.proofs.Standing.{InChunk as ChunkStands, InTrailers as TrailersStand}
-use Rattle.icap_chunks.proofs.Table.{digits_table, pad_table, extension_table, line_end_table, data_table, data_end_table, data_cr_table, trailer_start_table, trailer_table, trailer_cr_table, last_cr_table}
+use Rattle.icap_chunks.proofs.Table.{digits_table, pad_table, extension_table, line_end_table, data_table, data_end_table, data_cr_table}
+use Rattle.icap_chunks.proofs.Table.{trailer_start_table, trailer_table, trailer_cr_table, last_cr_table}
 use Rattle.icap_chunks.proofs.Walks.{at}
 
 -- the place and the part have the same faults
@@ -38,7 +42,8 @@ front_of : {text body tail part : List ℕ} → Behind text body tail → tail �
 front_of f e = record { front = f.front; chunks = f.chunks; text_is = f.text_is ∙ ap (λ t. f.front ++ t) e; sum_is = refl }
 
 -- a fact of the sum of the chunks
-summed : (body : List ℕ) (sum : ℕ) (place : Position) (part : Part) → sum ≡ length body → SameFaults body (length body) place part → SameFaults body sum place part
+summed : (body : List ℕ) (sum : ℕ) (place : Position) (part : Part) → sum ≡ length body → SameFaults body (length body) place part
+    → SameFaults body sum place part
 summed body sum place part is same b = ap (λ n. fault_of (step (at n place) b)) is ∙ same b
 
 -- ---- from a place
@@ -63,7 +68,8 @@ digits_part text body sum count size s =
     }
 
 -- blanks behind digits
-pad_same : (body : List ℕ) (sum count size : ℕ) (digits pad : List ℕ) → 0 < length digits → 0 < length pad → count ≡ length (digits ++ (pad ++ []))
+pad_same : (body : List ℕ) (sum count size : ℕ) (digits pad : List ℕ) → 0 < length digits → 0 < length pad
+    → count ≡ length (digits ++ (pad ++ []))
     → SameFaults body sum (Pad count size) (in_line digits pad None)
 pad_same body sum count size [] pad some more count_is b = absurd (omega (arith, some))
 pad_same body sum count size (d ∷ digits) [] some more count_is b = absurd (omega (arith, more))
@@ -91,16 +97,19 @@ pad_part text body sum count size s =
     }
 
 extension_same : (body : List ℕ) (sum count size : ℕ) (digits pad extension : List ℕ) (item : Item) (found : Bool) → 0 < length digits
-    → count ≡ length (digits ++ (pad ++ 59 ∷ extension)) → SameFaults body sum (Extension count size item found) (in_line digits pad (Some extension))
+    → count ≡ length (digits ++ (pad ++ 59 ∷ extension))
+    → SameFaults body sum (Extension count size item found) (in_line digits pad (Some extension))
 extension_same body sum count size [] pad extension item found some count_is b = absurd (omega (arith, some))
 extension_same body sum count size (d ∷ digits) pad extension item found some count_is b = extension_table_at pad count_is
   where
     extension_table_at : (pad : List ℕ) → count ≡ length ((d ∷ digits) ++ (pad ++ 59 ∷ extension))
-        → fault_of (step (at sum (Extension count size item found)) b) ≡ fault_at (length body) (in_line (d ∷ digits) pad (Some extension)) b
+        → fault_of (step (at sum (Extension count size item found)) b) ≡ fault_at (length body) (in_line (d ∷ digits) pad (Some extension))
+        b
     extension_table_at [] is = extension_table sum count size b d digits [] extension item found is
     extension_table_at (p ∷ pad) is = extension_table sum count size b d digits (p ∷ pad) extension item found is
 
-extension_count : (digits pad extension : List ℕ) → length digits + (length pad + suc (length extension)) ≡ length (digits ++ (pad ++ 59 ∷ extension))
+extension_count : (digits pad extension : List ℕ) → length digits + (length pad + suc (length extension))
+    ≡ length (digits ++ (pad ++ 59 ∷ extension))
 extension_count digits pad extension = omega (arith, length-append digits (pad ++ 59 ∷ extension), length-append pad (59 ∷ extension))
 
 extension_part : (text body : List ℕ) (sum count size : ℕ) (item : Item) (found : Bool) → InExtension text body sum count size item found
@@ -135,7 +144,8 @@ chunk_part s = record {
   missing_is = s.left_is;
 }
 
-trailers_part : {text body part tail : List ℕ} {sum count : ℕ} {ieof : Bool} (line : List ℕ) → AllPass is_line_byte line → part ≡ line ++ tail
+trailers_part : {text body part tail : List ℕ} {sum count : ℕ} {ieof : Bool} (line : List ℕ) → AllPass is_line_byte line
+    → part ≡ line ++ tail
     → TrailersStand text body sum count ieof part → InTrailers text body count tail
 trailers_part {text} {body} {part} {tail} {sum} {count} line bytes is s = record {
   last = s.l;
@@ -149,7 +159,8 @@ trailers_part {text} {body} {part} {tail} {sum} {count} line bytes is s = record
   short = s.short;
 }
 
-pub place_part : (text body : List ℕ) (sum : ℕ) (place : Position) → LeavesAt text body sum place → end_at place ≡ None → faulted_at place ≡ None → InPart text body sum place
+pub place_part : (text body : List ℕ) (sum : ℕ) (place : Position) → LeavesAt text body sum place → end_at place ≡ None
+    → faulted_at place ≡ None → InPart text body sum place
 unfolding end_at faulted_at
 place_part text body sum (Digits count size) s quiet sound = digits_part text body sum count size s
 place_part text body sum (Pad count size) s quiet sound = pad_part text body sum count size s
@@ -159,15 +170,32 @@ place_part text body sum (LineCr size ieof) s quiet sound = record {
   ends = record { line = s.l; behind = behind_of s.front refl; is = s.is };
   same = summed body sum (LineCr size ieof) (behind_line size) s.front.sum_is (λ b. line_end_table (length body) size b ieof);
 }
-place_part text body sum (Data more) s quiet sound = record { part = in_data; ends = (more + 1, omega arith, chunk_part s); same = λ b. data_table sum (length body) more b }
-place_part text body sum DataEnd s quiet sound = record { part = behind_data; ends = chunk_part s; same = λ b. data_end_table sum (length body) b }
-place_part text body sum DataCr s quiet sound = record { part = behind_data_cr; ends = chunk_part s; same = λ b. data_cr_table sum (length body) b }
+place_part text body sum (Data more) s quiet sound =
+    record { part = in_data; ends = (more + 1, omega arith, chunk_part s); same = λ b. data_table sum (length body) more b }
+place_part text body sum DataEnd s quiet sound = record {
+  part = behind_data;
+  ends = chunk_part s;
+  same = λ b. data_end_table sum (length body) b;
+}
+place_part text body sum DataCr s quiet sound = record {
+  part = behind_data_cr;
+  ends = chunk_part s;
+  same = λ b. data_cr_table sum (length body) b;
+}
 place_part text body sum (TrailerStart count ieof) s quiet sound =
     record { part = in_trailers count; ends = trailers_part [] tt refl s; same = λ b. trailer_start_table sum (length body) count b ieof }
 place_part text body sum (Trailer count ieof) s quiet sound =
-    record { part = in_trailers count; ends = trailers_part s.0 s.3 (sym (append-nil s.0)) s.1; same = λ b. trailer_table sum (length body) count b ieof }
+    record {
+      part = in_trailers count;
+      ends = trailers_part s.0 s.3 (sym (append-nil s.0)) s.1;
+      same = λ b. trailer_table sum (length body) count b ieof;
+    }
 place_part text body sum (TrailerCr count ieof) s quiet sound =
-    record { part = behind_trailers_cr count; ends = trailers_part s.0 s.3 refl s.1; same = λ b. trailer_cr_table sum (length body) count b ieof }
+    record {
+      part = behind_trailers_cr count;
+      ends = trailers_part s.0 s.3 refl s.1;
+      same = λ b. trailer_cr_table sum (length body) count b ieof;
+    }
 place_part text body sum (LastCr count ieof) s quiet sound =
     record { part = behind_trailers_cr count; ends = trailers_part [] tt refl s; same = λ b. last_cr_table sum (length body) count b ieof }
 place_part text body sum (Ended ieof) s quiet sound = absurd cc
@@ -175,21 +203,35 @@ place_part text body sum (Faulted fault) s quiet sound = absurd cc
 
 -- ---- from a part
 
-line_place : (text body digits pad : List ℕ) (extension : Option (List ℕ)) → InLine text body digits pad extension → AtPlace text body (in_line digits pad extension)
+line_place : (text body digits pad : List ℕ) (extension : Option (List ℕ)) → InLine text body digits pad extension
+    → AtPlace text body (in_line digits pad extension)
 unfolding end_at faulted_at
 line_place text body digits [] None s =
     let nil : digits ++ ([] ++ []) ≡ digits = append-nil digits in record {
       sum = length body;
       place = Digits (length digits) (digits_value 16 digits);
-      stands = record { digits = digits; front = front_of s.behind nil; all = s.all; count_is = refl; size_is = refl; short = omega (arith, s.short, ap length nil); fits = s.fits };
+      stands = record {
+        digits = digits;
+        front = front_of s.behind nil;
+        all = s.all;
+        count_is = refl;
+        size_is = refl;
+        short = omega (arith, s.short, ap length nil);
+        fits = s.fits;
+      };
       quiet = refl;
       sound = refl;
       same = λ b. digits_table (length body) (length digits) (digits_value 16 digits) b digits (ap length (sym nil)) refl;
     }
-line_place text body [] (p ∷ pad) None s = absurd (elim s.begun [ inl some ↦ omega (arith, some) | inr none ↦ let e : p ∷ pad ≡ [] = none.0 in cc ])
+line_place text body [] (p ∷ pad) None s = absurd (elim s.begun [
+  | inl some ↦ omega (arith, some)
+  | inr none ↦
+      let e : p ∷ pad ≡ [] = none.0 in cc
+])
 line_place text body (d ∷ digits) (p ∷ pad) None s =
     let nil : (d ∷ digits) ++ ((p ∷ pad) ++ []) ≡ (d ∷ digits) ++ (p ∷ pad) = ap (λ x. (d ∷ digits) ++ x) (append-nil (p ∷ pad)) in
-    let count : length (d ∷ digits) + length (p ∷ pad) ≡ length ((d ∷ digits) ++ ((p ∷ pad) ++ [])) = omega (arith, ap length nil, length-append (d ∷ digits) (p ∷ pad)) in
+    let count : length (d ∷ digits) + length (p ∷ pad) ≡ length ((d ∷ digits) ++ ((p ∷ pad) ++ [])) =
+    omega (arith, ap length nil, length-append (d ∷ digits) (p ∷ pad)) in
     record {
       sum = length body;
       place = Pad (length (d ∷ digits) + length (p ∷ pad)) (digits_value 16 (d ∷ digits));
@@ -208,7 +250,11 @@ line_place text body (d ∷ digits) (p ∷ pad) None s =
       sound = refl;
       same = λ b. pad_table (length body) (length (d ∷ digits) + length (p ∷ pad)) (digits_value 16 (d ∷ digits)) b d p digits pad count;
     }
-line_place text body [] pad (Some extension) s = absurd (elim s.begun [ inl some ↦ omega (arith, some) | inr none ↦ let e : Some extension ≡ None = none.1 in cc ])
+line_place text body [] pad (Some extension) s = absurd (elim s.begun [
+  | inl some ↦ omega (arith, some)
+  | inr none ↦
+      let e : Some extension ≡ None = none.1 in cc
+])
 line_place text body (d ∷ digits) pad (Some extension) s =
     let kept = extension_behind (Blank, false) extension in
     let count = extension_count (d ∷ digits) pad extension in
@@ -230,10 +276,12 @@ line_place text body (d ∷ digits) pad (Some extension) s =
       };
       quiet = refl;
       sound = refl;
-      same = λ b. extension_table (length body) (length (d ∷ digits) + (length pad + suc (length extension))) (digits_value 16 (d ∷ digits)) b d digits pad extension kept.0 kept.1 count;
+      same = λ b. extension_table (length body) (length (d ∷ digits) + (length pad + suc (length extension))) (digits_value 16 (d ∷ digits))
+          b d digits pad extension kept.0 kept.1 count;
     }
 
-chunk_place : {text body tail : List ℕ} {left : ℕ} (s : InChunk text body left tail) → ChunkStands text body (length s.done + s.size) left tail
+chunk_place : {text body tail : List ℕ} {left : ℕ} (s : InChunk text body left tail)
+    → ChunkStands text body (length s.done + s.size) left tail
 chunk_place s = record {
   done = s.done;
   bytes = s.bytes;
@@ -261,7 +309,8 @@ trailers_place {text} {body} {tail} {count} s line is = record {
   short = s.short;
 }
 
-in_trailers_place : (text body : List ℕ) (count : ℕ) (s : InTrailers text body count []) (line : List ℕ) → s.line ≡ line → AtPlace text body (in_trailers count)
+in_trailers_place : (text body : List ℕ) (count : ℕ) (s : InTrailers text body count []) (line : List ℕ) → s.line ≡ line
+    → AtPlace text body (in_trailers count)
 unfolding end_at faulted_at
 in_trailers_place text body count s [] is = record {
   sum = length body;
@@ -276,7 +325,8 @@ in_trailers_place text body count s (c ∷ line) is = record {
   place = Trailer count (has_ieof s.last.extension);
   stands = (
     c ∷ line,
-    (let P : List ℕ → Type 0 = λ p. TrailersStand text body (length body) count (has_ieof s.last.extension) p in subst P (append-nil (c ∷ line)) (trailers_place s (c ∷ line) is)),
+    (let P : List ℕ → Type 0 = λ p. TrailersStand text body (length body) count (has_ieof s.last.extension) p in
+        subst P (append-nil (c ∷ line)) (trailers_place s (c ∷ line) is)),
     lit_pos c line,
     (let Q : List ℕ → Type 0 = λ p. AllPass is_line_byte p in subst Q is s.bytes),
   );
@@ -288,7 +338,8 @@ in_trailers_place text body count s (c ∷ line) is = record {
     lit_pos : (c : ℕ) (line : List ℕ) → 0 < length (c ∷ line)
     lit_pos c line = omega arith
 
-behind_trailers_place : (text body : List ℕ) (count : ℕ) (s : InTrailers text body count (13 ∷ [])) (line : List ℕ) → s.line ≡ line → AtPlace text body (behind_trailers_cr count)
+behind_trailers_place : (text body : List ℕ) (count : ℕ) (s : InTrailers text body count (13 ∷ [])) (line : List ℕ) → s.line ≡ line
+    → AtPlace text body (behind_trailers_cr count)
 unfolding end_at faulted_at
 behind_trailers_place text body count s [] is = record {
   sum = length body;
@@ -301,7 +352,12 @@ behind_trailers_place text body count s [] is = record {
 behind_trailers_place text body count s (c ∷ line) is = record {
   sum = length body;
   place = TrailerCr count (has_ieof s.last.extension);
-  stands = (c ∷ line, trailers_place s (c ∷ line) is, lit_pos c line, (let Q : List ℕ → Type 0 = λ p. AllPass is_line_byte p in subst Q is s.bytes));
+  stands = (
+    c ∷ line,
+    trailers_place s (c ∷ line) is,
+    lit_pos c line,
+    (let Q : List ℕ → Type 0 = λ p. AllPass is_line_byte p in subst Q is s.bytes),
+  );
   quiet = refl;
   sound = refl;
   same = λ b. trailer_cr_table (length body) (length body) count b (has_ieof s.last.extension);

@@ -1,5 +1,6 @@
 -- A text has one reading: what a reader says of it.
-use Rattle.std.proofs.Common.{◌≡◌, ℕ, ◌<◌, ◌≤◌, Bool, List, [], ◌++◌, length, take, drop, Some, None, refl, sym, ap, ◌∙◌, subst, arith, take-take, length-take-le, append_assoc, take_all, inl, inr}
+use Rattle.std.proofs.Common.{◌≡◌, ℕ, ◌<◌, ◌≤◌, Bool, List, [], ◌++◌, length, take, drop, Some, None, refl, sym, ap, ◌∙◌, subst, arith}
+use Rattle.std.proofs.Common.{take-take, length-take-le, append_assoc, take_all, inl, inr}
 use Rattle.std.proofs.lemmas.List.{take-append-drop}
 use Rattle.std.proofs.lemmas.Bool.{cases_lt}
 use Rattle.icap_chunks.specs.declared.fault.ChunkFault.{ChunkFault}
@@ -49,7 +50,8 @@ not_both r ieof fault e f = apart r.place (ended_at r.place ieof e) (fault_is r.
     apart p a b = let c : AtEnd ieof ≡ AtFault fault = sym a ∙ b in cc
 
 -- a body ends at one place
-not_before : (text a b : List ℕ) (i j : Bool) (u v : ℕ) → v ≤ length text → IsChunked (take u text) a i → IsChunked (take v text) b j → u < v → ⊥
+not_before : (text a b : List ℕ) (i j : Bool) (u v : ℕ) → v ≤ length text → IsChunked (take u text) a i → IsChunked (take v text) b j
+    → u < v → ⊥
 not_before text a b i j u v within x y l =
     let ends = (chunked_ends (take u text) a i x).0.ended in
     let cut : take u (take v text) ≡ take u text = take-take u v text (omega arith) in
@@ -57,7 +59,8 @@ not_before text a b i j u v within x y l =
     let none = (chunked_ends (take v text) b j y).0.first u (omega (arith, len)) in
     some_none (sym ends ∙ ap (λ t. end_of (run start t)) (sym cut) ∙ none)
 
-same_use : (text a b : List ℕ) (i j : Bool) (u v : ℕ) → u ≤ length text → v ≤ length text → IsChunked (take u text) a i → IsChunked (take v text) b j → u ≡ v
+same_use : (text a b : List ℕ) (i j : Bool) (u v : ℕ) → u ≤ length text → v ≤ length text → IsChunked (take u text) a i
+    → IsChunked (take v text) b j → u ≡ v
 same_use text a b i j u v uw vw x y = elim (cases_lt u v) [
   | inl l ↦ absurd (not_before text a b i j u v vw x y l)
   | inr ge ↦ elim (cases_lt v u) [
@@ -80,8 +83,10 @@ one_outcome text a b (Faulted f) (Faulted g) x y =
     let t = breaks_fault text b g y in
     (sym s.1 ∙ t.1, ap Faulted (same_some (sym s.0 ∙ t.0)))
 one_outcome text a b More More x y = (sym (more_open text a x.0 x.1).found ∙ (more_open text b y.0 y.1).found, refl)
-one_outcome text a b (Ended i u) (Faulted g) x y = absurd (not_both (run start text) i g (ended_run text a i u x.1) (breaks_fault text b g y).0)
-one_outcome text a b (Faulted f) (Ended j v) x y = absurd (not_both (run start text) j f (ended_run text b j v y.1) (breaks_fault text a f x).0)
+one_outcome text a b (Ended i u) (Faulted g) x y = absurd (not_both (run start text) i g (ended_run text a i u x.1)
+    (breaks_fault text b g y).0)
+one_outcome text a b (Faulted f) (Ended j v) x y = absurd (not_both (run start text) j f (ended_run text b j v y.1)
+    (breaks_fault text a f x).0)
 one_outcome text a b (Ended i u) More x y = absurd (some_none (sym (ended_run text a i u x.1) ∙ (more_open text b y.0 y.1).no_end))
 one_outcome text a b More (Ended j v) x y = absurd (some_none (sym (ended_run text b j v y.1) ∙ (more_open text a x.0 x.1).no_end))
 one_outcome text a b (Faulted f) More x y = absurd (some_none (sym (breaks_fault text a f x).0 ∙ (more_open text b y.0 y.1).no_fault))
@@ -90,10 +95,12 @@ one_outcome text a b More (Faulted g) x y = absurd (some_none (sym (breaks_fault
 -- ---- what a reader has read
 
 -- a reader that has read a text, and is at no end and no fault, has read the front of a body
-pub reads_more : (text body : List ℕ) (r : ChunkReader) → HasRead text body r → end_of r ≡ None → fault_of r ≡ None → IsReading text body More
+pub reads_more : (text body : List ℕ) (r : ChunkReader) → HasRead text body r → end_of r ≡ None → fault_of r ≡ None
+    → IsReading text body More
 reads_more text body r h no_end no_fault =
     let stands = text_leaves text in
-    let p = place_part text (body_of start text) (run start text).sum (run start text).place stands (ap end_of h.read ∙ no_end) (ap fault_of h.read ∙ no_fault) in
+    let p = place_part text (body_of start text) (run start text).sum (run start text).place stands (ap end_of h.read ∙ no_end)
+    (ap fault_of h.read ∙ no_fault) in
     let P : List ℕ → Type 0 = λ b. (part : Part) × EndsIn text b part in
     subst P h.found (p.part, p.ends)
 
@@ -114,7 +121,8 @@ breaks_longer text more body fault b = record {
   text_is = ap (λ t. t ++ more) b.text_is ∙ append_assoc b.good _ more;
 }
 
-pub reads_fault : (text body : List ℕ) (r : ChunkReader) (fault : ChunkFault) → HasRead text body r → fault_of r ≡ Some fault → Breaks text body fault
+pub reads_fault : (text body : List ℕ) (r : ChunkReader) (fault : ChunkFault) → HasRead text body r → fault_of r ≡ Some fault
+    → Breaks text body fault
 reads_fault text body r fault h e = (answers_faults text body fault).0 (ap fault_of h.read ∙ e, h.found)
 
 -- a reading whose parts have other names
@@ -125,7 +133,8 @@ reading_as text a b p q h body outcome =
     subst Q (sym outcome) (subst P (sym body) h)
 
 -- a collector that has read the whole text
-pub collected : (text : List ℕ) (collector : Collector) → HasReadTo text collector → length text ≤ collector.at → IsReading text collector.body.items More
+pub collected : (text : List ℕ) (collector : Collector) → HasReadTo text collector → length text ≤ collector.at
+    → IsReading text collector.body.items More
 collected text collector h all =
     let P : List ℕ → Type 0 = λ t. HasRead t collector.body.items collector.reader in
     reads_more text collector.body.items collector.reader (subst P (take_all collector.at text all) h.read) h.no_end h.sound

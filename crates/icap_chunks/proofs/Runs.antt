@@ -1,5 +1,7 @@
 -- What a reader makes of a list of bytes, part by part.
-use Rattle.std.proofs.Common.{◌≡◌, ℕ, zero, suc, ◌+◌, ◌-◌, ◌<◌, ◌≤◌, Bool, true, false, List, [], ◌∷◌, ◌++◌, length, get_or, take, drop, slice_range, min, None, refl, sym, ap, subst, ◌∙◌, arith, nat_lt, nat_le, append_assoc, inl, inr, ◌⊎◌, length-take, length-drop, if◌then◌else◌}
+use Rattle.std.proofs.Common.{◌≡◌, ℕ, zero, suc, ◌+◌, ◌-◌, ◌<◌, ◌≤◌, Bool, true, false, List, [], ◌∷◌, ◌++◌, length, get_or, take, drop}
+use Rattle.std.proofs.Common.{slice_range, min, None, refl, sym, ap, subst, ◌∙◌, arith, nat_lt, nat_le, append_assoc, inl, inr, ◌⊎◌}
+use Rattle.std.proofs.Common.{length-take, length-drop, if◌then◌else◌}
 use Rattle.std.proofs.lemmas.Bool.Decides.{nat_tests}
 use Rattle.std.proofs.lemmas.Bool.{cases_lt}
 use Rattle.std.proofs.Math.Seq.{take-suc, take-add}
@@ -16,7 +18,8 @@ run-append r (x ∷ xs) ys = run-append (step r x) xs ys
 
 pub body_of-append : (r : ChunkReader) (xs ys : List ℕ) → body_of r (xs ++ ys) ≡ body_of r xs ++ body_of (run r xs) ys
 body_of-append r [] ys = refl
-body_of-append r (x ∷ xs) ys = rw (body_of-append (step r x) xs ys) (sym (append_assoc _ (body_of (step r x) xs) (body_of (run (step r x) xs) ys)))
+body_of-append r (x ∷ xs) ys = rw (body_of-append (step r x) xs ys) (sym
+    (append_assoc _ (body_of (step r x) xs) (body_of (run (step r x) xs) ys)))
 
 pub run_more : (r : ChunkReader) (xs : List ℕ) (k : ℕ) → k < length xs → run r (take (k + 1) xs) ≡ step (run r (take k xs)) (get_or xs k 0)
 run_more r xs k l = ap (run r) (take_more xs k 0 l) ∙ run-append r (take k xs) (get_or xs k 0 ∷ [])
@@ -60,7 +63,8 @@ same_behind sum more n pos = elim (cases_lt more (suc n)) [
   | inr below ↦
       let same : (more - 1) - n ≡ more - suc n = omega arith in
       let P : ℕ → Type 0 = λ k. data_behind sum (more - 1) n ≡ record { sum = sum; place = Data k } in
-      let first : data_behind sum (more - 1) n ≡ record { sum = sum; place = Data (more - suc n) } = subst P same (behind_more sum (more - 1) n (omega arith)) in
+      let first : data_behind sum (more - 1) n ≡ record { sum = sum; place = Data (more - suc n) } =
+      subst P same (behind_more sum (more - 1) n (omega arith)) in
       first ∙ sym (behind_more sum more (suc n) below)
 ]
 
@@ -73,16 +77,20 @@ unfolding in_data
 last_data sum = refl
 
 -- a run of the body
-pub run_data : (sum more : ℕ) (bytes : List ℕ) → length bytes ≤ more + 1 → run (record { sum = sum; place = Data more }) bytes ≡ data_behind sum more (length bytes)
+pub run_data : (sum more : ℕ) (bytes : List ℕ) → length bytes ≤ more + 1
+    → run (record { sum = sum; place = Data more }) bytes ≡ data_behind sum more (length bytes)
 unfolding step
-run_data sum more [] l = let same : more ≡ more - 0 = omega arith in ap (λ k. record { sum = sum; place = Data k }) same ∙ sym (behind_more sum more 0 (omega arith))
+run_data sum more [] l = let same : more ≡ more - 0 = omega arith in
+    ap (λ k. record { sum = sum; place = Data k }) same ∙ sym (behind_more sum more 0 (omega arith))
 run_data sum zero (b ∷ []) l = last_data sum
 run_data sum zero (b ∷ c ∷ bytes) l = absurd (omega arith)
 run_data sum (suc more) (b ∷ bytes) l =
-    rw (in_data_more (suc more) (omega arith)) (run_data sum (suc more - 1) bytes (omega arith) ∙ same_behind sum (suc more) (length bytes) (omega arith))
+    rw (in_data_more (suc more) (omega arith)) (run_data sum (suc more - 1) bytes (omega arith)
+    ∙ same_behind sum (suc more) (length bytes) (omega arith))
 
 -- every byte of such a run is one of the body
-pub body_of_data : (sum more : ℕ) (bytes : List ℕ) → length bytes ≤ more + 1 → body_of (record { sum = sum; place = Data more }) bytes ≡ bytes
+pub body_of_data : (sum more : ℕ) (bytes : List ℕ) → length bytes ≤ more + 1
+    → body_of (record { sum = sum; place = Data more }) bytes ≡ bytes
 unfolding step is_data
 body_of_data sum more [] l = refl
 body_of_data sum zero (b ∷ []) l = refl
@@ -90,7 +98,8 @@ body_of_data sum zero (b ∷ c ∷ bytes) l = absurd (omega arith)
 body_of_data sum (suc more) (b ∷ bytes) l =
     rw (in_data_more (suc more) (omega arith)) (ap (λ rest. b ∷ rest) (body_of_data sum (suc more - 1) bytes (omega arith)))
 
-pub run_faulted : (sum : ℕ) (fault : ChunkFault) (bytes : List ℕ) → run (record { sum = sum; place = Faulted fault }) bytes ≡ record { sum = sum; place = Faulted fault }
+pub run_faulted : (sum : ℕ) (fault : ChunkFault) (bytes : List ℕ)
+    → run (record { sum = sum; place = Faulted fault }) bytes ≡ record { sum = sum; place = Faulted fault }
 unfolding step
 run_faulted sum fault [] = refl
 run_faulted sum fault (b ∷ bytes) = run_faulted sum fault bytes
@@ -121,7 +130,8 @@ unfolding is_data
 no_data_behind sum more n l = ap (λ r. is_data r.place) (behind_all sum more n l)
 
 -- where framing stops, it is at a byte of the body, at the end or at a fault
-pub pauses_cases : (p : Position) → pauses_at p ≡ true → ((more : ℕ) × (p ≡ Data more)) ⊎ (((ieof : Bool) × (p ≡ Ended ieof)) ⊎ ((fault : ChunkFault) × (p ≡ Faulted fault)))
+pub pauses_cases : (p : Position) → pauses_at p ≡ true
+    → ((more : ℕ) × (p ≡ Data more)) ⊎ (((ieof : Bool) × (p ≡ Ended ieof)) ⊎ ((fault : ChunkFault) × (p ≡ Faulted fault)))
 unfolding pauses_at
 pauses_cases p h = grind (arith)
 
@@ -145,7 +155,8 @@ pub record Framing (old : ChunkReader) (piece : List ℕ) (n : ℕ) (new : Chunk
 
 module _ (old : ChunkReader) (piece : List ℕ) (n : ℕ) (mid : ChunkReader) (f : Framing old piece n mid) where
   pub framing_part : slice_range piece n n ≡ body_of old (take n piece)
-  framing_part = let none : n - n ≡ 0 = omega arith in ap (λ k. take k (drop n piece)) none ∙ sym (framing_body old piece n f.within f.framing)
+  framing_part = let none : n - n ≡ 0 = omega arith in
+      ap (λ k. take k (drop n piece)) none ∙ sym (framing_body old piece n f.within f.framing)
 
   pub framing_end_first : (k : ℕ) → k < n → end_of (run old (take k piece)) ≡ None
   framing_end_first k below = no_end (run old (take k piece)).place (f.framing k below)
@@ -160,7 +171,8 @@ module _ (old : ChunkReader) (piece : List ℕ) (n : ℕ) (mid : ChunkReader) (f
   fault_part fault at =
       let mid-is = at_place mid (Faulted fault) at in
       ap (body_of old) (sym (take-append-drop n piece)) ∙ body_of-append old (take n piece) (drop n piece)
-      ∙ rw (framing_body old piece n f.within f.framing) (ap (λ r. body_of r (drop n piece)) (sym f.read ∙ mid-is) ∙ body_of_faulted mid.sum fault (drop n piece))
+      ∙ rw (framing_body old piece n f.within f.framing) (ap (λ r. body_of r (drop n piece)) (sym f.read ∙ mid-is)
+      ∙ body_of_faulted mid.sum fault (drop n piece))
 
   module _ (left : ℕ) (at : mid.place ≡ Data left) (m : ℕ) (count : m ≡ min (left + 1) (length piece - n)) where
     mid-data : run old (take n piece) ≡ record { sum = mid.sum; place = Data left }
@@ -189,6 +201,7 @@ module _ (old : ChunkReader) (piece : List ℕ) (n : ℕ) (mid : ChunkReader) (f
       | inl early ↦ framing_end_first k early
       | inr late ↦
           let index : k ≡ n + (k - n) = omega arith in
-          let here : run old (take k piece) ≡ data_behind mid.sum left (k - n) = ap (λ j. run old (take j piece)) index ∙ run_at (k - n) (omega arith) in
+          let here : run old (take k piece) ≡ data_behind mid.sum left (k - n) =
+          ap (λ j. run old (take j piece)) index ∙ run_at (k - n) (omega arith) in
           ap end_of here ∙ end_of_behind mid.sum left (k - n)
     ]

@@ -5,7 +5,8 @@ use Rattle.adapt_bytes.specs.Numeral.{Writes}
 use Rattle.icap_chunks.specs.declared.extension.Item.{Item}
 use Rattle.icap_chunks.specs.declared.extension.Item.TheVariants.{Blank}
 use Rattle.icap_chunks.specs.declared.positions.Position.{Position}
-use Rattle.icap_chunks.specs.declared.positions.Position.TheVariants.{Digits, Pad, Extension, LineCr, Data, DataEnd, DataCr, TrailerStart, Trailer, TrailerCr, LastCr, Ended, Faulted}
+use Rattle.icap_chunks.specs.declared.positions.Position.TheVariants.{Digits, Pad, Extension, LineCr, Data, DataEnd, DataCr, TrailerStart}
+use Rattle.icap_chunks.specs.declared.positions.Position.TheVariants.{Trailer, TrailerCr, LastCr, Ended, Faulted}
 use Rattle.adapt_bytes.specs.Text.{is_blank}
 use Rattle.icap_chunks.specs.Grammar.{is_line_byte, AllPass, SizeLine, print_line, has_ieof, IsSizeLine, Chunks, TrailerLines, IsChunked}
 use Rattle.icap_chunks.specs.Machine.{item_with, is_word}
@@ -104,8 +105,10 @@ LeavesAt text body sum (Data more) = InChunk text body sum (more + 1) []
 LeavesAt text body sum DataEnd = InChunk text body sum 0 []
 LeavesAt text body sum DataCr = InChunk text body sum 0 (13 ∷ [])
 LeavesAt text body sum (TrailerStart count ieof) = InTrailers text body sum count ieof []
-LeavesAt text body sum (Trailer count ieof) = (part : List ℕ) × InTrailers text body sum count ieof part × (0 < length part) × AllPass is_line_byte part
-LeavesAt text body sum (TrailerCr count ieof) = (part : List ℕ) × InTrailers text body sum count ieof (part ++ 13 ∷ []) × (0 < length part) × AllPass is_line_byte part
+LeavesAt text body sum (Trailer count ieof) = (part : List ℕ) × InTrailers text body sum count ieof part × (0 < length part)
+    × AllPass is_line_byte part
+LeavesAt text body sum (TrailerCr count ieof) = (part : List ℕ) × InTrailers text body sum count ieof (part ++ 13 ∷ []) × (0 < length part)
+    × AllPass is_line_byte part
 LeavesAt text body sum (LastCr count ieof) = InTrailers text body sum count ieof (13 ∷ [])
 LeavesAt text body sum (Ended ieof) = HasEnded text body ieof
 LeavesAt text body sum (Faulted fault) = Unit {0}

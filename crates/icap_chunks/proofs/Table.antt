@@ -1,13 +1,17 @@
 -- The reader's step answers the fault of the table.
-use Rattle.std.proofs.Common.{◌≡◌, ℕ, ◌+◌, ◌*◌, ◌^◌, ◌<◌, Bool, not, ◌||◌, ◌&&◌, List, [], ◌∷◌, ◌++◌, length, Some, None, ap, ◌∙◌, arith, if◌then◌else◌, ◌==◌, nat_le}
+use Rattle.std.proofs.Common.{◌≡◌, ℕ, ◌+◌, ◌*◌, ◌^◌, ◌<◌, Bool, not, ◌||◌, ◌&&◌, List, [], ◌∷◌, ◌++◌, length, Some, None, ap, ◌∙◌, arith}
+use Rattle.std.proofs.Common.{if◌then◌else◌, ◌==◌, nat_le}
 use Rattle.std.proofs.lemmas.Bool.Decides.{nat_tests}
 use Rattle.std.specs.Char.{digit_value}
 use Rattle.std.specs.Str.Parse.{digits_value}
 use Rattle.icap_chunks.specs.declared.extension.Item.{Item}
 use Rattle.icap_chunks.specs.declared.fault.ChunkFault.TheVariants.{Size, TooBig, Line}
-use Rattle.icap_chunks.specs.declared.positions.Position.TheVariants.{Digits, Pad, Extension, LineCr, Data, DataEnd, DataCr, TrailerStart, Trailer, TrailerCr, LastCr}
-use Rattle.icap_chunks.specs.Machine.{fault_of, faulted_at, step, in_digits, in_pad, in_extension, in_line_cr, in_data, in_data_end, in_data_cr, in_trailer_start, in_trailer, in_trailer_cr, in_last_cr}
-use Rattle.icap_chunks.specs.Faults.{in_line, behind_line, behind_data, behind_data_cr, in_trailers, behind_trailers_cr, is_hex_digit, ends_size, fault_at}
+use Rattle.icap_chunks.specs.declared.positions.Position.TheVariants.{Digits, Pad, Extension, LineCr, Data, DataEnd, DataCr, TrailerStart}
+use Rattle.icap_chunks.specs.declared.positions.Position.TheVariants.{Trailer, TrailerCr, LastCr}
+use Rattle.icap_chunks.specs.Machine.{fault_of, faulted_at, step, in_digits, in_pad, in_extension, in_line_cr, in_data, in_data_end}
+use Rattle.icap_chunks.specs.Machine.{in_data_cr, in_trailer_start, in_trailer, in_trailer_cr, in_last_cr}
+use Rattle.icap_chunks.specs.Faults.{in_line, behind_line, behind_data, behind_data_cr, in_trailers, behind_trailers_cr, is_hex_digit}
+use Rattle.icap_chunks.specs.Faults.{ends_size, fault_at}
 use Rattle.icap_chunks.specs.Faults.{in_data as within_data}
 use Rattle.icap_chunks.proofs.Walks.{at}
 
@@ -39,7 +43,9 @@ extension_body sum count size b item found = grind (arith, nat_tests)
 
 pub digits_table : (sum count size b : ℕ) (digits : List ℕ) → count ≡ length (digits ++ ([] ++ [])) → size ≡ digits_value 16 digits
     → fault_of (step (at sum (Digits count size)) b) ≡ fault_at sum (in_line digits [] None) b
-digits_table sum count size b [] count_is size_is = ap (λ n. fault_of (step (at sum (Digits n size)) b)) count_is ∙ ap (λ v. fault_of (step (at sum (Digits 0 v)) b)) size_is ∙ first_digit sum b
+digits_table sum count size b [] count_is size_is =
+    ap (λ n. fault_of (step (at sum (Digits n size)) b)) count_is ∙ ap (λ v. fault_of (step (at sum (Digits 0 v)) b)) size_is
+    ∙ first_digit sum b
 digits_table sum count size b (d ∷ digits) count_is size_is =
     ap (λ n. fault_of (step (at sum (Digits n size)) b)) count_is
     ∙ ap (λ v. fault_of (step (at sum (Digits (length ((d ∷ digits) ++ ([] ++ []))) v)) b)) size_is
@@ -80,18 +86,22 @@ data_cr_table sum base b = grind (arith, nat_tests)
 
 -- ---- trailers
 
-pub trailer_start_table : (sum base count b : ℕ) (ieof : Bool) → fault_of (step (at sum (TrailerStart count ieof)) b) ≡ fault_at base (in_trailers count) b
+pub trailer_start_table : (sum base count b : ℕ) (ieof : Bool)
+    → fault_of (step (at sum (TrailerStart count ieof)) b) ≡ fault_at base (in_trailers count) b
 unfolding step in_trailer_start faulted_at
 trailer_start_table sum base count b ieof = grind (arith, nat_tests)
 
-pub trailer_table : (sum base count b : ℕ) (ieof : Bool) → fault_of (step (at sum (Trailer count ieof)) b) ≡ fault_at base (in_trailers count) b
+pub trailer_table : (sum base count b : ℕ) (ieof : Bool)
+    → fault_of (step (at sum (Trailer count ieof)) b) ≡ fault_at base (in_trailers count) b
 unfolding step in_trailer faulted_at
 trailer_table sum base count b ieof = grind (arith, nat_tests)
 
-pub trailer_cr_table : (sum base count b : ℕ) (ieof : Bool) → fault_of (step (at sum (TrailerCr count ieof)) b) ≡ fault_at base (behind_trailers_cr count) b
+pub trailer_cr_table : (sum base count b : ℕ) (ieof : Bool)
+    → fault_of (step (at sum (TrailerCr count ieof)) b) ≡ fault_at base (behind_trailers_cr count) b
 unfolding step in_trailer_cr faulted_at
 trailer_cr_table sum base count b ieof = grind (arith, nat_tests)
 
-pub last_cr_table : (sum base count b : ℕ) (ieof : Bool) → fault_of (step (at sum (LastCr count ieof)) b) ≡ fault_at base (behind_trailers_cr count) b
+pub last_cr_table : (sum base count b : ℕ) (ieof : Bool)
+    → fault_of (step (at sum (LastCr count ieof)) b) ≡ fault_at base (behind_trailers_cr count) b
 unfolding step in_last_cr faulted_at
 last_cr_table sum base count b ieof = grind (arith, nat_tests)

@@ -1,5 +1,6 @@
 -- Each text has a reading.
-use Rattle.std.proofs.Common.{◌≡◌, ℕ, zero, suc, ◌+◌, ◌<◌, ◌≤◌, ◌⊎◌, Bool, List, length, take, Option, Some, None, refl, sym, ap, ◌∙◌, subst, arith, take_all, take-take, length-take-le, inl, inr}
+use Rattle.std.proofs.Common.{◌≡◌, ℕ, zero, suc, ◌+◌, ◌<◌, ◌≤◌, ◌⊎◌, Bool, List, length, take, Option, Some, None, refl, sym, ap, ◌∙◌}
+use Rattle.std.proofs.Common.{subst, arith, take_all, take-take, length-take-le, inl, inr}
 use Rattle.std.proofs.lemmas.Bool.{cases_lt}
 use Rattle.icap_chunks.specs.declared.fault.ChunkFault.{ChunkFault}
 use Rattle.icap_chunks.specs.declared.pieces.Outcome.{Outcome}
@@ -52,16 +53,29 @@ some_reading text = elim (first_end text (length text + 1)) [
   | inl found ↦ ended found.0 found.1 (let l = found.2 in omega arith) found.3 found.4
   | inr none ↦ elim (fault_kinds (fault_of (run start text))) [
     | inl broken ↦ (body_of start text, Faulted broken.0, (answers_faults text (body_of start text) broken.0).0 (broken.1, refl))
-    | inr sound ↦ (body_of start text, More, reads_more text (body_of start text) (run start text) (record { read = refl; found = refl; first = λ k l. none k (omega arith) }) (at_all none) sound)
+    | inr sound ↦ (
+      body_of start text,
+      More,
+      reads_more text (body_of start text) (run start text)
+          (record { read = refl; found = refl; first = λ k l. none k (omega arith) }) (at_all none) sound,
+    )
   ]
 ]
   where
     at_all : NoneEnds text (length text + 1) → end_of (run start text) ≡ None
     at_all none = ap (λ t. end_of (run start t)) (sym (take_all (length text) text (omega arith))) ∙ none (length text) (omega arith)
 
-    ended : (k : ℕ) (ieof : Bool) → k ≤ length text → end_of (run start (take k text)) ≡ Some ieof → NoneEnds text k → (body : List ℕ) × (outcome : Outcome) × IsReading text body outcome
+    ended : (k : ℕ) (ieof : Bool) → k ≤ length text → end_of (run start (take k text)) ≡ Some ieof → NoneEnds text k
+        → (body : List ℕ) × (outcome : Outcome) × IsReading text body outcome
     ended k ieof inside e none =
         let n = length-take-le k text inside in
         let front = take k text in
-        let is = (reads_chunked front (body_of start front) ieof).0 (record { ended = e; first = λ j l. ap (λ t. end_of (run start t)) (take-take j k text (omega (arith, n))) ∙ none j (omega (arith, n)) }, refl) in
+        let is = (reads_chunked front (body_of start front) ieof).0 (
+          record {
+            ended = e;
+            first = λ j l. ap (λ t. end_of (run start t)) (take-take j k text (omega (arith, n)))
+                ∙ none j (omega (arith, n));
+          },
+          refl,
+        ) in
         (body_of start front, Ended ieof k, (inside, is))

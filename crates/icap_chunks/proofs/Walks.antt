@@ -1,5 +1,7 @@
 -- What a reader makes of each part of a body that the grammar has.
-use Rattle.std.proofs.Common.{◌≡◌, ℕ, suc, ◌+◌, ◌-◌, ◌*◌, ◌<◌, ◌≤◌, Bool, true, false, true≢false, ◌||◌, List, [], ◌∷◌, ◌++◌, length, Option, Some, None, refl, sym, ap, ◌∙◌, arith, append_assoc, nat_lt, nat_le, if◌then◌else◌, ◌==◌, length-append, map, inl, inr, zero-add, add-zero, lit<}
+use Rattle.std.proofs.Common.{◌≡◌, ℕ, suc, ◌+◌, ◌-◌, ◌*◌, ◌<◌, ◌≤◌, Bool, true, false, true≢false, ◌||◌, List, [], ◌∷◌, ◌++◌, length}
+use Rattle.std.proofs.Common.{Option, Some, None, refl, sym, ap, ◌∙◌, arith, append_assoc, nat_lt, nat_le, if◌then◌else◌, ◌==◌}
+use Rattle.std.proofs.Common.{length-append, map, inl, inr, zero-add, add-zero, lit<}
 use Rattle.std.proofs.lemmas.List.{append-nil}
 use Rattle.std.proofs.lemmas.Bool.{cases_lt}
 use Rattle.std.proofs.lemmas.Bool.Decides.{nat_tests}
@@ -10,11 +12,14 @@ use Rattle.std.specs.Str.Parse.{AllDigits, digits_value_after, digits_value}
 use Rattle.icap_chunks.specs.declared.extension.Item.{Item}
 use Rattle.icap_chunks.specs.declared.extension.Item.TheVariants.{Blank}
 use Rattle.icap_chunks.specs.declared.positions.Position.{Position}
-use Rattle.icap_chunks.specs.declared.positions.Position.TheVariants.{Digits, Pad, Extension, LineCr, Data, DataEnd, DataCr, TrailerStart, Trailer, TrailerCr, LastCr, Ended}
+use Rattle.icap_chunks.specs.declared.positions.Position.TheVariants.{Digits, Pad, Extension, LineCr, Data, DataEnd, DataCr, TrailerStart}
+use Rattle.icap_chunks.specs.declared.positions.Position.TheVariants.{Trailer, TrailerCr, LastCr, Ended}
 use Rattle.icap_chunks.specs.declared.reader.ChunkReader.{ChunkReader}
 use Rattle.adapt_bytes.specs.Text.{is_blank}
-use Rattle.icap_chunks.specs.Grammar.{crlf, is_line_byte, AllPass, SizeLine, print_line, print_extension, IsExtension, has_ieof, IsSizeLine, Chunks, no_chunk, chunk, TrailerLines, no_line, line, IsChunked}
-use Rattle.icap_chunks.specs.Machine.{start, step, run, body_of, is_data, item_with, in_digits, in_pad, in_extension, in_line_cr, in_data_end, in_data_cr, in_trailer_start, in_trailer, in_trailer_cr, in_last_cr, data_behind}
+use Rattle.icap_chunks.specs.Grammar.{crlf, is_line_byte, AllPass, SizeLine, print_line, print_extension, IsExtension, has_ieof, IsSizeLine}
+use Rattle.icap_chunks.specs.Grammar.{Chunks, no_chunk, chunk, TrailerLines, no_line, line, IsChunked}
+use Rattle.icap_chunks.specs.Machine.{start, step, run, body_of, is_data, item_with, in_digits, in_pad, in_extension, in_line_cr}
+use Rattle.icap_chunks.specs.Machine.{in_data_end, in_data_cr, in_trailer_start, in_trailer, in_trailer_cr, in_last_cr, data_behind}
 use Rattle.icap_chunks.specs.Machine as machine
 use Rattle.icap_chunks.proofs.Runs.{run-append, body_of-append, run_data, body_of_data, behind_all}
 use Rattle.icap_chunks.proofs.Standing.{extension_with, extension_behind}
@@ -93,13 +98,16 @@ of {r} {s} {xs} {ys} {a} w e = record { reads = ap (run r) (sym e) ∙ w.reads; 
 pub finding : {r s : ChunkReader} {xs a b : List ℕ} → Walk r xs a s → a ≡ b → Walk r xs b s
 finding w e = record { reads = w.reads; finds = w.finds ∙ e }
 
-pub digits_walk : (sum count size : ℕ) (ds : List ℕ) → AllDigits 16 ds → count + length ds ≤ 256 → digits_value_after 16 size ds < 4611686018427387904
+pub digits_walk : (sum count size : ℕ) (ds : List ℕ) → AllDigits 16 ds → count + length ds ≤ 256
+    → digits_value_after 16 size ds < 4611686018427387904
     → Walk (at sum (Digits count size)) ds [] (at sum (Digits (count + length ds) (digits_value_after 16 size ds)))
-digits_walk sum count size [] all short fits = to (stay _) (let same : count ≡ count + 0 = omega arith in ap (λ k. at sum (Digits k size)) same)
+digits_walk sum count size [] all short fits = to (stay _) (let same : count ≡ count + 0 = omega arith in
+    ap (λ k. at sum (Digits k size)) same)
 digits_walk sum count size (d ∷ ds) all short fits =
     let grows = after_ge 16 (size * 16 + digit_value d) ds (omega arith) in
     let same : (count + 1) + length ds ≡ count + suc (length ds) = omega arith in
-    to (on (digit sum count size d (omega arith) all.0 (omega arith)) (digits_walk sum (count + 1) (size * 16 + digit_value d) ds all.1 (omega arith) fits))
+    to (on (digit sum count size d (omega arith) all.0 (omega arith)) (digits_walk sum (count + 1) (size * 16 + digit_value d) ds all.1
+    (omega arith) fits))
     (ap (λ k. at sum (Digits k (digits_value_after 16 (size * 16 + digit_value d) ds))) same)
 
 blank_not : (b c : ℕ) → is_blank c ≡ false → is_blank b ≡ true → b ≡ c → ⊥
@@ -112,14 +120,23 @@ blank_small b pass = elim (cases_lt b 48) [
 ]
   where
     no_high : (b : ℕ) → 48 ≤ b → is_blank b ≡ true → ⊥
-    no_high b high pass = let f : is_blank b ≡ false = neither (ne b 32 (λ e. omega arith)) (ne b 9 (λ e. omega arith)) in absurd (true≢false (sym pass ∙ f))
+    no_high b high pass = let f : is_blank b ≡ false = neither (ne b 32 (λ e. omega arith)) (ne b 9 (λ e. omega arith)) in
+        absurd (true≢false (sym pass ∙ f))
 
-pub first_blank : (sum count size b : ℕ) → 0 < count → count < 256 → is_blank b ≡ true → Walk (at sum (Digits count size)) (b ∷ []) [] (at sum (Pad (count + 1) size))
+pub first_blank : (sum count size b : ℕ) → 0 < count → count < 256 → is_blank b ≡ true
+    → Walk (at sum (Digits count size)) (b ∷ []) [] (at sum (Pad (count + 1) size))
 unfolding is_data step in_digits
 first_blank sum count size b pos short pass = byte _ b _ refl
-    (rw (ne b 13 (blank_not b 13 refl pass), room_left b count (blank_not b 10 refl pass) short, blank_small b pass, ne count 0 (λ e. omega arith), pass) refl)
+    (rw (
+      ne b 13 (blank_not b 13 refl pass),
+      room_left b count (blank_not b 10 refl pass) short,
+      blank_small b pass,
+      ne count 0 (λ e. omega arith),
+      pass,
+    ) refl)
 
-pub next_blank : (sum count size b : ℕ) → count < 256 → is_blank b ≡ true → Walk (at sum (Pad count size)) (b ∷ []) [] (at sum (Pad (count + 1) size))
+pub next_blank : (sum count size b : ℕ) → count < 256 → is_blank b ≡ true
+    → Walk (at sum (Pad count size)) (b ∷ []) [] (at sum (Pad (count + 1) size))
 unfolding is_data step in_pad
 next_blank sum count size b short pass = byte _ b _ refl
     (rw (ne b 13 (blank_not b 13 refl pass), room_left b count (blank_not b 10 refl pass) short, pass) refl)
@@ -145,17 +162,20 @@ unfolding is_data step in_extension
 extension_byte sum count size s b short pass = byte _ b _ refl
     (rw (ne b 13 (line_byte_not b 13 refl pass), room_left b count (line_byte_not b 10 refl pass) short) (by_byte (b == 59)))
   where
-    by_byte : (t : Bool) → at sum (if t then Extension (count + 1) size Blank (s.1 || machine.is_word s.0) else Extension (count + 1) size (item_with s.0 b) s.1)
+    by_byte : (t : Bool) → at sum (if t then Extension (count + 1) size Blank (s.1 || machine.is_word s.0) else Extension (count + 1) size
+        (item_with s.0 b) s.1)
         ≡ extends sum (count + 1) size (if t then (Blank, s.1 || machine.is_word s.0) else (item_with s.0 b, s.1))
     by_byte true = refl
     by_byte false = refl
 
 pub extension_walk : (sum count size : ℕ) (s : Item × Bool) (text : List ℕ) → AllPass is_line_byte text → count + length text ≤ 256
     → Walk (extends sum count size s) text [] (extends sum (count + length text) size (extension_behind s text))
-extension_walk sum count size s [] all short = to (stay _) (let same : count ≡ count + 0 = omega arith in ap (λ k. extends sum k size s) same)
+extension_walk sum count size s [] all short = to (stay _) (let same : count ≡ count + 0 = omega arith in
+    ap (λ k. extends sum k size s) same)
 extension_walk sum count size s (b ∷ text) all short =
     let same : (count + 1) + length text ≡ count + suc (length text) = omega arith in
-    to (on (extension_byte sum count size s b (omega arith) all.0) (extension_walk sum (count + 1) size (extension_with s b) text all.1 (omega arith)))
+    to (on (extension_byte sum count size s b (omega arith) all.0) (extension_walk sum (count + 1) size (extension_with s b) text all.1
+    (omega arith)))
     (ap (λ k. extends sum k size (extension_behind (extension_with s b) text)) same)
 
 pub extension_end : (sum count size : ℕ) (s : Item × Bool) → Walk (extends sum count size s) (13 ∷ []) [] (at sum (LineCr size (answer s)))
@@ -166,7 +186,8 @@ pub pad_end : (sum count size : ℕ) → Walk (at sum (Pad count size)) (13 ∷ 
 unfolding is_data step in_pad
 pad_end sum count size = byte _ 13 _ refl refl
 
-pub pad_extension : (sum count size : ℕ) → count < 256 → Walk (at sum (Pad count size)) (59 ∷ []) [] (extends sum (count + 1) size (Blank, false))
+pub pad_extension : (sum count size : ℕ) → count < 256
+    → Walk (at sum (Pad count size)) (59 ∷ []) [] (extends sum (count + 1) size (Blank, false))
 unfolding is_data step in_pad
 pad_extension sum count size short = byte _ 59 _ refl (rw (nle 256 count short) refl)
 
@@ -174,7 +195,8 @@ pub digits_end : (sum count size : ℕ) → 0 < count → Walk (at sum (Digits c
 unfolding is_data step in_digits
 digits_end sum count size pos = byte _ 13 _ refl (rw (ne count 0 (λ e. omega arith)) refl)
 
-pub digits_extension : (sum count size : ℕ) → 0 < count → count < 256 → Walk (at sum (Digits count size)) (59 ∷ []) [] (extends sum (count + 1) size (Blank, false))
+pub digits_extension : (sum count size : ℕ) → 0 < count → count < 256
+    → Walk (at sum (Digits count size)) (59 ∷ []) [] (extends sum (count + 1) size (Blank, false))
 unfolding is_data step in_digits
 digits_extension sum count size pos short = byte _ 59 _ refl (rw (nle 256 count short, ne count 0 (λ e. omega arith)) refl)
 
@@ -184,7 +206,8 @@ pub behind_blanks : (sum count size : ℕ) (r : ChunkReader) (ends : Walk r (13 
     → count + length (print_extension e) ≤ 256 → Walk r (print_extension e ++ 13 ∷ []) [] (at sum (LineCr size (has_ieof e)))
 behind_blanks sum count size r ends goes None all short = ends
 behind_blanks sum count size r ends goes (Some text) all short =
-    to (on (goes (omega arith)) (on (extension_walk sum (count + 1) size (Blank, false) text all (omega arith)) (extension_end sum (count + 1 + length text) size (extension_behind (Blank, false) text))))
+    to (on (goes (omega arith)) (on (extension_walk sum (count + 1) size (Blank, false) text all (omega arith))
+    (extension_end sum (count + 1 + length text) size (extension_behind (Blank, false) text))))
     (ap (λ x. at sum (LineCr size x)) (extension_found text))
 
 behind_digits : (sum count size : ℕ) (pad : List ℕ) (e : Option (List ℕ)) → 0 < count → AllPass is_blank pad → IsExtension e
@@ -194,10 +217,12 @@ behind_digits sum count size [] e pos blanks all short =
     behind_blanks sum count size _ (digits_end sum count size pos) (digits_extension sum count size pos) e all (omega arith)
 behind_digits sum count size (b ∷ pad) e pos blanks all short =
     on (first_blank sum count size b pos (omega arith) blanks.0) (on (blanks_walk sum (count + 1) size pad blanks.1 (omega arith))
-    (behind_blanks sum (count + 1 + length pad) size _ (pad_end sum _ size) (pad_extension sum (count + 1 + length pad) size) e all (omega arith)))
+    (behind_blanks sum (count + 1 + length pad) size _ (pad_end sum _ size) (pad_extension sum (count + 1 + length pad) size) e all
+    (omega arith)))
 
 -- a size line, up to its CR
-pub line_walk : (sum : ℕ) (l : SizeLine) (size : ℕ) → IsSizeLine l size → Walk (at sum (Digits 0 0)) (print_line l ++ 13 ∷ []) [] (at sum (LineCr size (has_ieof l.extension)))
+pub line_walk : (sum : ℕ) (l : SizeLine) (size : ℕ) → IsSizeLine l size
+    → Walk (at sum (Digits 0 0)) (print_line l ++ 13 ∷ []) [] (at sum (LineCr size (has_ieof l.extension)))
 line_walk sum l size is =
     let len = length-append l.digits (l.pad ++ print_extension l.extension) in
     let tail = length-append l.pad (print_extension l.extension) in
@@ -206,17 +231,21 @@ line_walk sum l size is =
     let low : digits_value_after 16 0 l.digits < 4611686018427387904 = rw value is.fits in
     let first = digits_walk sum 0 0 l.digits is.digits.digits.1 (omega arith) low in
     let same : at sum (Digits (0 + length l.digits) (digits_value_after 16 0 l.digits)) ≡ at sum (Digits (length l.digits) size)
-    = ap (λ k. at sum (Digits k (digits_value 16 l.digits))) (zero-add (length l.digits)) ∙ ap (λ v. at sum (Digits (length l.digits) v)) value in
-    of (on (to first same) (behind_digits sum (length l.digits) size l.pad l.extension is.digits.digits.0 is.pad is.extension (omega arith)))
+    = ap (λ k. at sum (Digits k (digits_value 16 l.digits))) (zero-add (length l.digits))
+    ∙ ap (λ v. at sum (Digits (length l.digits) v)) value in
+    of (on (to first same) (behind_digits sum (length l.digits) size l.pad l.extension is.digits.digits.0 is.pad is.extension
+    (omega arith)))
     (simp append_assoc)
 
 -- ---- behind a size line
 
-pub size_end : (sum size : ℕ) (ieof : Bool) → 0 < size → sum + size < 4611686018427387904 → Walk (at sum (LineCr size ieof)) (10 ∷ []) [] (at (sum + size) (Data (size - 1)))
+pub size_end : (sum size : ℕ) (ieof : Bool) → 0 < size → sum + size < 4611686018427387904
+    → Walk (at sum (LineCr size ieof)) (10 ∷ []) [] (at (sum + size) (Data (size - 1)))
 unfolding is_data step in_line_cr
 size_end sum size ieof pos fits = byte _ 10 _ refl (rw (lt (sum + size) 4611686018427387904 fits, ne size 0 (λ e. omega arith)) refl)
 
-pub last_end : (sum : ℕ) (ieof : Bool) → sum < 4611686018427387904 → Walk (at sum (LineCr 0 ieof)) (10 ∷ []) [] (at sum (TrailerStart 0 ieof))
+pub last_end : (sum : ℕ) (ieof : Bool) → sum < 4611686018427387904
+    → Walk (at sum (LineCr 0 ieof)) (10 ∷ []) [] (at sum (TrailerStart 0 ieof))
 unfolding is_data step in_line_cr
 last_end sum ieof fits = byte _ 10 _ refl (rw (add-zero sum, lt sum 4611686018427387904 fits) refl)
 
@@ -234,10 +263,12 @@ pub data_cr : (sum : ℕ) → Walk (at sum DataCr) (10 ∷ []) [] (at sum (Digit
 unfolding is_data step in_data_cr
 data_cr sum = byte _ 10 _ refl refl
 
-pub chunk_walk : (sum : ℕ) (l : SizeLine) (bytes : List ℕ) → IsSizeLine l (length bytes) → 0 < length bytes → sum + length bytes < 4611686018427387904
+pub chunk_walk : (sum : ℕ) (l : SizeLine) (bytes : List ℕ) → IsSizeLine l (length bytes) → 0 < length bytes
+    → sum + length bytes < 4611686018427387904
     → Walk (at sum (Digits 0 0)) (print_line l ++ (13 ∷ 10 ∷ (bytes ++ crlf))) bytes (at (sum + length bytes) (Digits 0 0))
 chunk_walk sum l bytes is pos fits =
-    let found = on (line_walk sum l (length bytes) is) (on (size_end sum (length bytes) (has_ieof l.extension) pos fits) (on (data_walk (sum + length bytes) bytes pos)
+    let found = on (line_walk sum l (length bytes) is) (on (size_end sum (length bytes) (has_ieof l.extension) pos fits)
+    (on (data_walk (sum + length bytes) bytes pos)
     (on (data_end (sum + length bytes)) (data_cr (sum + length bytes))))) in
     finding (of found (append_assoc (print_line l) (13 ∷ []) (10 ∷ (bytes ++ crlf)))) (append-nil bytes)
 
@@ -257,19 +288,29 @@ module _ (sum : ℕ) (ieof : Bool) where
   trailer_room : (b count : ℕ) → (b ≡ 10 → ⊥) → count < 8192 → ((b == 10) || nat_le 8192 count) ≡ false
   trailer_room b count h l = neither (ne b 10 h) (nle 8192 count l)
 
-  pub first_trailer : (count b : ℕ) → count < 8192 → is_line_byte b ≡ true → Walk (at sum (TrailerStart count ieof)) (b ∷ []) [] (at sum (Trailer (count + 1) ieof))
+  pub first_trailer : (count b : ℕ) → count < 8192 → is_line_byte b ≡ true
+      → Walk (at sum (TrailerStart count ieof)) (b ∷ []) [] (at sum (Trailer (count + 1) ieof))
   unfolding is_data step in_trailer_start
-  first_trailer count b short pass = byte _ b _ refl (rw (trailer_room b count (line_byte_not b 10 refl pass) short, ne b 13 (line_byte_not b 13 refl pass)) refl)
+  first_trailer count b short pass = byte _ b _ refl (rw (
+    trailer_room b count (line_byte_not b 10 refl pass) short,
+    ne b 13 (line_byte_not b 13 refl pass),
+  ) refl)
 
-  pub next_trailer : (count b : ℕ) → count < 8192 → is_line_byte b ≡ true → Walk (at sum (Trailer count ieof)) (b ∷ []) [] (at sum (Trailer (count + 1) ieof))
+  pub next_trailer : (count b : ℕ) → count < 8192 → is_line_byte b ≡ true
+      → Walk (at sum (Trailer count ieof)) (b ∷ []) [] (at sum (Trailer (count + 1) ieof))
   unfolding is_data step in_trailer
-  next_trailer count b short pass = byte _ b _ refl (rw (trailer_room b count (line_byte_not b 10 refl pass) short, ne b 13 (line_byte_not b 13 refl pass)) refl)
+  next_trailer count b short pass = byte _ b _ refl (rw (
+    trailer_room b count (line_byte_not b 10 refl pass) short,
+    ne b 13 (line_byte_not b 13 refl pass),
+  ) refl)
 
-  pub trailer_bytes : (count : ℕ) (bytes : List ℕ) → AllPass is_line_byte bytes → count + length bytes ≤ 8192 → Walk (at sum (Trailer count ieof)) bytes [] (at sum (Trailer (count + length bytes) ieof))
+  pub trailer_bytes : (count : ℕ) (bytes : List ℕ) → AllPass is_line_byte bytes → count + length bytes ≤ 8192
+      → Walk (at sum (Trailer count ieof)) bytes [] (at sum (Trailer (count + length bytes) ieof))
   trailer_bytes count [] all short = to (stay _) (let same : count ≡ count + 0 = omega arith in ap (λ k. at sum (Trailer k ieof)) same)
   trailer_bytes count (b ∷ bytes) all short =
       let same : (count + 1) + length bytes ≡ count + suc (length bytes) = omega arith in
-      to (on (next_trailer count b (omega arith) all.0) (trailer_bytes (count + 1) bytes all.1 (omega arith))) (ap (λ k. at sum (Trailer k ieof)) same)
+      to (on (next_trailer count b (omega arith) all.0) (trailer_bytes (count + 1) bytes all.1 (omega arith)))
+      (ap (λ k. at sum (Trailer k ieof)) same)
 
   pub trailer_end : (count : ℕ) → count < 8192 → Walk (at sum (Trailer count ieof)) (13 ∷ []) [] (at sum (TrailerCr (count + 1) ieof))
   unfolding is_data step in_trailer
@@ -288,13 +329,15 @@ module _ (sum : ℕ) (ieof : Bool) where
       (on (trailer_end (count + 1 + length bytes) (omega arith)) (trailer_cr (count + 1 + length bytes + 1) (omega arith)))))
       (ap (λ k. at sum (TrailerStart k ieof)) same)
 
-  pub trailers_walk : {text : List ℕ} → TrailerLines text → length text ≤ 8192 → Walk (at sum (TrailerStart 0 ieof)) text [] (at sum (TrailerStart (length text) ieof))
+  pub trailers_walk : {text : List ℕ} → TrailerLines text → length text ≤ 8192
+      → Walk (at sum (TrailerStart 0 ieof)) text [] (at sum (TrailerStart (length text) ieof))
   trailers_walk no_line short = stay _
   trailers_walk (line {text} t bytes pos all) short =
       let len = length-append text (bytes ++ crlf) in
       let len2 = length-append bytes crlf in
       let same : length text + length bytes + 2 ≡ length (text ++ (bytes ++ crlf)) = omega arith in
-      to (on (trailers_walk t (omega arith)) (trailer_walk (length text) bytes pos all (omega arith))) (ap (λ k. at sum (TrailerStart k ieof)) same)
+      to (on (trailers_walk t (omega arith)) (trailer_walk (length text) bytes pos all (omega arith)))
+      (ap (λ k. at sum (TrailerStart k ieof)) same)
 
   pub final_end : (count : ℕ) → count < 8192 → Walk (at sum (TrailerStart count ieof)) (13 ∷ []) [] (at sum (LastCr (count + 1) ieof))
   unfolding is_data step in_trailer_start
@@ -308,21 +351,26 @@ module _ (sum : ℕ) (ieof : Bool) where
 abbrev pub all_but_last : {text body : List ℕ} {ieof : Bool} → IsChunked text body ieof → List ℕ
 all_but_last w = w.front ++ (print_line w.last ++ (13 ∷ 10 ∷ (w.trailers ++ 13 ∷ [])))
 
-pub open_walk : (text body : List ℕ) (ieof : Bool) (w : IsChunked text body ieof) → Walk start (all_but_last w) body (at (length body) (LastCr (length w.trailers + 1) ieof))
+pub open_walk : (text body : List ℕ) (ieof : Bool) (w : IsChunked text body ieof)
+    → Walk start (all_but_last w) body (at (length body) (LastCr (length w.trailers + 1) ieof))
 open_walk text body ieof w =
     let fits = chunks_fit w.chunks in
     let sum = length body in
     let found = has_ieof w.last.extension in
-    let last = on (line_walk sum w.last 0 w.is_last) (on (last_end sum found fits) (on (trailers_walk sum found w.lines (omega (arith, w.short)))
+    let last = on (line_walk sum w.last 0 w.is_last) (on (last_end sum found fits)
+    (on (trailers_walk sum found w.lines (omega (arith, w.short)))
     (final_end sum found (length w.trailers) (omega (arith, w.short))))) in
     let all = on (chunks_walk w.chunks) (of last (append_assoc (print_line w.last) (13 ∷ []) (10 ∷ (w.trailers ++ 13 ∷ [])))) in
     finding (to all (ap (λ x. at sum (LastCr (length w.trailers + 1) x)) w.ieof_is)) (append-nil body)
 
 pub all_but_last-is : (text body : List ℕ) (ieof : Bool) (w : IsChunked text body ieof) → text ≡ all_but_last w ++ 10 ∷ []
-all_but_last-is text body ieof w = w.text_is ∙ sym (append_assoc w.front (print_line w.last ++ (13 ∷ 10 ∷ (w.trailers ++ 13 ∷ []))) (10 ∷ [])
+all_but_last-is text body ieof w = w.text_is ∙ sym (append_assoc w.front (print_line w.last ++ (13 ∷ 10 ∷ (w.trailers ++ 13 ∷ [])))
+    (10 ∷ [])
     ∙ ap (λ x. w.front ++ x) (append_assoc (print_line w.last) (13 ∷ 10 ∷ (w.trailers ++ 13 ∷ [])) (10 ∷ [])
     ∙ ap (λ x. print_line w.last ++ (13 ∷ 10 ∷ x)) (append_assoc w.trailers (13 ∷ []) (10 ∷ []))))
 
 -- a whole body
 pub whole_walk : (text body : List ℕ) (ieof : Bool) → IsChunked text body ieof → Walk start text body (at (length body) (Ended ieof))
-whole_walk text body ieof w = finding (of (on (open_walk text body ieof w) (final_feed (length body) ieof (length w.trailers + 1) (omega (arith, w.short)))) (sym (all_but_last-is text body ieof w))) (append-nil body)
+whole_walk text body ieof w = finding (of (on (open_walk text body ieof w)
+    (final_feed (length body) ieof (length w.trailers + 1) (omega (arith, w.short)))) (sym (all_but_last-is text body ieof w)))
+    (append-nil body)

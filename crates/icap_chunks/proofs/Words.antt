@@ -1,5 +1,6 @@
 -- How a reader finds `ieof` in an extension.
-use Rattle.std.proofs.Common.{◌≡◌, ℕ, Bool, true, false, ◌||◌, ◌&&◌, List, [], ◌∷◌, ◌++◌, map, reverse, refl, sym, ap, ◌∙◌, if◌then◌else◌, ◌==◌, eqb-true, bytes_eq, codes}
+use Rattle.std.proofs.Common.{◌≡◌, ℕ, Bool, true, false, ◌||◌, ◌&&◌, List, [], ◌∷◌, ◌++◌, map, reverse, refl, sym, ap, ◌∙◌, if◌then◌else◌}
+use Rattle.std.proofs.Common.{◌==◌, eqb-true, bytes_eq, codes}
 use Rattle.std.specs.List.{list_any, onto_first}
 use Rattle.std.specs.Char.{to_ascii_lowercase}
 use Rattle.std.specs.Str.{str_eq_ignore_ascii_case}
@@ -50,16 +51,19 @@ skip_last (c ∷ text) b = by_test (is_blank c) (skip_last text b)
     turned = reverse-append (c ∷ []) text
 
     whole : reverse ((c ∷ text) ++ b ∷ []) ≡ kept (is_blank b) b (reverse (c ∷ text))
-    whole = reverse-append (c ∷ text) (b ∷ []) ∙ ap (λ x. b ∷ x) turned ∙ sym (kept_last (is_blank b) b (reverse text) c) ∙ ap (kept (is_blank b) b) (sym turned)
+    whole = reverse-append (c ∷ text) (b ∷ []) ∙ ap (λ x. b ∷ x) turned ∙ sym (kept_last (is_blank b) b (reverse text) c)
+        ∙ ap (kept (is_blank b) b) (sym turned)
 
     by_test : (t : Bool) → reverse (skip_blanks (text ++ b ∷ [])) ≡ kept (is_blank b) b (reverse (skip_blanks text))
-        → reverse (if t then skip_blanks (text ++ b ∷ []) else c ∷ (text ++ b ∷ [])) ≡ kept (is_blank b) b (reverse (if t then skip_blanks text else c ∷ text))
+        → reverse (if t then skip_blanks (text ++ b ∷ []) else c ∷ (text ++ b ∷ []))
+        ≡ kept (is_blank b) b (reverse (if t then skip_blanks text else c ∷ text))
     by_test true h = h
     by_test false h = whole
 
 trimmed_end_is : (text : List ℕ) → reverse (skip_blanks (reverse text)) ≡ trimmed_end text
 trimmed_end_is [] = refl
-trimmed_end_is (b ∷ text) = ap (λ x. reverse (skip_blanks x)) (reverse-append (b ∷ []) text) ∙ skip_last (reverse text) b ∙ ap (kept (is_blank b) b) (trimmed_end_is text)
+trimmed_end_is (b ∷ text) = ap (λ x. reverse (skip_blanks x)) (reverse-append (b ∷ []) text) ∙ skip_last (reverse text) b
+    ∙ ap (kept (is_blank b) b) (trimmed_end_is text)
 
 -- the text spells the lower-case word, with any blanks at its end
 abbrev spells : List ℕ → List ℕ → Bool
@@ -97,8 +101,10 @@ letter_then letter word next b bytes apart behind = by_rest (is_blank b) (trimme
     chosen true x h = h
     chosen false x h = other bytes
 
-    by_rest : (t : Bool) (rest : List ℕ) → (t ≡ true → (to_ascii_lowercase b == letter) ≡ false) → tells next bytes ≡ bytes_eq (map to_ascii_lowercase rest) word
-        → tells (if to_ascii_lowercase b == letter then next else Other) bytes ≡ bytes_eq (map to_ascii_lowercase (kept t b rest)) (letter ∷ word)
+    by_rest : (t : Bool) (rest : List ℕ) → (t ≡ true → (to_ascii_lowercase b == letter) ≡ false)
+        → tells next bytes ≡ bytes_eq (map to_ascii_lowercase rest) word
+        → tells (if to_ascii_lowercase b == letter then next else Other) bytes
+        ≡ bytes_eq (map to_ascii_lowercase (kept t b rest)) (letter ∷ word)
     by_rest true [] never h = ap (λ x. tells (if x then next else Other) bytes) (never refl) ∙ other bytes
     by_rest true (c ∷ rest) never h = chosen (to_ascii_lowercase b == letter) _ h
     by_rest false [] never h = chosen (to_ascii_lowercase b == letter) _ h
@@ -122,11 +128,13 @@ behind_i (b ∷ bytes) = letter_then 101 (codes "of") Ie b bytes (no_blank 101 r
 behind_blanks : (bytes : List ℕ) → tells Blank bytes ≡ spells (codes "ieof") (skip_blanks bytes)
 unfolding machine.item_with machine.is_word
 behind_blanks [] = refl
-behind_blanks (b ∷ bytes) = by_test (is_blank b) (behind_blanks bytes) (letter_then 105 (codes "eof") I b bytes (no_blank 105 refl refl) (behind_i bytes))
+behind_blanks (b ∷ bytes) = by_test (is_blank b) (behind_blanks bytes) (letter_then 105 (codes "eof") I b bytes (no_blank 105 refl refl)
+    (behind_i bytes))
   where
     by_test : (t : Bool) → tells Blank bytes ≡ spells (codes "ieof") (skip_blanks bytes)
         → tells (if to_ascii_lowercase b == 105 then I else Other) bytes ≡ spells (codes "ieof") (b ∷ bytes)
-        → tells (if t then Blank else (if to_ascii_lowercase b == 105 then I else Other)) bytes ≡ spells (codes "ieof") (if t then skip_blanks bytes else b ∷ bytes)
+        → tells (if t then Blank else (if to_ascii_lowercase b == 105 then I else Other)) bytes
+        ≡ spells (codes "ieof") (if t then skip_blanks bytes else b ∷ bytes)
     by_test true p q = p
     by_test false p q = q
 
@@ -135,7 +143,8 @@ item_found : (bytes : List ℕ) → tells Blank bytes ≡ is_ieof bytes
 unfolding trim
 item_found bytes = behind_blanks bytes ∙ ap (λ x. str_eq_ignore_ascii_case x (codes "ieof")) (sym (trimmed_end_is (skip_blanks bytes)))
 
-pub extension_behind-append : (s : Item × Bool) (xs ys : List ℕ) → extension_behind s (xs ++ ys) ≡ extension_behind (extension_behind s xs) ys
+pub extension_behind-append : (s : Item × Bool) (xs ys : List ℕ)
+    → extension_behind s (xs ++ ys) ≡ extension_behind (extension_behind s xs) ys
 extension_behind-append s [] ys = refl
 extension_behind-append s (x ∷ xs) ys = extension_behind-append (extension_with s x) xs ys
 
@@ -167,14 +176,16 @@ any_from-onto_first i b (part ∷ parts) = refl
 
 pub answer_behind : (s : Item × Bool) (text : List ℕ) → answer (extension_behind s text) ≡ (s.1 || any_from s.0 (items text))
 answer_behind s [] = ap (λ x. s.1 || x) (sym (or_false (machine.is_word s.0)))
-answer_behind s (b ∷ text) = by_byte (b == 59) s b text (answer_behind (Blank, s.1 || machine.is_word s.0) text) (answer_behind (machine.item_with s.0 b, s.1) text)
+answer_behind s (b ∷ text) = by_byte (b == 59) s b text (answer_behind (Blank, s.1 || machine.is_word s.0) text)
+    (answer_behind (machine.item_with s.0 b, s.1) text)
   where
     by_byte : (t : Bool) (s : Item × Bool) (b : ℕ) (text : List ℕ)
         → answer (extension_behind (Blank, s.1 || machine.is_word s.0) text) ≡ ((s.1 || machine.is_word s.0) || any_from Blank (items text))
         → answer (extension_behind (machine.item_with s.0 b, s.1) text) ≡ (s.1 || any_from (machine.item_with s.0 b) (items text))
         → answer (extension_behind (if t then (Blank, s.1 || machine.is_word s.0) else (machine.item_with s.0 b, s.1)) text)
         ≡ (s.1 || any_from s.0 (if t then [] ∷ items text else onto_first b (items text)))
-    by_byte true s b text p q = p ∙ or_assoc s.1 (machine.is_word s.0) _ ∙ ap (λ x. s.1 || (machine.is_word s.0 || x)) (any_from_blank (items text))
+    by_byte true s b text p q = p ∙ or_assoc s.1 (machine.is_word s.0) _
+        ∙ ap (λ x. s.1 || (machine.is_word s.0 || x)) (any_from_blank (items text))
     by_byte false s b text p q = q ∙ ap (λ x. s.1 || x) (sym (any_from-onto_first s.0 b (items text)))
 
 -- a reader has found `ieof` in an extension just where it has such an item

@@ -1,10 +1,12 @@
 -- What is written is a body in chunks, with the bytes that were handed in; and a text has one reading.
-use Rattle.std.proofs.Common.{◌≡◌, ℕ, ◌+◌, ◌<◌, Bool, true, false, List, [], ◌∷◌, ◌++◌, length, Some, None, refl, sym, ap, ◌∙◌, subst, arith, append_assoc, length-append, lit<, lit≤}
+use Rattle.std.proofs.Common.{◌≡◌, ℕ, ◌+◌, ◌<◌, Bool, true, false, List, [], ◌∷◌, ◌++◌, length, Some, None, refl, sym, ap, ◌∙◌, subst}
+use Rattle.std.proofs.Common.{arith, append_assoc, length-append, lit<, lit≤}
 use Rattle.std.proofs.lemmas.List.{append-nil}
 use Rattle.adapt_bytes.specs.Numeral.{numeral}
 use Rattle.adapt_bytes.specs.Text.{trim}
 use Rattle.adapt_bytes.proofs.Written.{Writes-numeral, length-numeral-le}
-use Rattle.icap_chunks.specs.Grammar.{crlf, SizeLine, print_line, IsSizeLine, Chunks, chunk, no_line, IsChunked, chunk_head, last_chunk, has_ieof}
+use Rattle.icap_chunks.specs.Grammar.{crlf, SizeLine, print_line, IsSizeLine, Chunks, chunk, no_line, IsChunked, chunk_head, last_chunk}
+use Rattle.icap_chunks.specs.Grammar.{has_ieof}
 use Rattle.icap_chunks.proofs.Endings.{chunked_ends}
 
 abbrev pub plain_line : ℕ → SizeLine
@@ -40,8 +42,20 @@ last_line true = record { digits = 48 ∷ []; pad = []; extension = Some (32 ∷
 last_line false = record { digits = 48 ∷ []; pad = []; extension = None }
 
 last_is : (ieof : Bool) → IsSizeLine (last_line ieof) 0
-last_is true = record { digits = record { digits = (lit< tt, (lit< tt, tt)); value = refl }; pad = tt; extension = (refl, (refl, (refl, (refl, (refl, tt))))); short = lit≤ tt; fits = lit< tt }
-last_is false = record { digits = record { digits = (lit< tt, (lit< tt, tt)); value = refl }; pad = tt; extension = tt; short = lit≤ tt; fits = lit< tt }
+last_is true = record {
+  digits = record { digits = (lit< tt, (lit< tt, tt)); value = refl };
+  pad = tt;
+  extension = (refl, (refl, (refl, (refl, (refl, tt)))));
+  short = lit≤ tt;
+  fits = lit< tt;
+}
+last_is false = record {
+  digits = record { digits = (lit< tt, (lit< tt, tt)); value = refl };
+  pad = tt;
+  extension = tt;
+  short = lit≤ tt;
+  fits = lit< tt;
+}
 
 last_text : (ieof : Bool) → print_line (last_line ieof) ++ (13 ∷ 10 ∷ ([] ++ crlf)) ≡ last_chunk ieof
 last_text true = refl

@@ -1,5 +1,6 @@
 -- Which byte breaks a chunked body, and how: RFC 9112, section 7.1, with bounds on a line, on the sizes and on the trailers.
-use Rattle.std.specs.Prelude.{◌≡◌, ℕ, ◌+◌, ◌*◌, ◌<◌, ◌≤◌, ◌⊎◌, Bool, false, not, ◌||◌, ◌&&◌, List, [], ◌∷◌, ◌++◌, length, Option, Some, None, if◌then◌else◌, ◌==◌, nat_lt, nat_le}
+use Rattle.std.specs.Prelude.{◌≡◌, ℕ, ◌+◌, ◌*◌, ◌<◌, ◌≤◌, ◌⊎◌, Bool, false, not, ◌||◌, ◌&&◌, List, [], ◌∷◌, ◌++◌, length, Option, Some}
+use Rattle.std.specs.Prelude.{None, if◌then◌else◌, ◌==◌, nat_lt, nat_le}
 use Rattle.std.specs.Char.{digit_value}
 use Rattle.std.specs.Str.Parse.{AllDigits, digits_value}
 use Rattle.icap_chunks.specs.declared.fault.ChunkFault.{ChunkFault}
@@ -7,7 +8,8 @@ use Rattle.icap_chunks.specs.declared.fault.ChunkFault.TheVariants.{Size, TooBig
 use Rattle.adapt_bytes.specs.Text.{is_blank}
 use Rattle.adapt_bytes.specs.declared.limits.TheConstants.{COUNT_LIMIT}
 use Rattle.icap_chunks.specs.declared.positions.TheConstants.{MAX_LINE, MAX_TRAILERS}
-use Rattle.icap_chunks.specs.Grammar.{is_line_byte, AllPass, SizeLine, print_line, print_extension, IsExtension, IsSizeLine, Chunks, TrailerLines}
+use Rattle.icap_chunks.specs.Grammar.{is_line_byte, AllPass, SizeLine, print_line, print_extension, IsExtension, IsSizeLine, Chunks}
+use Rattle.icap_chunks.specs.Grammar.{TrailerLines}
 
 -- what a text ends in, after its whole chunks
 pub data Part : Type 0 where
@@ -34,7 +36,8 @@ ends_size b = is_blank b || (b == 59 || b == 13)
 
 -- Line: LF without CR, another byte than CR after 256 of a size line, or another byte than LF after its CR
 abbrev pub is_line : Part → ℕ → Bool
-is_line (in_line digits pad extension) b = b == 10 || (nat_le MAX_LINE (length (digits ++ (pad ++ print_extension extension))) && not (b == 13))
+is_line (in_line digits pad extension) b = b == 10 || (nat_le MAX_LINE (length (digits ++ (pad ++ print_extension extension))) && not
+    (b == 13))
 is_line (behind_line size) b = not (b == 10)
 is_line _ b = false
 

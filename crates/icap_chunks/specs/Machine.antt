@@ -1,5 +1,6 @@
 -- What one byte makes of a reader, and what a list of bytes does.
-use Rattle.std.specs.Prelude.{◌≡◌, ℕ, ◌+◌, ◌-◌, ◌*◌, ◌<◌, Bool, true, false, ◌||◌, ◌&&◌, List, [], ◌∷◌, ◌++◌, length, take, Option, Some, None, if◌then◌else◌, ◌==◌, nat_lt, nat_le}
+use Rattle.std.specs.Prelude.{◌≡◌, ℕ, ◌+◌, ◌-◌, ◌*◌, ◌<◌, Bool, true, false, ◌||◌, ◌&&◌, List, [], ◌∷◌, ◌++◌, length, take, Option, Some}
+use Rattle.std.specs.Prelude.{None, if◌then◌else◌, ◌==◌, nat_lt, nat_le}
 use Rattle.std.specs.Char.{digit_value, to_ascii_lowercase}
 use Rattle.adapt_bytes.specs.Text.{is_blank}
 use Rattle.adapt_bytes.specs.declared.limits.TheConstants.{COUNT_LIMIT}
@@ -9,7 +10,8 @@ use Rattle.icap_chunks.specs.declared.fault.ChunkFault.TheVariants.{Size, TooBig
 use Rattle.icap_chunks.specs.declared.extension.Item.{Item}
 use Rattle.icap_chunks.specs.declared.extension.Item.TheVariants.{Blank, I, Ie, Ieo, Ieof, Other}
 use Rattle.icap_chunks.specs.declared.positions.Position.{Position}
-use Rattle.icap_chunks.specs.declared.positions.Position.TheVariants.{Digits, Pad, Extension, LineCr, Data, DataEnd, DataCr, TrailerStart, Trailer, TrailerCr, LastCr, Ended, Faulted}
+use Rattle.icap_chunks.specs.declared.positions.Position.TheVariants.{Digits, Pad, Extension, LineCr, Data, DataEnd, DataCr, TrailerStart}
+use Rattle.icap_chunks.specs.declared.positions.Position.TheVariants.{Trailer, TrailerCr, LastCr, Ended, Faulted}
 use Rattle.icap_chunks.specs.declared.reader.ChunkReader.{ChunkReader}
 
 -- an item of an extension with one more byte
@@ -31,7 +33,8 @@ unfoldable pub in_digits : ℕ → ℕ → ℕ → Position
 in_digits count size b =
     if b == 13 then (if count == 0 then Faulted Size else LineCr size false)
     else (if (b == 10) || nat_le MAX_LINE count then Faulted Line
-    else (if nat_lt (digit_value b) 16 then (if nat_lt (size * 16 + digit_value b) COUNT_LIMIT then Digits (count + 1) (size * 16 + digit_value b) else Faulted TooBig)
+    else (if nat_lt (digit_value b) 16 then (if nat_lt (size * 16 + digit_value b) COUNT_LIMIT then Digits (count + 1)
+    (size * 16 + digit_value b) else Faulted TooBig)
     else (if count == 0 then Faulted Size
     else (if is_blank b then Pad (count + 1) size
     else (if b == 59 then Extension (count + 1) size Blank false else Faulted Size)))))

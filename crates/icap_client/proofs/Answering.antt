@@ -16,8 +16,10 @@ use Rattle.icap_client.specs.Sending.{KeepsUnsent, Decides, sending_events}
 use Rattle.icap_client.specs.Turns.{GoesOn, WriteTurn, FitsOffer, FitsAnswer, events_of}
 use Rattle.icap_client.proofs.Turning.{goes_on, nothing_due}
 
-pub turned : {most : ℕ} (x : Seen) (tape : Tape) (next : Next) (v w : Writer) (before after : Past → Type 0) (result : Result Turn ClientFault) (answer : Option Put) (k : ℕ) (e : Bool)
-    → Sound x → KeepsUnsent x tape → Decides most x v next → Offers before after (offered v tape next) answer → (answer ≡ None ↔ offered v tape next ≡ []) → Moves tape next v k e (delta_of (offered v tape next) answer) w
+pub turned : {most : ℕ} (x : Seen) (tape : Tape) (next : Next) (v w : Writer) (before after : Past → Type 0)
+    (result : Result Turn ClientFault) (answer : Option Put) (k : ℕ) (e : Bool)
+    → Sound x → KeepsUnsent x tape → Decides most x v next → Offers before after (offered v tape next) answer
+    → (answer ≡ None ↔ offered v tape next ≡ []) → Moves tape next v k e (delta_of (offered v tape next) answer) w
     → events_of result ≡ sending_events k e → FitsOffer x w answer result → WriteTurn most x tape v w before after result
 turned x tape next v w before after result answer k e s u c o a m h f = record {
   next = next;
@@ -25,11 +27,13 @@ turned x tape next v w before after result answer k e s u c o a m h f = record {
   decides = c;
   wire = o;
   asks = a;
-  goes_on = subst (λ (events : List Event). GoesOn x tape v w events (delta_of (offered v tape next) answer)) (sym h) (goes_on x tape next v w k e (delta_of (offered v tape next) answer) s u c m);
+  goes_on = subst (λ (events : List Event). GoesOn x tape v w events (delta_of (offered v tape next) answer)) (sym h)
+      (goes_on x tape next v w k e (delta_of (offered v tape next) answer) s u c m);
   fits = f;
 }
 
-pub fits_took : (x : Seen) (w : Writer) (answer : Option Put) (n : ℕ) (turn : Turn) → answer ≡ Some (put.Took n) → (turn.waiting ≡ true → true ≡ false) → FitsAnswer x w answer turn
+pub fits_took : (x : Seen) (w : Writer) (answer : Option Put) (n : ℕ) (turn : Turn) → answer ≡ Some (put.Took n)
+    → (turn.waiting ≡ true → true ≡ false) → FitsAnswer x w answer turn
 fits_took x w answer n turn a t = record {
   no_fault = λ h. cc;
   wait = λ h. cc;
@@ -60,7 +64,8 @@ none_at_wait answer k e a s = none_by k e (still_wait answer k e a s)
 pub none_at_fault : (answer : Option Put) (k : ℕ) (e : Bool) → answer ≡ Some put.Fault → IsStill answer k e → [] ≡ sending_events k e
 none_at_fault answer k e a s = none_by k e (still_fault answer k e a s)
 
-pub fits_wait : (x : Seen) (w : Writer) (answer : Option Put) (turn : Turn) → answer ≡ Some put.Wait → turn.events.items ≡ [] → (turn.waiting ≡ false → turn.events.items ≡ [] → ⊥) → FitsAnswer x w answer turn
+pub fits_wait : (x : Seen) (w : Writer) (answer : Option Put) (turn : Turn) → answer ≡ Some put.Wait → turn.events.items ≡ []
+    → (turn.waiting ≡ false → turn.events.items ≡ [] → ⊥) → FitsAnswer x w answer turn
 fits_wait x w answer turn a n t = record {
   no_fault = λ h. cc;
   wait = λ h. n;
@@ -70,7 +75,9 @@ fits_wait x w answer turn a n t = record {
   woke = λ h i. t h n;
 }
 
-pub fits_none : {most : ℕ} (x : Seen) (tape : Tape) (next : Next) (v w : Writer) (answer : Option Put) (k : ℕ) (e : Bool) (d : List ℕ) (turn : Turn) → answer ≡ None → Decides most x v next → Moves tape next v k e d w → IsIdle v next k e → turn.events.items ≡ sending_events 0 e
+pub fits_none : {most : ℕ} (x : Seen) (tape : Tape) (next : Next) (v w : Writer) (answer : Option Put) (k : ℕ) (e : Bool) (d : List ℕ)
+    (turn : Turn) → answer ≡ None → Decides most x v next → Moves tape next v k e d w → IsIdle v next k e
+    → turn.events.items ≡ sending_events 0 e
     → (turn.waiting ≡ true → turn.events.items ≡ []) → (turn.waiting ≡ false → turn.events.items ≡ [] → ⊥) → FitsAnswer x w answer turn
 fits_none x tape next v w answer k e d turn a c m i h t f = record {
   no_fault = λ b. cc;

@@ -1,5 +1,6 @@
 -- A turn of an OPTIONS request's side.
-use Rattle.std.proofs.Common.{◌≡◌, ℕ, ◌<◌, ◌≤◌, ◌⊎◌, inl, inr, true, false, List, [], ◌++◌, length, take, drop, refl, ap, sym, subst, ◌∙◌, append_assoc, append-nil, Option, Some, None, IfSome, IfNone, Result, Ok, Err, IfOk, IfErr, option_map, arith}
+use Rattle.std.proofs.Common.{◌≡◌, ℕ, ◌<◌, ◌≤◌, ◌⊎◌, inl, inr, true, false, List, [], ◌++◌, length, take, drop, refl, ap, sym, subst, ◌∙◌}
+use Rattle.std.proofs.Common.{append_assoc, append-nil, Option, Some, None, IfSome, IfNone, Result, Ok, Err, IfOk, IfErr, option_map, arith}
 use Rattle.std.proofs.lemmas.List.{take-append-drop}
 use Rattle.wire_kit.specs.Past.{Past, Offers, FitsPut, after_write, part_taken}
 use Rattle.wire_kit.specs.declared.wire.Put.{Put}
@@ -12,7 +13,8 @@ use Rattle.adapt_sides.specs.Filling.{IsFilled}
 use Rattle.adapt_sides.specs.declared.filling.Filled.TheVariants as fills
 use Rattle.icap_client.specs.declared.options.OptionsStage.{OptionsStage}
 use Rattle.icap_client.specs.declared.options.OptionsStage.TheVariants.{Head, Body, Over}
-use Rattle.icap_client.specs.Asking.{IsOptionsAnswer, Asker, LetsRoomGo, AnsweredTo, HasAnswered, Tells, Frames, RefusesRaw, RefusesGiven, AnswersOptions, HasToAsk, Call, IsCall, FitsBytes, FitsKept, FitsCall, Asks}
+use Rattle.icap_client.specs.Asking.{IsOptionsAnswer, Asker, LetsRoomGo, AnsweredTo, HasAnswered, Tells, Frames, RefusesRaw, RefusesGiven}
+use Rattle.icap_client.specs.Asking.{AnswersOptions, HasToAsk, Call, IsCall, FitsBytes, FitsKept, FitsCall, Asks}
 use Rattle.icap_client.specs.Asking.Call.{offered, filled, rested}
 use Rattle.icap_client.proofs.Skipping.{tells_still, tells_then}
 
@@ -35,15 +37,23 @@ some_map None P Q f h = tt
 some_map (Some v) P Q f h = f v h
 
 -- bytes came, and more was framed
-answer_by : (old mid new : Asker) (given : List ℕ) (found : Option Response) → mid.stage ≡ old.stage → mid.response ≡ old.response → mid.raw ≡ old.raw ++ given → Frames mid new found → AnswersOptions old new given found
+answer_by : (old mid new : Asker) (given : List ℕ) (found : Option Response) → mid.stage ≡ old.stage → mid.response ≡ old.response
+    → mid.raw ≡ old.raw ++ given → Frames mid new found → AnswersOptions old new given found
 answer_by old mid new given found s r e g =
     let to_mid : (framed : List ℕ) → AnsweredTo old.stage old.response framed → AnsweredTo mid.stage mid.response framed = λ framed a.
-    subst (λ (t : OptionsStage). AnsweredTo t mid.response framed) (sym s) (subst (λ (o : Option Response). AnsweredTo old.stage o framed) (sym r) a) in
+    subst (λ (t : OptionsStage). AnsweredTo t mid.response framed) (sym s)
+    (subst (λ (o : Option Response). AnsweredTo old.stage o framed) (sym r) a) in
     let texts : (read framed : List ℕ) → read ≡ framed ++ old.raw → read ++ given ≡ (framed ++ g.used) ++ new.raw = λ read framed t.
-    ap (λ (l : List ℕ). l ++ given) t ∙ (append_assoc framed old.raw given ∙ (ap (λ (l : List ℕ). framed ++ l) (sym e ∙ g.raw_is) ∙ sym (append_assoc framed g.used new.raw))) in
+    ap (λ (l : List ℕ). l ++ given) t ∙ (append_assoc framed old.raw given
+    ∙ (ap (λ (l : List ℕ). framed ++ l) (sym e ∙ g.raw_is) ∙ sym (append_assoc framed g.used new.raw))) in
     record {
-      answered = λ read h. record { framed = h.framed ++ g.used; text_is = texts read h.framed h.text_is; answered = g.answered h.framed (to_mid h.framed h.answered) };
-      answer = λ read h. some_map found (λ v. IsOptionsAnswer v (h.framed ++ g.used)) (λ v. (text : List ℕ) × IsOptionsAnswer v text × (read ++ given ≡ text ++ new.raw))
+      answered = λ read h. record {
+        framed = h.framed ++ g.used;
+        text_is = texts read h.framed h.text_is;
+        answered = g.answered h.framed (to_mid h.framed h.answered);
+      };
+      answer = λ read h. some_map found (λ v. IsOptionsAnswer v (h.framed ++ g.used))
+          (λ v. (text : List ℕ) × IsOptionsAnswer v text × (read ++ given ≡ text ++ new.raw))
           (λ v a. (h.framed ++ g.used, a, texts read h.framed h.text_is)) (g.answer h.framed (to_mid h.framed h.answered));
       tells = subst (λ (t : OptionsStage). Tells t new.stage found) s g.tells;
     }
@@ -56,24 +66,33 @@ answers_same old new s r e = record {
   answered = λ read h. record {
     framed = h.framed;
     text_is = append-nil read ∙ (h.text_is ∙ ap (λ (t : List ℕ). h.framed ++ t) (sym e));
-    answered = subst (λ (t : OptionsStage). AnsweredTo t new.response h.framed) (sym s) (subst (λ (o : Option Response). AnsweredTo old.stage o h.framed) (sym r) h.answered);
+    answered = subst (λ (t : OptionsStage). AnsweredTo t new.response h.framed) (sym s)
+        (subst (λ (o : Option Response). AnsweredTo old.stage o h.framed) (sym r) h.answered);
   };
   answer = λ read h. tt;
   tells = tells_still old.stage new.stage s;
 }
 
 -- one behind the other, the first without an answer
-answers_then : (a b c : Asker) (d e : List ℕ) (found : Option Response) → AnswersOptions a b d None → AnswersOptions b c e found → AnswersOptions a c (d ++ e) found
+answers_then : (a b c : Asker) (d e : List ℕ) (found : Option Response) → AnswersOptions a b d None → AnswersOptions b c e found
+    → AnswersOptions a c (d ++ e) found
 answers_then a b c d e found f g = record {
   answered = λ read h. subst (λ (t : List ℕ). HasAnswered t c) (append_assoc read d e) (g.answered (read ++ d) (f.answered read h));
-  answer = λ read h. subst (λ (t : List ℕ). IfSome found (λ v. (text : List ℕ) × IsOptionsAnswer v text × (t ≡ text ++ c.raw))) (append_assoc read d e) (g.answer (read ++ d) (f.answered read h));
+  answer = λ read h. subst (λ (t : List ℕ). IfSome found (λ v. (text : List ℕ) × IsOptionsAnswer v text × (t ≡ text ++ c.raw)))
+      (append_assoc read d e) (g.answer (read ++ d) (f.answered read h));
   tells = tells_then a.stage b.stage c.stage found f.tells g.tells;
 }
 
-refused_by : (old mid : Asker) (given : List ℕ) (fault : ClientFault) → mid.stage ≡ old.stage → mid.response ≡ old.response → mid.raw ≡ old.raw ++ given → RefusesRaw fault mid → RefusesGiven fault old given
-refused_by old mid given fault s r e g = record { at = g.at; answers = answer_by old mid g.at given None s r e g.frames; refuses = g.refuses }
+refused_by : (old mid : Asker) (given : List ℕ) (fault : ClientFault) → mid.stage ≡ old.stage → mid.response ≡ old.response
+    → mid.raw ≡ old.raw ++ given → RefusesRaw fault mid → RefusesGiven fault old given
+refused_by old mid given fault s r e g = record {
+  at = g.at;
+  answers = answer_by old mid g.at given None s r e g.frames;
+  refuses = g.refuses;
+}
 
-refused_behind : (a b : Asker) (given : List ℕ) (fault : ClientFault) → AnswersOptions a b [] None → RefusesGiven fault b given → RefusesGiven fault a given
+refused_behind : (a b : Asker) (given : List ℕ) (fault : ClientFault) → AnswersOptions a b [] None → RefusesGiven fault b given
+    → RefusesGiven fault a given
 refused_behind a b given fault f g = record { at = g.at; answers = answers_then a b g.at [] given None f g.answers; refuses = g.refuses }
 
 -- ---- turns
@@ -83,7 +102,8 @@ ok_of (Ok x) P Q f h = f x h
 ok_of (Err e) P Q f h = tt
 
 -- the text that waits was offered
-is_offered : (old : Asker) (P Q : Past → Type 0) (bytes : List ℕ) (answer : Put) → bytes ≡ old.waiting → 0 < length old.waiting → ((p : Past) → P p → Q (after_write p bytes answer)) → FitsPut (length bytes) answer
+is_offered : (old : Asker) (P Q : Past → Type 0) (bytes : List ℕ) (answer : Put) → bytes ≡ old.waiting → 0 < length old.waiting
+    → ((p : Past) → P p → Q (after_write p bytes answer)) → FitsPut (length bytes) answer
     → IsCall (offered answer) P Q old [] (part_taken answer old.waiting)
 is_offered old P Q bytes answer is some q f = (
   some,
@@ -95,7 +115,8 @@ is_offered old P Q bytes answer is some q f = (
   refl,
 )
 
-pub asks_took : (old new : Asker) (P Q : Past → Type 0) (bytes : List ℕ) (n : ℕ) → bytes ≡ old.waiting → 0 < length old.waiting → (1 ≤ n) × (n ≤ length bytes) → ((p : Past) → P p → Q (after_write p bytes (put.Took n)))
+pub asks_took : (old new : Asker) (P Q : Past → Type 0) (bytes : List ℕ) (n : ℕ) → bytes ≡ old.waiting → 0 < length old.waiting
+    → (1 ≤ n) × (n ≤ length bytes) → ((p : Past) → P p → Q (after_write p bytes (put.Took n)))
     → new.waiting ≡ drop n bytes → new.stage ≡ old.stage → new.response ≡ old.response → new.raw ≡ old.raw → Asks old new P Q (Ok None)
 asks_took old new P Q bytes n is some f q w s r e = record {
   call = offered (put.Took n);
@@ -107,7 +128,8 @@ asks_took old new P Q bytes n is some f q w s r e = record {
   answers = answers_same old new s r e;
 }
 
-pub asks_later : (old new : Asker) (P Q : Past → Type 0) (bytes : List ℕ) → bytes ≡ old.waiting → 0 < length old.waiting → ((p : Past) → P p → Q (after_write p bytes put.Wait))
+pub asks_later : (old new : Asker) (P Q : Past → Type 0) (bytes : List ℕ) → bytes ≡ old.waiting → 0 < length old.waiting
+    → ((p : Past) → P p → Q (after_write p bytes put.Wait))
     → new.waiting ≡ old.waiting → new.stage ≡ old.stage → new.response ≡ old.response → new.raw ≡ old.raw → Asks old new P Q (Ok None)
 asks_later old new P Q bytes is some q w s r e = record {
   call = offered put.Wait;
@@ -119,7 +141,8 @@ asks_later old new P Q bytes is some q w s r e = record {
   answers = answers_same old new s r e;
 }
 
-pub asks_broken : (old new : Asker) (P Q : Past → Type 0) (bytes : List ℕ) → bytes ≡ old.waiting → 0 < length old.waiting → ((p : Past) → P p → Q (after_write p bytes put.Fault)) → new.waiting ≡ old.waiting
+pub asks_broken : (old new : Asker) (P Q : Past → Type 0) (bytes : List ℕ) → bytes ≡ old.waiting → 0 < length old.waiting
+    → ((p : Past) → P p → Q (after_write p bytes put.Fault)) → new.waiting ≡ old.waiting
     → Asks old new P Q (Err faults.Device)
 asks_broken old new P Q bytes is some q w = record {
   call = offered put.Fault;
@@ -132,13 +155,18 @@ asks_broken old new P Q bytes is some q w = record {
 }
 
 -- the wire was read
-bytes_fit : (old mid new : Asker) (given : List ℕ) (result : Result (Option IcapResponse) ClientFault) → mid.stage ≡ old.stage → mid.response ≡ old.response → mid.raw ≡ old.raw ++ given
-    → IfOk result (λ found. IfNone found (HasToAsk new.stage new.raw)) → IfErr result (λ fault. RefusesRaw fault mid) → FitsBytes old new given result
+bytes_fit : (old mid new : Asker) (given : List ℕ) (result : Result (Option IcapResponse) ClientFault) → mid.stage ≡ old.stage
+    → mid.response ≡ old.response → mid.raw ≡ old.raw ++ given
+    → IfOk result (λ found. IfNone found (HasToAsk new.stage new.raw)) → IfErr result (λ fault. RefusesRaw fault mid)
+    → FitsBytes old new given result
 bytes_fit old mid new given (Ok found) s r e t g = t
 bytes_fit old mid new given (Err fault) s r e t g = refused_by old mid given fault s r e g
 
-pub asks_bytes : (old mid new : Asker) (P Q : Past → Type 0) (raw : List ℕ) (result : Result (Option IcapResponse) ClientFault) → old.waiting ≡ [] → (old.stage ≡ Over → ⊥) → new.waiting ≡ old.waiting → IsFilled P Q old.raw raw fills.Bytes
-    → mid.stage ≡ old.stage → mid.response ≡ old.response → mid.raw ≡ raw → IfOk result (λ found. Frames mid new (option_map response_parts found)) → IfOk result (λ found. IfNone found (HasToAsk new.stage new.raw))
+pub asks_bytes : (old mid new : Asker) (P Q : Past → Type 0) (raw : List ℕ) (result : Result (Option IcapResponse) ClientFault)
+    → old.waiting ≡ [] → (old.stage ≡ Over → ⊥) → new.waiting ≡ old.waiting → IsFilled P Q old.raw raw fills.Bytes
+    → mid.stage ≡ old.stage → mid.response ≡ old.response → mid.raw ≡ raw
+    → IfOk result (λ found. Frames mid new (option_map response_parts found))
+    → IfOk result (λ found. IfNone found (HasToAsk new.stage new.raw))
     → IfErr result (λ fault. RefusesRaw fault mid) → Asks old new P Q result
 asks_bytes old mid new P Q raw result out on w f s r e g t b = record {
   call = filled fills.Bytes;
@@ -150,7 +178,8 @@ asks_bytes old mid new P Q raw result out on w f s r e g t b = record {
   answers = ok_of result _ _ (λ found h. answer_by old mid new f.0 (option_map response_parts found) s r (e ∙ f.2) h) g;
 }
 
-pub asks_wait : (old new : Asker) (P Q : Past → Type 0) (raw : List ℕ) → old.waiting ≡ [] → HasToAsk old.stage old.raw → new.waiting ≡ old.waiting → IsFilled P Q old.raw raw fills.Wait → new.stage ≡ old.stage → new.response ≡ old.response → new.raw ≡ raw
+pub asks_wait : (old new : Asker) (P Q : Past → Type 0) (raw : List ℕ) → old.waiting ≡ [] → HasToAsk old.stage old.raw
+    → new.waiting ≡ old.waiting → IsFilled P Q old.raw raw fills.Wait → new.stage ≡ old.stage → new.response ≡ old.response → new.raw ≡ raw
     → Asks old new P Q (Ok None)
 asks_wait old new P Q raw out h w f s r e = record {
   call = filled fills.Wait;
@@ -162,7 +191,8 @@ asks_wait old new P Q raw out h w f s r e = record {
   answers = answers_same old new s r (e ∙ f.0);
 }
 
-pub asks_ended : (old new : Asker) (P Q : Past → Type 0) (raw : List ℕ) → old.waiting ≡ [] → (old.stage ≡ Over → ⊥) → new.waiting ≡ old.waiting → IsFilled P Q old.raw raw fills.Ended → Asks old new P Q (Err faults.Closed)
+pub asks_ended : (old new : Asker) (P Q : Past → Type 0) (raw : List ℕ) → old.waiting ≡ [] → (old.stage ≡ Over → ⊥)
+    → new.waiting ≡ old.waiting → IsFilled P Q old.raw raw fills.Ended → Asks old new P Q (Err faults.Closed)
 asks_ended old new P Q raw out on w f = record {
   call = filled fills.Ended;
   given = [];
@@ -173,7 +203,8 @@ asks_ended old new P Q raw out on w f = record {
   answers = tt;
 }
 
-pub asks_failed : (old new : Asker) (P Q : Past → Type 0) (raw : List ℕ) → old.waiting ≡ [] → (old.stage ≡ Over → ⊥) → new.waiting ≡ old.waiting → IsFilled P Q old.raw raw fills.Failed → Asks old new P Q (Err faults.Device)
+pub asks_failed : (old new : Asker) (P Q : Past → Type 0) (raw : List ℕ) → old.waiting ≡ [] → (old.stage ≡ Over → ⊥)
+    → new.waiting ≡ old.waiting → IsFilled P Q old.raw raw fills.Failed → Asks old new P Q (Err faults.Device)
 asks_failed old new P Q raw out on w f = record {
   call = filled fills.Failed;
   given = [];
@@ -184,7 +215,8 @@ asks_failed old new P Q raw out on w f = record {
   answers = tt;
 }
 
-pub asks_full : (old new : Asker) (P Q : Past → Type 0) (raw : List ℕ) → old.waiting ≡ [] → (old.stage ≡ Over → ⊥) → new.waiting ≡ old.waiting → IsFilled P Q old.raw raw fills.NoMemory → Asks old new P Q (Err faults.NoMemory)
+pub asks_full : (old new : Asker) (P Q : Past → Type 0) (raw : List ℕ) → old.waiting ≡ [] → (old.stage ≡ Over → ⊥)
+    → new.waiting ≡ old.waiting → IsFilled P Q old.raw raw fills.NoMemory → Asks old new P Q (Err faults.NoMemory)
 asks_full old new P Q raw out on w f = record {
   call = filled fills.NoMemory;
   given = [];
@@ -207,7 +239,8 @@ asks_over old P out o = record {
   answers = answers_same old old refl refl refl;
 }
 
-pub asks_told : (old new : Asker) (P : Past → Type 0) (head : IcapResponse) → old.waiting ≡ [] → Frames old new (Some (response_parts head)) → Asks old new P P (Ok (Some head))
+pub asks_told : (old new : Asker) (P : Past → Type 0) (head : IcapResponse) → old.waiting ≡ [] → Frames old new (Some (response_parts head))
+    → Asks old new P P (Ok (Some head))
 asks_told old new P head out f = record {
   call = rested;
   given = [];
@@ -218,7 +251,8 @@ asks_told old new P head out f = record {
   answers = framed_none old new (Some (response_parts head)) f;
 }
 
-pub asks_refused : (old new : Asker) (P : Past → Type 0) (fault : ClientFault) → old.waiting ≡ [] → new.waiting ≡ old.waiting → RefusesRaw fault old → Asks old new P P (Err fault)
+pub asks_refused : (old new : Asker) (P : Past → Type 0) (fault : ClientFault) → old.waiting ≡ [] → new.waiting ≡ old.waiting
+    → RefusesRaw fault old → Asks old new P P (Err fault)
 asks_refused old new P fault out w g = record {
   call = rested;
   given = [];
@@ -231,12 +265,15 @@ asks_refused old new P fault out w g = record {
 
 -- ---- a turn behind bytes that were framed
 
-call_behind : (call : Call) (P Q : Past → Type 0) (old at : Asker) (given taken : List ℕ) → at.waiting ≡ old.waiting → (old.stage ≡ Over → ⊥) → IsCall call P Q at given taken → IsCall call P Q old given taken
-call_behind (offered answer) P Q old at given taken w n c = subst (λ (t : List ℕ). (0 < length t) × Offers P Q t (Some answer) × (given ≡ []) × (taken ≡ part_taken answer t)) w c
+call_behind : (call : Call) (P Q : Past → Type 0) (old at : Asker) (given taken : List ℕ) → at.waiting ≡ old.waiting
+    → (old.stage ≡ Over → ⊥) → IsCall call P Q at given taken → IsCall call P Q old given taken
+call_behind (offered answer) P Q old at given taken w n c =
+    subst (λ (t : List ℕ). (0 < length t) × Offers P Q t (Some answer) × (given ≡ []) × (taken ≡ part_taken answer t)) w c
 call_behind (filled answer) P Q old at given taken w n c = (sym w ∙ c.0, n, c.2, c.3)
 call_behind rested P Q old at given taken w n c = (sym w ∙ c.0, c.1, c.2, c.3)
 
-kept_behind : (old at : Asker) (result : Result (Option IcapResponse) ClientFault) → AnswersOptions old at [] None → FitsKept at result → FitsKept old result
+kept_behind : (old at : Asker) (result : Result (Option IcapResponse) ClientFault) → AnswersOptions old at [] None → FitsKept at result
+    → FitsKept old result
 kept_behind old at (Ok None) a f = was_over (a.tells.told f)
   where
     was_over : (old.stage ≡ Over) ⊎ (false ≡ true) → old.stage ≡ Over
@@ -245,11 +282,13 @@ kept_behind old at (Ok None) a f = was_over (a.tells.told f)
 kept_behind old at (Ok (Some head)) a f = tt
 kept_behind old at (Err fault) a f = refused_behind old at [] fault a f
 
-bytes_behind : (old at new : Asker) (given : List ℕ) (result : Result (Option IcapResponse) ClientFault) → AnswersOptions old at [] None → FitsBytes at new given result → FitsBytes old new given result
+bytes_behind : (old at new : Asker) (given : List ℕ) (result : Result (Option IcapResponse) ClientFault) → AnswersOptions old at [] None
+    → FitsBytes at new given result → FitsBytes old new given result
 bytes_behind old at new given (Ok found) a f = f
 bytes_behind old at new given (Err fault) a f = refused_behind old at given fault a f
 
-fits_behind : (call : Call) (old at new : Asker) (given : List ℕ) (result : Result (Option IcapResponse) ClientFault) → AnswersOptions old at [] None → FitsCall call at new given result → FitsCall call old new given result
+fits_behind : (call : Call) (old at new : Asker) (given : List ℕ) (result : Result (Option IcapResponse) ClientFault)
+    → AnswersOptions old at [] None → FitsCall call at new given result → FitsCall call old new given result
 fits_behind (offered (put.Took n)) old at new given result a f = f
 fits_behind (offered put.Wait) old at new given result a f = f
 fits_behind (offered put.Fault) old at new given result a f = f
@@ -260,7 +299,8 @@ fits_behind (filled fills.Failed) old at new given result a f = f
 fits_behind (filled fills.NoMemory) old at new given result a f = f
 fits_behind rested old at new given result a f = kept_behind old at result a f
 
-pub asks_behind : (old at new : Asker) (P Q : Past → Type 0) (result : Result (Option IcapResponse) ClientFault) → (old.stage ≡ Over → ⊥) → Frames old at None → Asks at new P Q result → Asks old new P Q result
+pub asks_behind : (old at new : Asker) (P Q : Past → Type 0) (result : Result (Option IcapResponse) ClientFault) → (old.stage ≡ Over → ⊥)
+    → Frames old at None → Asks at new P Q result → Asks old new P Q result
 asks_behind old at new P Q result n f a =
     let before = framed_none old at None f in
     record {
@@ -282,14 +322,17 @@ record IsLike (new kept : Asker) : Type 0 where
   pub raw : kept.raw ≡ new.raw
 
 ask_as : (new kept : Asker) → IsLike new kept → HasToAsk new.stage new.raw → HasToAsk kept.stage kept.raw
-ask_as new kept l h = subst (λ (s : OptionsStage). HasToAsk s kept.raw) (sym l.stage) (subst (λ (raw : List ℕ). HasToAsk new.stage raw) (sym l.raw) h)
+ask_as new kept l h = subst (λ (s : OptionsStage). HasToAsk s kept.raw) (sym l.stage)
+    (subst (λ (raw : List ℕ). HasToAsk new.stage raw) (sym l.raw) h)
 
-bytes_as : (old new kept : Asker) (given : List ℕ) (result : Result (Option IcapResponse) ClientFault) → IsLike new kept → FitsBytes old new given result → FitsBytes old kept given result
+bytes_as : (old new kept : Asker) (given : List ℕ) (result : Result (Option IcapResponse) ClientFault) → IsLike new kept
+    → FitsBytes old new given result → FitsBytes old kept given result
 bytes_as old new kept given (Ok None) l f = ask_as new kept l f
 bytes_as old new kept given (Ok (Some head)) l f = tt
 bytes_as old new kept given (Err fault) l f = f
 
-fits_as : (call : Call) (old new kept : Asker) (given : List ℕ) (result : Result (Option IcapResponse) ClientFault) → IsLike new kept → FitsCall call old new given result → FitsCall call old kept given result
+fits_as : (call : Call) (old new kept : Asker) (given : List ℕ) (result : Result (Option IcapResponse) ClientFault) → IsLike new kept
+    → FitsCall call old new given result → FitsCall call old kept given result
 fits_as (offered (put.Took n)) old new kept given result l f = f
 fits_as (offered put.Wait) old new kept given result l f = f
 fits_as (offered put.Fault) old new kept given result l f = f
@@ -304,18 +347,22 @@ answered_as : (read : List ℕ) (new kept : Asker) → IsLike new kept → HasAn
 answered_as read new kept l h = record {
   framed = h.framed;
   text_is = h.text_is ∙ ap (λ (raw : List ℕ). h.framed ++ raw) (sym l.raw);
-  answered = subst (λ (r : Option Response). AnsweredTo kept.stage r h.framed) (sym l.response) (subst (λ (s : OptionsStage). AnsweredTo s new.response h.framed) (sym l.stage) h.answered);
+  answered = subst (λ (r : Option Response). AnsweredTo kept.stage r h.framed) (sym l.response)
+      (subst (λ (s : OptionsStage). AnsweredTo s new.response h.framed) (sym l.stage) h.answered);
 }
 
-answers_as : (old new kept : Asker) (given : List ℕ) (found : Option Response) → IsLike new kept → AnswersOptions old new given found → AnswersOptions old kept given found
+answers_as : (old new kept : Asker) (given : List ℕ) (found : Option Response) → IsLike new kept → AnswersOptions old new given found
+    → AnswersOptions old kept given found
 answers_as old new kept given found l a = record {
   answered = λ read h. answered_as (read ++ given) new kept l (a.answered read h);
-  answer = λ read h. some_map found (λ v. (text : List ℕ) × IsOptionsAnswer v text × (read ++ given ≡ text ++ new.raw)) (λ v. (text : List ℕ) × IsOptionsAnswer v text × (read ++ given ≡ text ++ kept.raw))
+  answer = λ read h. some_map found (λ v. (text : List ℕ) × IsOptionsAnswer v text × (read ++ given ≡ text ++ new.raw))
+      (λ v. (text : List ℕ) × IsOptionsAnswer v text × (read ++ given ≡ text ++ kept.raw))
       (λ v k. (k.0, k.1, k.2 ∙ ap (λ (raw : List ℕ). k.0 ++ raw) (sym l.raw))) (a.answer read h);
   tells = subst (λ (t : OptionsStage). Tells old.stage t found) (sym l.stage) a.tells;
 }
 
-asks_as : (old new kept : Asker) (P Q : Past → Type 0) (result : Result (Option IcapResponse) ClientFault) → IsLike new kept → Asks old new P Q result → Asks old kept P Q result
+asks_as : (old new kept : Asker) (P Q : Past → Type 0) (result : Result (Option IcapResponse) ClientFault) → IsLike new kept
+    → Asks old new P Q result → Asks old kept P Q result
 asks_as old new kept P Q result l a = record {
   call = a.call;
   given = a.given;
@@ -326,9 +373,12 @@ asks_as old new kept P Q result l a = record {
   answers = ok_of result _ _ (λ found h. answers_as old new kept a.given (option_map response_parts found) l h) a.answers;
 }
 
-pub asks_kept : (old new kept : Asker) (P Q : Past → Type 0) (result : Result (Option IcapResponse) ClientFault) → kept.waiting ≡ new.waiting → kept.stage ≡ new.stage → kept.response ≡ new.response → kept.raw ≡ new.raw
+pub asks_kept : (old new kept : Asker) (P Q : Past → Type 0) (result : Result (Option IcapResponse) ClientFault)
+    → kept.waiting ≡ new.waiting → kept.stage ≡ new.stage → kept.response ≡ new.response → kept.raw ≡ new.raw
     → Asks old new P Q result → Asks old kept P Q result
 asks_kept old new kept P Q result w s r e a = asks_as old new kept P Q result (record { waiting = w; stage = s; response = r; raw = e }) a
 
-pub asks_drop_text : (old new kept : Asker) (P Q : Past → Type 0) (result : Result (Option IcapResponse) ClientFault) → LetsRoomGo new kept → Asks old new P Q result → Asks old kept P Q result
-asks_drop_text old new kept P Q result l a = asks_as old new kept P Q result (record { waiting = l.waiting; stage = l.stage; response = l.response; raw = l.raw }) a
+pub asks_drop_text : (old new kept : Asker) (P Q : Past → Type 0) (result : Result (Option IcapResponse) ClientFault) → LetsRoomGo new kept
+    → Asks old new P Q result → Asks old kept P Q result
+asks_drop_text old new kept P Q result l a = asks_as old new kept P Q result
+    (record { waiting = l.waiting; stage = l.stage; response = l.response; raw = l.raw }) a

@@ -1,5 +1,6 @@
 -- Runs of a body.
-use Rattle.std.proofs.Common.{◌≡◌, ℕ, ◌+◌, ◌<◌, ◌≤◌, List, [], ◌++◌, length, take, drop, refl, ap, sym, subst, ◌∙◌, append_assoc, append-nil, arith, Option, Some, None, is_some, Bool, false}
+use Rattle.std.proofs.Common.{◌≡◌, ℕ, ◌+◌, ◌<◌, ◌≤◌, List, [], ◌++◌, length, take, drop, refl, ap, sym, subst, ◌∙◌, append_assoc}
+use Rattle.std.proofs.Common.{append-nil, arith, Option, Some, None, is_some, Bool, false}
 use Rattle.std.proofs.lemmas.List.{take-take, take-append-drop, length-take, length-take-le, take-append-le}
 use Rattle.std.proofs.Math.Seq.{take-add, take-append-add}
 use Rattle.std.proofs.lemmas.Slice.{take-put_mid_below}
@@ -12,12 +13,15 @@ use Rattle.icap_chunks.proofs.Readings.{breaks_longer}
 use Rattle.icap_client.specs.Hearing.{ReadsOn, IsBodyNext}
 
 -- what breaks a first part breaks the whole
-pub breaks_whole : (old : ChunkReader) (raw piece : List ℕ) (m : ℕ) (fault : ChunkFault) → piece ≡ take m raw → ((text body : List ℕ) → HasRead text body old → Breaks (text ++ piece) body fault)
+pub breaks_whole : (old : ChunkReader) (raw piece : List ℕ) (m : ℕ) (fault : ChunkFault) → piece ≡ take m raw
+    → ((text body : List ℕ) → HasRead text body old → Breaks (text ++ piece) body fault)
     → (text body : List ℕ) → HasRead text body old → Breaks (text ++ raw) body fault
 breaks_whole old raw piece m fault is f text body h =
-    let longer : Breaks ((text ++ piece) ++ drop m raw) body fault = breaks_longer (text ++ piece) (drop m raw) body fault (f text body h) in
+    let longer : Breaks ((text ++ piece) ++ drop m raw) body fault =
+    breaks_longer (text ++ piece) (drop m raw) body fault (f text body h) in
     let joined : (text ++ piece) ++ drop m raw ≡ text ++ raw =
-    append_assoc text piece (drop m raw) ∙ ap (λ (t : List ℕ). text ++ t) (ap (λ (t : List ℕ). t ++ drop m raw) is ∙ take-append-drop m raw) in
+    append_assoc text piece (drop m raw) ∙ ap (λ (t : List ℕ). text ++ t)
+    (ap (λ (t : List ℕ). t ++ drop m raw) is ∙ take-append-drop m raw) in
     subst (λ (t : List ℕ). Breaks t body fault) joined longer
 
 -- what is read of a first part is read of the whole
@@ -29,7 +33,8 @@ reads_whole old new raw piece m used part is l f text body h =
     subst (λ (t : List ℕ). HasRead (text ++ t) (body ++ part) new) same (f text body h)
 
 -- the only byte of a piece is one of the body
-pub next_is_body : (old new : ChunkReader) (raw piece : List ℕ) (used : ℕ) (part : List ℕ) → piece ≡ take 1 raw → used ≡ 1 → used ≤ length piece → 0 < length part
+pub next_is_body : (old new : ChunkReader) (raw piece : List ℕ) (used : ℕ) (part : List ℕ) → piece ≡ take 1 raw → used ≡ 1
+    → used ≤ length piece → 0 < length part
     → ReadsOn old piece used part new → IsBodyNext old raw
 next_is_body old new raw piece used part is one l some f = record {
   part = part;
@@ -39,9 +44,11 @@ next_is_body old new raw piece used part is one l some f = record {
 }
 
 -- first so many bytes, then more of what is left
-pub reads_then : (a b c : ChunkReader) (raw : List ℕ) (m n : ℕ) (p q : List ℕ) → ReadsOn a raw m p b → ReadsOn b (drop m raw) n q c → ReadsOn a raw (m + n) (p ++ q) c
+pub reads_then : (a b c : ChunkReader) (raw : List ℕ) (m n : ℕ) (p q : List ℕ) → ReadsOn a raw m p b → ReadsOn b (drop m raw) n q c
+    → ReadsOn a raw (m + n) (p ++ q) c
 reads_then a b c raw m n p q f g text body h =
-    let both : HasRead ((text ++ take m raw) ++ take n (drop m raw)) ((body ++ p) ++ q) c = g (text ++ take m raw) (body ++ p) (f text body h) in
+    let both : HasRead ((text ++ take m raw) ++ take n (drop m raw)) ((body ++ p) ++ q) c =
+    g (text ++ take m raw) (body ++ p) (f text body h) in
     let texts : (text ++ take m raw) ++ take n (drop m raw) ≡ text ++ take (m + n) raw =
     append_assoc text (take m raw) (take n (drop m raw)) ∙ ap (λ (t : List ℕ). text ++ t) (sym (take-add m n raw)) in
     subst (λ (t : List ℕ). HasRead t (body ++ (p ++ q)) c) texts
@@ -55,30 +62,38 @@ taken_behind a k m xs ys h l =
     ∙ (take-append-add (take a xs) (ys ++ post_of a k xs) m ∙ ap (λ (t : List ℕ). take a xs ++ t) (take-append-le m ys (post_of a k xs) l))
 
 -- one more run, whose bytes go behind those before
-pub reads_more_runs : (a b c : ChunkReader) (raw rest : List ℕ) (used n : ℕ) (out ys : List ℕ) (count k m : ℕ) → ReadsOn a raw used (take count out) b → rest ≡ drop used raw → ReadsOn b rest n (take m ys) c
+pub reads_more_runs : (a b c : ChunkReader) (raw rest : List ℕ) (used n : ℕ) (out ys : List ℕ) (count k m : ℕ)
+    → ReadsOn a raw used (take count out) b → rest ≡ drop used raw → ReadsOn b rest n (take m ys) c
     → count ≤ length out → m ≤ length ys → ReadsOn a raw (used + n) (take (count + m) (put_mid count k out ys)) c
 reads_more_runs a b c raw rest used n out ys count k m f is g h l =
     subst (λ (t : List ℕ). ReadsOn a raw (used + n) t c) (sym (taken_behind count k m out ys h l))
     (reads_then a b c raw used n (take count out) (take m ys) f (subst (λ (t : List ℕ). ReadsOn b t n (take m ys) c) is g))
 
 -- no further run
-pub reads_kept : (a b c : ChunkReader) (raw : List ℕ) (used : ℕ) (out ys : List ℕ) (count k : ℕ) → ReadsOn a raw used (take count out) b → c ≡ b → count ≤ length out
+pub reads_kept : (a b c : ChunkReader) (raw : List ℕ) (used : ℕ) (out ys : List ℕ) (count k : ℕ) → ReadsOn a raw used (take count out) b
+    → c ≡ b → count ≤ length out
     → ReadsOn a raw used (take count (put_mid count k out ys)) c
 reads_kept a b c raw used out ys count k f e h =
     let same : count ≤ count = omega arith in
-    subst (λ (t : List ℕ). ReadsOn a raw used t c) (sym (take-put_mid_below count k out ys count same h)) (subst (λ (r : ChunkReader). ReadsOn a raw used (take count out) r) (sym e) f)
+    subst (λ (t : List ℕ). ReadsOn a raw used t c) (sym (take-put_mid_below count k out ys count same h))
+    (subst (λ (r : ChunkReader). ReadsOn a raw used (take count out) r) (sym e) f)
 
 pub reads_none : (a : ChunkReader) (raw : List ℕ) → ReadsOn a raw 0 [] a
-reads_none a raw text body h = subst (λ (t : List ℕ). HasRead t (body ++ []) a) (sym (append-nil text)) (subst (λ (t : List ℕ). HasRead text t a) (sym (append-nil body)) h)
+reads_none a raw text body h = subst (λ (t : List ℕ). HasRead t (body ++ []) a) (sym (append-nil text))
+    (subst (λ (t : List ℕ). HasRead text t a) (sym (append-nil body)) h)
 
 -- a fault behind bytes without any of the body
-pub breaks_behind : (a b : ChunkReader) (raw rest : List ℕ) (used count : ℕ) (out : List ℕ) (fault : ChunkFault) → count ≡ 0 → ReadsOn a raw used (take count out) b → rest ≡ drop used raw
-    → ((text body : List ℕ) → HasRead text body b → Breaks (text ++ rest) body fault) → (text body : List ℕ) → HasRead text body a → Breaks (text ++ raw) body fault
+pub breaks_behind : (a b : ChunkReader) (raw rest : List ℕ) (used count : ℕ) (out : List ℕ) (fault : ChunkFault) → count ≡ 0
+    → ReadsOn a raw used (take count out) b → rest ≡ drop used raw
+    → ((text body : List ℕ) → HasRead text body b → Breaks (text ++ rest) body fault) → (text body : List ℕ) → HasRead text body a
+    → Breaks (text ++ raw) body fault
 breaks_behind a b raw rest used count out fault z f is g text body h =
     let none : body ++ take count out ≡ body = ap (λ (n : ℕ). body ++ take n out) z ∙ append-nil body in
-    let there : Breaks ((text ++ take used raw) ++ rest) (body ++ take count out) fault = g (text ++ take used raw) (body ++ take count out) (f text body h) in
+    let there : Breaks ((text ++ take used raw) ++ rest) (body ++ take count out) fault =
+    g (text ++ take used raw) (body ++ take count out) (f text body h) in
     let texts : (text ++ take used raw) ++ rest ≡ text ++ raw =
-    append_assoc text (take used raw) rest ∙ ap (λ (t : List ℕ). text ++ t) (ap (λ (t : List ℕ). take used raw ++ t) is ∙ take-append-drop used raw) in
+    append_assoc text (take used raw) rest ∙ ap (λ (t : List ℕ). text ++ t)
+    (ap (λ (t : List ℕ). take used raw ++ t) is ∙ take-append-drop used raw) in
     subst (λ (t : List ℕ). Breaks t body fault) texts (subst (λ (t : List ℕ). Breaks ((text ++ take used raw) ++ rest) t fault) none there)
 
 not_some : {A : Type 0} (o : Option A) → is_some o ≡ false → o ≡ None

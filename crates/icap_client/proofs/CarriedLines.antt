@@ -12,7 +12,8 @@ use Rattle.icap_client.specs.Carried.{carried_text}
 both_parts : (names : List (List ℕ)) (xs ys : FieldList) → carried_text names (xs ++ ys) ≡ carried_text names xs ++ carried_text names ys
 both_parts names xs ys =
     ap (flat_map field_text) (filter-append (λ (field : List ℕ × List ℕ). is_among names field.0) xs ys)
-    ∙ flat_map-append field_text (filter (λ (field : List ℕ × List ℕ). is_among names field.0) xs) (filter (λ (field : List ℕ × List ℕ). is_among names field.0) ys)
+    ∙ flat_map-append field_text (filter (λ (field : List ℕ × List ℕ). is_among names field.0) xs)
+    (filter (λ (field : List ℕ × List ℕ). is_among names field.0) ys)
 
 -- with one field more
 pub carried_more : (names : List (List ℕ)) (fields : FieldList) (at : ℕ) → at < length fields

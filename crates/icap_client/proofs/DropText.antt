@@ -1,5 +1,6 @@
 -- The heads' text is let go once it is out.
-use Rattle.std.proofs.Common.{◌≡◌, ℕ, ◌+◌, ◌≤◌, Bool, true, false, List, ◌++◌, length, take, refl, ap, sym, subst, ◌∙◌, arith, Option, IfSome, Result, Ok, Err, ◌==◌}
+use Rattle.std.proofs.Common.{◌≡◌, ℕ, ◌+◌, ◌≤◌, Bool, true, false, List, ◌++◌, length, take, refl, ap, sym, subst, ◌∙◌, arith, Option}
+use Rattle.std.proofs.Common.{IfSome, Result, Ok, Err, ◌==◌}
 use Rattle.trace_core.specs.declared.history.Seen.{Seen}
 use Rattle.trace_core.specs.Legal.{open_preview}
 use Rattle.span_tape.specs.Tape.{Tape}
@@ -16,7 +17,8 @@ use Rattle.icap_client.specs.Front.{Front, HasBody}
 use Rattle.icap_client.specs.Sending.{HasSent, DropsText, NothingDue}
 use Rattle.icap_client.specs.Turns.{WriteTurn, FitsOffer, is_flushed}
 
-pub sent_still : (head : List ℕ) (x : Seen) (came taken : List ℕ) (old new : Writer) → DropsText old new → HasSent head x came taken old → HasSent head x came taken new
+pub sent_still : (head : List ℕ) (x : Seen) (came taken : List ℕ) (old new : Writer) → DropsText old new → HasSent head x came taken old
+    → HasSent head x came taken new
 sent_still head x came taken old new l h = record {
   chunks = h.chunks;
   fixed = ap (λ (t : List ℕ). taken ++ t) l.waiting_is ∙ h.fixed;
@@ -33,7 +35,8 @@ due_still x old new l n = record { flushed = l.waiting_is ∙ n.flushed; none = 
 pub flushed_still : (old new : Writer) → DropsText old new → is_flushed new ≡ is_flushed old
 flushed_still old new l = ap (λ (t : List ℕ). length t == 0) l.waiting_is
 
-fits_still : (x : Seen) (mid new : Writer) (answer : Option Put) (result : Result Turn ClientFault) → DropsText mid new → FitsOffer x mid answer result → FitsOffer x new answer result
+fits_still : (x : Seen) (mid new : Writer) (answer : Option Put) (result : Result Turn ClientFault) → DropsText mid new
+    → FitsOffer x mid answer result → FitsOffer x new answer result
 fits_still x mid new answer (Ok turn) l f = record {
   no_fault = f.no_fault;
   wait = f.wait;
@@ -44,7 +47,8 @@ fits_still x mid new answer (Ok turn) l f = record {
 }
 fits_still x mid new answer (Err fault) l f = f
 
-pub write_still : {most : ℕ} (x : Seen) (tape : Tape) (old mid new : Writer) (P Q : Past → Type 0) (result : Result Turn ClientFault) → DropsText mid new → WriteTurn most x tape old mid P Q result → WriteTurn most x tape old new P Q result
+pub write_still : {most : ℕ} (x : Seen) (tape : Tape) (old mid new : Writer) (P Q : Past → Type 0) (result : Result Turn ClientFault)
+    → DropsText mid new → WriteTurn most x tape old mid P Q result → WriteTurn most x tape old new P Q result
 write_still x tape old mid new P Q result l t = record {
   next = t.next;
   answer = t.answer;
@@ -64,9 +68,11 @@ same_head true v k = refl
 same_head false v k = refl
 
 -- no move of a turn changes the text
-pub head_kept : (tape : Tape) (next : Next) (old w : Writer) (k : ℕ) (e : Bool) (d : List ℕ) → Moves tape next old k e d w → w.head ≡ old.head
+pub head_kept : (tape : Tape) (next : Next) (old w : Writer) (k : ℕ) (e : Bool) (d : List ℕ) → Moves tape next old k e d w
+    → w.head ≡ old.head
 head_kept tape next old w k e d start = refl
 head_kept tape next old w k e d (passed {d = d'} {v = v} m part w' p) = p.head ∙ head_kept tape next old v k e d' m
 head_kept tape next old w k e d (begun_chunk {v = v} m c o l s) = head_kept tape next old v 0 false d m
-head_kept tape next old w k e d (sent {d = d'} {v = v} m k' o s few within) = same_head next.chunked v k ∙ head_kept tape next old v 0 false d' m
+head_kept tape next old w k e d (sent {d = d'} {v = v} m k' o s few within) =
+    same_head next.chunked v k ∙ head_kept tape next old v 0 false d' m
 head_kept tape next old w k e d (ended {v = v} m o a i) = head_kept tape next old v k false d m

@@ -19,14 +19,18 @@ is_false false e = refl
 
 more_judged : (judged : ℕ) (bytes delta : List ℕ) → judged ≤ length bytes → IsJudged judged bytes → IsJudged judged (bytes ++ delta)
 more_judged judged bytes delta l (inl e) = inl e
-more_judged judged bytes delta l (inr s) = inr (subst (λ (t : List ℕ). RefusesResponse More t) (sym (take-append-le judged bytes delta l)) s)
+more_judged judged bytes delta l (inr s) = inr (subst (λ (t : List ℕ). RefusesResponse More t) (sym (take-append-le judged bytes delta l))
+    s)
 
-same_judged : (judged : ℕ) (old new : List ℕ) → new ≡ old → judged ≤ length old → IsJudged judged old → (judged ≤ length new) × IsJudged judged new
+same_judged : (judged : ℕ) (old new : List ℕ) → new ≡ old → judged ≤ length old → IsJudged judged old
+    → (judged ≤ length new) × IsJudged judged new
 same_judged judged old new e l h = subst (λ (t : List ℕ). (judged ≤ length t) × IsJudged judged t) (sym e) (l, h)
 
-pub filled_judged : (P Q : Past → Type 0) (old new : List ℕ) (result : Filled) (judged : ℕ) → IsFilled P Q old new result → judged ≤ length old → IsJudged judged old → (judged ≤ length new) × IsJudged judged new
+pub filled_judged : (P Q : Past → Type 0) (old new : List ℕ) (result : Filled) (judged : ℕ) → IsFilled P Q old new result
+    → judged ≤ length old → IsJudged judged old → (judged ≤ length new) × IsJudged judged new
 filled_judged P Q old new filled.Bytes judged f l h =
-    subst (λ (t : List ℕ). (judged ≤ length t) × IsJudged judged t) (sym f.2) (omega (arith, l, length-append old f.0), more_judged judged old f.0 l h)
+    subst (λ (t : List ℕ). (judged ≤ length t) × IsJudged judged t) (sym f.2)
+    (omega (arith, l, length-append old f.0), more_judged judged old f.0 l h)
 filled_judged P Q old new filled.Ended judged f l h = same_judged judged old new f.0 l h
 filled_judged P Q old new filled.Wait judged f l h = same_judged judged old new f.0 l h
 filled_judged P Q old new filled.Failed judged f l h = same_judged judged old new f.0 l h

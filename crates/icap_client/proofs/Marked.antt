@@ -1,5 +1,6 @@
 -- The side's marks behind a turn's events.
-use Rattle.std.proofs.Common.{◌≡◌, ℕ, ◌+◌, Bool, true, false, not, ◌||◌, ◌&&◌, List, [], ◌∷◌, refl, ap, sym, ◌∙◌, arith, Option, Result, ◌==◌, ◌⊎◌, inl, inr}
+use Rattle.std.proofs.Common.{◌≡◌, ℕ, ◌+◌, Bool, true, false, not, ◌||◌, ◌&&◌, List, [], ◌∷◌, refl, ap, sym, ◌∙◌, arith, Option, Result}
+use Rattle.std.proofs.Common.{◌==◌, ◌⊎◌, inl, inr}
 use Rattle.std.specs.List.{list_any}
 use Rattle.trace_core.specs.declared.history.Event.{Event}
 use Rattle.trace_core.specs.declared.history.Event.TheVariants.{Svc, Stop, Retry}
@@ -34,7 +35,8 @@ or_swap false b c = or_same b c
 
 continued_after : (x : Seen) (events : List Event) → (after_all x events).continued ≡ (x.continued || list_any is_continue events)
 continued_after x [] = or_none x.continued
-continued_after x (event ∷ events) = continued_after (after x event) events ∙ or_swap (is_continue event) x.continued (list_any is_continue events)
+continued_after x (event ∷ events) = continued_after (after x event) events
+    ∙ or_swap (is_continue event) x.continued (list_any is_continue events)
 
 or_mixed : (a n b m c : Bool) → (((a || n) || (b || m)) || c) ≡ ((n || m) || ((a || b) || c))
 or_mixed true true true true c = refl
@@ -54,16 +56,19 @@ or_mixed false false true false c = refl
 or_mixed false false false true c = refl
 or_mixed false false false false c = refl
 
-final_after : (x : Seen) (events : List Event) → ((after_all x events).no_mod || (after_all x events).modified) ≡ ((x.no_mod || x.modified) || list_any is_final events)
+final_after : (x : Seen) (events : List Event) → ((after_all x events).no_mod || (after_all x events).modified)
+    ≡ ((x.no_mod || x.modified) || list_any is_final events)
 final_after x [] = or_none (x.no_mod || x.modified)
-final_after x (event ∷ events) = final_after (after x event) events ∙ or_mixed (is_no_mod event) x.no_mod (is_mod event) x.modified (list_any is_final events)
+final_after x (event ∷ events) = final_after (after x event) events ∙ or_mixed (is_no_mod event) x.no_mod (is_mod event) x.modified
+    (list_any is_final events)
 
 plan_after : (x : Seen) (events : List Event) → (after_all x events).plan ≡ x.plan
 plan_after x [] = refl
 plan_after x (event ∷ events) = plan_after (after x event) events
 
 pub answered_after : (x : Seen) (events : List Event)
-    → (is_preview x.plan.kind && (not (x.continued || list_any is_continue events) && ((x.no_mod || x.modified) || list_any is_final events))) ≡ is_answered (after_all x events)
+    → (is_preview x.plan.kind && (not (x.continued || list_any is_continue events) &&
+    ((x.no_mod || x.modified) || list_any is_final events))) ≡ is_answered (after_all x events)
 answered_after x events =
     let y = after_all x events in
     ap (λ (r : Bool). is_preview x.plan.kind && (not (x.continued || list_any is_continue events) && r)) (sym (final_after x events))
@@ -75,12 +80,14 @@ and_none true true = refl
 and_none true false = refl
 and_none false b = refl
 
-unheard_marks : (x : Seen) (adapted read : List ℕ) → HasBegun x read ⊎ NotBegun x adapted read → x.heard ≡ false → (x.no_mod ≡ false) × (x.modified ≡ false)
+unheard_marks : (x : Seen) (adapted read : List ℕ) → HasBegun x read ⊎ NotBegun x adapted read → x.heard ≡ false
+    → (x.no_mod ≡ false) × (x.modified ≡ false)
 unheard_marks x adapted read (inl h) f = let odd : true ≡ false = sym h.0 ∙ f in cc
 unheard_marks x adapted read (inr b) f = (b.marks.no_mod_is, b.marks.modified_is)
 
 -- before the first byte of a reply nothing is answered, and nothing is so behind a Retry
-pub none_answered : (x : Seen) (adapted read : List ℕ) (s : ReadSide) → x.heard ≡ false → SideHeard x adapted read s → is_answered (after x Retry) ≡ false
+pub none_answered : (x : Seen) (adapted read : List ℕ) (s : ReadSide) → x.heard ≡ false → SideHeard x adapted read s
+    → is_answered (after x Retry) ≡ false
 none_answered x adapted read s f h =
     let marks = unheard_marks x adapted read h.begun f in
     ap (λ (n : Bool). is_preview x.plan.kind && (not x.continued && (n || x.modified))) marks.0
@@ -101,9 +108,11 @@ stop_none x = refl
 stop_some : (x : Seen) (n : ℕ) → (after (after x (Svc n)) Stop).last_stop ≡ (is_last_at x (n + x.sent) || x.last_stop)
 stop_some x n =
     let r : 0 + x.received ≡ x.received = omega arith in
-    ap (λ (m : ℕ). (is_whole x.plan.kind || (is_preview x.plan.kind && not x.stopped && x.ended && (n + x.sent == m)) || (is_preview x.plan.kind && x.continued)) || x.last_stop) r
+    ap (λ (m : ℕ). (is_whole x.plan.kind || (is_preview x.plan.kind && not x.stopped && x.ended && (n + x.sent == m)) ||
+    (is_preview x.plan.kind && x.continued)) || x.last_stop) r
 
-last_by : (x : Seen) (n : ℕ) (b : Bool) → (n == 0) ≡ b → (after_all x (sending_events n true)).last_stop ≡ (is_last_at x (x.sent + n) || x.last_stop)
+last_by : (x : Seen) (n : ℕ) (b : Bool) → (n == 0) ≡ b
+    → (after_all x (sending_events n true)).last_stop ≡ (is_last_at x (x.sent + n) || x.last_stop)
 last_by x n true e =
     let z : n ≡ 0 = grind (arith) in
     rw e (stop_none x ∙ ap (λ (m : ℕ). is_last_at x m || x.last_stop) (omega (arith, z)))
@@ -114,13 +123,15 @@ last_still x n true e = rw e refl
 last_still x n false e = rw e refl
 
 -- `all` says that a Stop stands only behind all bytes that were to come next
-pub last_after : (x : Seen) (n count from : ℕ) (e : Bool) (events : List Event) → events ≡ sending_events n e → from ≡ x.sent → (e ≡ true → n ≡ count)
+pub last_after : (x : Seen) (n count from : ℕ) (e : Bool) (events : List Event) → events ≡ sending_events n e → from ≡ x.sent
+    → (e ≡ true → n ≡ count)
     → ((e && is_last_at x (from + count)) || x.last_stop) ≡ (after_all x events).last_stop
 last_after x n count from true events i f all =
     let same : from + count ≡ x.sent + n = omega (arith, f, all refl) in
     ap (λ (m : ℕ). is_last_at x m || x.last_stop) same
     ∙ (sym (last_by x n (n == 0) refl) ∙ ap (λ (es : List Event). (after_all x es).last_stop) (sym i))
-last_after x n count from false events i f all = sym (last_still x n (n == 0) refl) ∙ ap (λ (es : List Event). (after_all x es).last_stop) (sym i)
+last_after x n count from false events i f all = sym (last_still x n (n == 0) refl)
+    ∙ ap (λ (es : List Event). (after_all x es).last_stop) (sym i)
 
 -- ---- both in a turn
 
@@ -135,11 +146,14 @@ might_retry_all : (x : Seen) (events : List Event) → AllAre is_of_sending even
 might_retry_all x [] o m = m
 might_retry_all x (event ∷ events) o m = might_retry x event (sending_is_no_retry event o.0) (might_retry_all (after x event) events o.1 m)
 
-pub sends_marked : (x : Seen) (tape : Tape) (old new : Service) (fault kept : Option ClientFault) (P Q : Past → Type 0) (result : Result Turn ClientFault)
+pub sends_marked : (x : Seen) (tape : Tape) (old new : Service) (fault kept : Option ClientFault) (P Q : Past → Type 0)
+    (result : Result Turn ClientFault)
     → (old.last_stop ≡ x.last_stop → new.last_stop ≡ (after_all x (events_of result)).last_stop)
     → (MayCome x Retry → new.writer.head ≡ old.writer.head)
-    → Sends x tape (λ head x came taken. HasSent head x came taken old.writer) (λ head x came taken. HasSent head x came taken new.writer) fault kept (NothingDue x new.writer) P Q result
-    → Sends x tape (λ head x came taken. ServiceSent head x came taken old) (λ head x came taken. ServiceSent head x came taken new) fault kept (NothingDue x new.writer) P Q result
+    → Sends x tape (λ head x came taken. HasSent head x came taken old.writer) (λ head x came taken. HasSent head x came taken new.writer)
+    fault kept (NothingDue x new.writer) P Q result
+    → Sends x tape (λ head x came taken. ServiceSent head x came taken old) (λ head x came taken. ServiceSent head x came taken new) fault
+    kept (NothingDue x new.writer) P Q result
 sends_marked x tape old new fault kept P Q result mark same s = record {
   delta = s.delta;
   wire = s.wire;
@@ -154,10 +168,13 @@ sends_marked x tape old new fault kept P Q result mark same s = record {
   fault = s.fault;
 }
 
-pub hears_marked : (x : Seen) (old new : Service) (fault kept : Option ClientFault) (rests all_framed : Type 0) (P Q : Past → Type 0) (out : List ℕ) (result : Result Turn ClientFault)
+pub hears_marked : (x : Seen) (old new : Service) (fault kept : Option ClientFault) (rests all_framed : Type 0) (P Q : Past → Type 0)
+    (out : List ℕ) (result : Result Turn ClientFault)
     → (old.answered ≡ is_answered x → new.answered ≡ is_answered (after_all x (events_of result)))
-    → Hears x (λ x adapted read. SideHeard x adapted read old.replies) (λ x adapted read. SideHeard x adapted read new.replies) fault kept rests all_framed P Q out result
-    → Hears x (λ x adapted read. ServiceHeard x adapted read old) (λ x adapted read. ServiceHeard x adapted read new) fault kept rests all_framed P Q out result
+    → Hears x (λ x adapted read. SideHeard x adapted read old.replies) (λ x adapted read. SideHeard x adapted read new.replies) fault kept
+    rests all_framed P Q out result
+    → Hears x (λ x adapted read. ServiceHeard x adapted read old) (λ x adapted read. ServiceHeard x adapted read new) fault kept rests
+    all_framed P Q out result
 hears_marked x old new fault kept rests all_framed P Q out result mark s = record {
   delta = s.delta;
   wire = s.wire;

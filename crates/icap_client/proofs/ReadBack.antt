@@ -28,26 +28,32 @@ abbrev one_head : BodyPart → List ℕ → List ℕ → List ℕ
 one_head body zero n = ((name_of ReqHdr ++ 61 ∷ zero) ++ codes ", ") ++ (name_of (Body body) ++ 61 ∷ n)
 
 abbrev two_heads : BodyPart → List ℕ → List ℕ → List ℕ → List ℕ
-two_heads body zero m n = ((name_of ReqHdr ++ 61 ∷ zero) ++ codes ", ") ++ (((name_of ResHdr ++ 61 ∷ m) ++ codes ", ") ++ (name_of (Body body) ++ 61 ∷ n))
+two_heads body zero m n = ((name_of ReqHdr ++ 61 ∷ zero) ++ codes ", ")
+    ++ (((name_of ResHdr ++ 61 ∷ m) ++ codes ", ") ++ (name_of (Body body) ++ 61 ∷ n))
 
 -- the lines that end a head with this list
 abbrev lines_of : List ℕ → List ℕ
 lines_of list = codes "Encapsulated: " ++ (list ++ (crlf ++ crlf))
 
-one_is : (body : BodyPart) (req : ℕ) (l : Layout) → written l ≡ one_head body (numeral 10 0) (numeral 10 req) → lines_of (one_head body (48 ∷ []) (numeral 10 req)) ≡ lines_of (written l)
-one_is body req l e = ap (λ (zero : List ℕ). lines_of (one_head body zero (numeral 10 req))) (sym zero_is) ∙ ap (λ (list : List ℕ). lines_of list) (sym e)
+one_is : (body : BodyPart) (req : ℕ) (l : Layout) → written l ≡ one_head body (numeral 10 0) (numeral 10 req)
+    → lines_of (one_head body (48 ∷ []) (numeral 10 req)) ≡ lines_of (written l)
+one_is body req l e = ap (λ (zero : List ℕ). lines_of (one_head body zero (numeral 10 req))) (sym zero_is)
+    ∙ ap (λ (list : List ℕ). lines_of list) (sym e)
 
 two_is : (body : BodyPart) (req sum : ℕ) (l : Layout) → written l ≡ two_heads body (numeral 10 0) (numeral 10 req) (numeral 10 sum)
     → lines_of (two_heads body (48 ∷ []) (numeral 10 req) (numeral 10 sum)) ≡ lines_of (written l)
 two_is body req sum l e =
-    ap (λ (zero : List ℕ). lines_of (two_heads body zero (numeral 10 req) (numeral 10 sum))) (sym zero_is) ∙ ap (λ (list : List ℕ). lines_of list) (sym e)
+    ap (λ (zero : List ℕ). lines_of (two_heads body zero (numeral 10 req) (numeral 10 sum))) (sym zero_is)
+    ∙ ap (λ (list : List ℕ). lines_of list) (sym e)
 
-lines_are : (point : Point) (null : Bool) (req res : ℕ) → joined (list_pieces point null req res) [] ≡ lines_of (written (layout_of point null req res))
+lines_are : (point : Point) (null : Bool) (req res : ℕ)
+    → joined (list_pieces point null req res) [] ≡ lines_of (written (layout_of point null req res))
 unfolding numeral
 lines_are Reqmod true req res =
     let l = layout_of Reqmod true req res in
     let is : written l ≡ one_head NullBody (numeral 10 0) (numeral 10 req) = written_is l in
-    ap (λ (t : List ℕ). codes "Encapsulated: req-hdr=0, null-body=" ++ t) (append_assoc (numeral 10 req) crlf crlf) ∙ one_is NullBody req l is
+    ap (λ (t : List ℕ). codes "Encapsulated: req-hdr=0, null-body=" ++ t) (append_assoc (numeral 10 req) crlf crlf)
+    ∙ one_is NullBody req l is
 lines_are Reqmod false req res =
     let l = layout_of Reqmod false req res in
     let is : written l ≡ one_head ReqBody (numeral 10 0) (numeral 10 req) = written_is l in
@@ -55,12 +61,14 @@ lines_are Reqmod false req res =
 lines_are Respmod true req res =
     let l = layout_of Respmod true req res in
     let is : written l ≡ two_heads NullBody (numeral 10 0) (numeral 10 req) (numeral 10 (req + res)) = written_is l in
-    ap (λ (t : List ℕ). codes "Encapsulated: req-hdr=0, res-hdr=" ++ t) (behind_number (numeral 10 req ++ codes ", ") (codes "null-body=") (numeral 10 (req + res)) crlf)
+    ap (λ (t : List ℕ). codes "Encapsulated: req-hdr=0, res-hdr=" ++ t)
+    (behind_number (numeral 10 req ++ codes ", ") (codes "null-body=") (numeral 10 (req + res)) crlf)
     ∙ two_is NullBody req (req + res) l is
 lines_are Respmod false req res =
     let l = layout_of Respmod false req res in
     let is : written l ≡ two_heads ResBody (numeral 10 0) (numeral 10 req) (numeral 10 (req + res)) = written_is l in
-    ap (λ (t : List ℕ). codes "Encapsulated: req-hdr=0, res-hdr=" ++ t) (behind_number (numeral 10 req ++ codes ", ") (codes "res-body=") (numeral 10 (req + res)) crlf)
+    ap (λ (t : List ℕ). codes "Encapsulated: req-hdr=0, res-hdr=" ++ t)
+    (behind_number (numeral 10 req ++ codes ", ") (codes "res-body=") (numeral 10 (req + res)) crlf)
     ∙ two_is ResBody req (req + res) l is
 
 may_be : (point : Point) (null : Bool) (req res : ℕ) → MayHave (method_of point) Request (layout_of point null req res)
@@ -69,9 +77,17 @@ may_be Reqmod false req res = record { whole = (0, omega arith, refl); rises = (
 may_be Respmod true req res = record { whole = (1, omega arith, refl); rises = (refl, (omega arith, (omega arith, tt))) }
 may_be Respmod false req res = record { whole = (0, omega arith, refl); rises = (refl, (omega arith, (omega arith, tt))) }
 
-layout_by : (point : Point) (null : Bool) (req res : ℕ) → req + res < COUNT_LIMIT → IsLayout (method_of point) Request (written (layout_of point null req res)) (layout_of point null req res)
-layout_by Reqmod null req res small = record { parts = reads_back (layout_of Reqmod null req res) (omega arith) tt (omega (arith, small)); may = may_be Reqmod null req res }
-layout_by Respmod null req res small = record { parts = reads_back (layout_of Respmod null req res) (omega arith) (omega (arith, small)) (omega (arith, small)); may = may_be Respmod null req res }
+layout_by : (point : Point) (null : Bool) (req res : ℕ) → req + res < COUNT_LIMIT
+    → IsLayout (method_of point) Request (written (layout_of point null req res)) (layout_of point null req res)
+layout_by Reqmod null req res small = record {
+  parts = reads_back (layout_of Reqmod null req res) (omega arith) tt (omega (arith, small));
+  may = may_be Reqmod null req res;
+}
+layout_by Respmod null req res small = record {
+  parts = reads_back (layout_of Respmod null req res) (omega arith) (omega (arith, small))
+      (omega (arith, small));
+  may = may_be Respmod null req res;
+}
 
 pub read_back : (point : Point) (null : Bool) (req res : ℕ) → req + res < COUNT_LIMIT → IsReadBack point null req res
 read_back point null req res small = record {

@@ -1,5 +1,6 @@
 -- The reading half over its wire.
-use Rattle.std.proofs.Common.{◌≡◌, ℕ, ◌<◌, ◌⊎◌, inl, inr, Bool, true, false, ◌||◌, List, [], ◌∷◌, ◌++◌, length, take, drop, refl, ap, sym, subst, ◌∙◌, append_assoc, append-nil, arith, length-append, lit<, ◌≤◌, nat_lt, if◌then◌else◌}
+use Rattle.std.proofs.Common.{◌≡◌, ℕ, ◌<◌, ◌⊎◌, inl, inr, Bool, true, false, ◌||◌, List, [], ◌∷◌, ◌++◌, length, take, drop, refl, ap, sym}
+use Rattle.std.proofs.Common.{subst, ◌∙◌, append_assoc, append-nil, arith, length-append, lit<, ◌≤◌, nat_lt, if◌then◌else◌}
 use Rattle.std.proofs.lemmas.Bool.{false≢true}
 use Rattle.std.proofs.lemmas.Bool.Decides.{nat_tests}
 use Rattle.std.proofs.lemmas.List.{take-append-drop}
@@ -106,7 +107,8 @@ pub heard_on : (x : Seen) (events : List Event) → x.heard ≡ true → (after_
 heard_on x [] h = h
 heard_on x (event ∷ events) h = heard_on (after x event) events (or_true (is_heard event) x.heard h)
 
-not_begun : (x : Seen) (adapted read more delta : List ℕ) → more ≡ [] → delta ≡ [] → NotBegun x adapted read → NotBegun x (adapted ++ more) (read ++ delta)
+not_begun : (x : Seen) (adapted read more delta : List ℕ) → more ≡ [] → delta ≡ [] → NotBegun x adapted read
+    → NotBegun x (adapted ++ more) (read ++ delta)
 not_begun x adapted read more delta m d n = record {
   unheard = n.unheard;
   none = ap (λ (t : List ℕ). adapted ++ t) m ∙ (append-nil adapted ∙ n.none);
@@ -124,15 +126,18 @@ more_read read delta l = omega (arith, l, length-append read delta)
 both_heard : (x : Seen) → x.heard ≡ true → x.heard ≡ false → ⊥
 both_heard x h n = false≢true (sym (sym h ∙ n))
 
-begun_on : (x : Seen) (events : List Event) (adapted read out : List ℕ) → (events ≡ []) ⊎ (x.heard ≡ true) → HasBegun x read ⊎ NotBegun x adapted read
+begun_on : (x : Seen) (events : List Event) (adapted read out : List ℕ) → (events ≡ []) ⊎ (x.heard ≡ true)
+    → HasBegun x read ⊎ NotBegun x adapted read
     → HasBegun (after_all x events) (read ++ []) ⊎ NotBegun (after_all x events) (adapted ++ take (ad_sum events) out) (read ++ [])
 begun_on x events adapted read out e (inl h) = inl (heard_on x events h.0, more_read read [] h.1)
 begun_on x events adapted read out (inr h) (inr n) = absurd (both_heard x h n.unheard)
 begun_on x events adapted read out (inl none) (inr n) =
-    inr (subst (λ (es : List Event). NotBegun (after_all x es) (adapted ++ take (ad_sum es) out) (read ++ [])) (sym none) (not_begun x adapted read [] [] refl refl n))
+    inr (subst (λ (es : List Event). NotBegun (after_all x es) (adapted ++ take (ad_sum es) out) (read ++ [])) (sym none)
+    (not_begun x adapted read [] [] refl refl n))
 
 -- what a reader hears of its raw bytes
-pub framed : (x : Seen) (old new : ReadSide) (events : List Event) (used : ℕ) (out : List ℕ) → ReaderHears x old.reader new.reader events (take used old.raw) (take (ad_sum events) out) → new.raw ≡ drop used old.raw
+pub framed : (x : Seen) (old new : ReadSide) (events : List Event) (used : ℕ) (out : List ℕ)
+    → ReaderHears x old.reader new.reader events (take used old.raw) (take (ad_sum events) out) → new.raw ≡ drop used old.raw
     → SideHears x old new events [] (take (ad_sum events) out)
 framed x old new events used out h r = record {
   legal = h.legal;
@@ -141,25 +146,34 @@ framed x old new events used out h r = record {
       let joined : take used old.raw ++ new.raw ≡ old.raw = ap (λ (t : List ℕ). take used old.raw ++ t) r ∙ take-append-drop used old.raw in
       record {
         framed = s.framed ++ take used old.raw;
-        text_is = append-nil read ∙ (s.text_is ∙ (ap (λ (t : List ℕ). s.framed ++ t) (sym joined) ∙ sym (append_assoc s.framed (take used old.raw) new.raw)));
+        text_is = append-nil read ∙ (s.text_is ∙ (ap (λ (t : List ℕ). s.framed ++ t) (sym joined)
+            ∙ sym (append_assoc s.framed (take used old.raw) new.raw)));
         heard = h.heard adapted s.framed s.heard;
         begun = begun_on x events adapted read out h.behind s.begun;
       };
 }
 
 -- a reader that refused its bytes
-stays_heard : (x : Seen) (adapted read : List ℕ) (old new : Reader) → Stays old new → HasHeard x adapted read old → HasHeard x adapted read new
+stays_heard : (x : Seen) (adapted read : List ℕ) (old new : Reader) → Stays old new → HasHeard x adapted read old
+    → HasHeard x adapted read new
 stays_heard x adapted read old new (same e) h = subst (λ (r : Reader). HasHeard x adapted read r) (sym e) h
 stays_heard x adapted read old new (before o n p) h =
     let m : HeardInterim x adapted read old = subst (λ (s : Stage). HeardTo s x adapted read old) o h in
-    let now : HeardInterim x adapted read new = record { marks = m.marks; none = m.none; count = m.count; interim = subst (λ (p : Point). IsContinueOrNothing p x.continued read) (sym p) m.interim } in
+    let now : HeardInterim x adapted read new = record {
+      marks = m.marks;
+      none = m.none;
+      count = m.count;
+      interim = subst (λ (p : Point). IsContinueOrNothing p x.continued read) (sym p) m.interim;
+    } in
     subst (λ (s : Stage). HeardTo s x adapted read new) (sym n) now
 
-begun_none : (x : Seen) (adapted read : List ℕ) → HasBegun x read ⊎ NotBegun x adapted read → HasBegun x (read ++ []) ⊎ NotBegun x (adapted ++ []) (read ++ [])
+begun_none : (x : Seen) (adapted read : List ℕ) → HasBegun x read ⊎ NotBegun x adapted read
+    → HasBegun x (read ++ []) ⊎ NotBegun x (adapted ++ []) (read ++ [])
 begun_none x adapted read (inl h) = inl (h.0, more_read read [] h.1)
 begun_none x adapted read (inr n) = inr (not_begun x adapted read [] [] refl refl n)
 
-begun_more : (x : Seen) (adapted read delta : List ℕ) → (x.heard ≡ true) ⊎ (delta ≡ []) → HasBegun x read ⊎ NotBegun x adapted read → HasBegun x (read ++ delta) ⊎ NotBegun x (adapted ++ []) (read ++ delta)
+begun_more : (x : Seen) (adapted read delta : List ℕ) → (x.heard ≡ true) ⊎ (delta ≡ []) → HasBegun x read ⊎ NotBegun x adapted read
+    → HasBegun x (read ++ delta) ⊎ NotBegun x (adapted ++ []) (read ++ delta)
 begun_more x adapted read delta was (inl h) = inl (h.0, more_read read delta h.1)
 begun_more x adapted read delta (inl h) (inr b) = absurd (both_heard x h b.unheard)
 begun_more x adapted read delta (inr n) (inr b) = inr (not_begun x adapted read [] delta refl n b)
@@ -171,13 +185,15 @@ refused_kept x old new k r = record {
   heard = λ adapted read s. record {
     framed = s.framed;
     text_is = append-nil read ∙ (s.text_is ∙ ap (λ (t : List ℕ). s.framed ++ t) (sym r));
-    heard = subst (λ (t : List ℕ). HasHeard x t s.framed new.reader) (sym (append-nil adapted)) (stays_heard x adapted s.framed old.reader new.reader k s.heard);
+    heard = subst (λ (t : List ℕ). HasHeard x t s.framed new.reader) (sym (append-nil adapted))
+        (stays_heard x adapted s.framed old.reader new.reader k s.heard);
     begun = begun_none x adapted read s.begun;
   };
 }
 
 -- the fault is no part of what was heard
-pub other_fault : (x : Seen) (old new kept : ReadSide) (events : List Event) (delta part : List ℕ) → kept.reader ≡ new.reader → kept.raw ≡ new.raw → SideHears x old new events delta part → SideHears x old kept events delta part
+pub other_fault : (x : Seen) (old new kept : ReadSide) (events : List Event) (delta part : List ℕ) → kept.reader ≡ new.reader
+    → kept.raw ≡ new.raw → SideHears x old new events delta part → SideHears x old kept events delta part
 other_fault x old new kept events delta part e r h = record {
   legal = h.legal;
   only = h.only;
@@ -192,20 +208,24 @@ other_fault x old new kept events delta part e r h = record {
 }
 
 -- more raw bytes
-pub filled_more : (x : Seen) (old new : ReadSide) (delta : List ℕ) → (x.heard ≡ true) ⊎ (delta ≡ []) → new.reader ≡ old.reader → new.raw ≡ old.raw ++ delta → SideHears x old new [] delta []
+pub filled_more : (x : Seen) (old new : ReadSide) (delta : List ℕ) → (x.heard ≡ true) ⊎ (delta ≡ []) → new.reader ≡ old.reader
+    → new.raw ≡ old.raw ++ delta → SideHears x old new [] delta []
 filled_more x old new delta was e r = record {
   legal = tt;
   only = tt;
   heard = λ adapted read s. record {
     framed = s.framed;
-    text_is = ap (λ (t : List ℕ). t ++ delta) s.text_is ∙ (append_assoc s.framed old.raw delta ∙ ap (λ (t : List ℕ). s.framed ++ t) (sym r));
-    heard = subst (λ (t : List ℕ). HasHeard x t s.framed new.reader) (sym (append-nil adapted)) (subst (λ (n : Reader). HasHeard x adapted s.framed n) (sym e) s.heard);
+    text_is = ap (λ (t : List ℕ). t ++ delta) s.text_is ∙ (append_assoc s.framed old.raw delta
+        ∙ ap (λ (t : List ℕ). s.framed ++ t) (sym r));
+    heard = subst (λ (t : List ℕ). HasHeard x t s.framed new.reader) (sym (append-nil adapted))
+        (subst (λ (n : Reader). HasHeard x adapted s.framed n) (sym e) s.heard);
     begun = begun_more x adapted read delta was s.begun;
   };
 }
 
 -- the first bytes of a reply
-pub filled_first : (x : Seen) (old new : ReadSide) (delta out : List ℕ) → MayCome x Heard → 0 < length delta → new.reader ≡ old.reader → new.raw ≡ old.raw ++ delta → SideHears x old new (Heard ∷ []) delta (take (ad_sum (Heard ∷ [])) out)
+pub filled_first : (x : Seen) (old new : ReadSide) (delta out : List ℕ) → MayCome x Heard → 0 < length delta → new.reader ≡ old.reader
+    → new.raw ≡ old.raw ++ delta → SideHears x old new (Heard ∷ []) delta (take (ad_sum (Heard ∷ [])) out)
 filled_first x old new delta out may some e r =
     let none : ad_sum (Heard ∷ []) ≡ 0 = refl in
     subst (λ (n : ℕ). SideHears x old new (Heard ∷ []) delta (take n out)) (sym none) (record {
@@ -213,26 +233,32 @@ filled_first x old new delta out may some e r =
       only = (refl, tt);
       heard = λ adapted read s. record {
         framed = s.framed;
-        text_is = ap (λ (t : List ℕ). t ++ delta) s.text_is ∙ (append_assoc s.framed old.raw delta ∙ ap (λ (t : List ℕ). s.framed ++ t) (sym r));
+        text_is = ap (λ (t : List ℕ). t ++ delta) s.text_is ∙ (append_assoc s.framed old.raw delta
+            ∙ ap (λ (t : List ℕ). s.framed ++ t) (sym r));
         heard = subst (λ (t : List ℕ). HasHeard (after x Heard) t s.framed new.reader) (sym (append-nil adapted))
-            (subst (λ (n : Reader). HasHeard (after x Heard) adapted s.framed n) (sym e) (to_same old.reader.stage x (after x Heard) adapted s.framed old.reader (same_heard x) s.heard));
+            (subst (λ (n : Reader). HasHeard (after x Heard) adapted s.framed n) (sym e)
+            (to_same old.reader.stage x (after x Heard) adapted s.framed old.reader (same_heard x) s.heard));
         begun = inl (refl, some_read read delta some);
       };
     })
 
 -- one behind the other, the first without an event
-pub side_then : (x : Seen) (a b c : ReadSide) (events : List Event) (d e part : List ℕ) → SideHears x a b [] d [] → SideHears x b c events e part → SideHears x a c events (d ++ e) part
+pub side_then : (x : Seen) (a b c : ReadSide) (events : List Event) (d e part : List ℕ) → SideHears x a b [] d []
+    → SideHears x b c events e part → SideHears x a c events (d ++ e) part
 side_then x a b c events d e part f g = record {
   legal = g.legal;
   only = g.only;
   heard = λ adapted read s.
-      let two : SideHeard (after_all x events) ((adapted ++ []) ++ part) ((read ++ d) ++ e) c = g.heard (adapted ++ []) (read ++ d) (f.heard adapted read s) in
+      let two : SideHeard (after_all x events) ((adapted ++ []) ++ part) ((read ++ d) ++ e) c =
+      g.heard (adapted ++ []) (read ++ d) (f.heard adapted read s) in
       subst (λ (t : List ℕ). SideHeard (after_all x events) (t ++ part) (read ++ (d ++ e)) c) (append-nil adapted)
       (subst (λ (t : List ℕ). SideHeard (after_all x events) ((adapted ++ []) ++ part) t c) (append_assoc read d e) two);
 }
 
 -- what was refused stands as it stood
-pub refuses_still : (fault : ClientFault) (x : Seen) (old new : Reader) (raw : List ℕ) → Stays old new → Refuses fault x old.point old.stage raw → Refuses fault x new.point new.stage raw
+pub refuses_still : (fault : ClientFault) (x : Seen) (old new : Reader) (raw : List ℕ) → Stays old new
+    → Refuses fault x old.point old.stage raw → Refuses fault x new.point new.stage raw
 refuses_still fault x old new raw (same e) r = subst (λ (k : Reader). Refuses fault x k.point k.stage raw) (sym e) r
 refuses_still fault x old new raw (before o n p) r =
-    subst (λ (s : Stage). Refuses fault x new.point s raw) (sym n) (subst (λ (k : Point). Refuses fault x k Replies raw) (sym p) (subst (λ (s : Stage). Refuses fault x old.point s raw) o r))
+    subst (λ (s : Stage). Refuses fault x new.point s raw) (sym n) (subst (λ (k : Point). Refuses fault x k Replies raw) (sym p)
+    (subst (λ (s : Stage). Refuses fault x old.point s raw) o r))

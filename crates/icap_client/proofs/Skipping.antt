@@ -1,5 +1,7 @@
 -- Bytes of a body that are read and dropped, and the framing of the answer to an OPTIONS request.
-use Rattle.std.proofs.Common.{◌≡◌, ◌≢◌, ℕ, ◌+◌, ◌<◌, ◌≤◌, ◌⊎◌, inl, inr, Bool, true, false, if◌then◌else◌, nat_lt, List, [], ◌∷◌, ◌++◌, length, take, drop, refl, ap, sym, subst, ◌∙◌, append_assoc, append-nil, Option, Some, None, IfSome, is_some, option_map, Result, Ok, Err, IfErr, codes, arith}
+use Rattle.std.proofs.Common.{◌≡◌, ◌≢◌, ℕ, ◌+◌, ◌<◌, ◌≤◌, ◌⊎◌, inl, inr, Bool, true, false, if◌then◌else◌, nat_lt, List, [], ◌∷◌, ◌++◌}
+use Rattle.std.proofs.Common.{length, take, drop, refl, ap, sym, subst, ◌∙◌, append_assoc, append-nil, Option, Some, None, IfSome, is_some}
+use Rattle.std.proofs.Common.{option_map, Result, Ok, Err, IfErr, codes, arith}
 use Rattle.std.proofs.Math.Seq.{take-add}
 use Rattle.std.proofs.Math.ListN.{drop_of_length-le}
 use Rattle.std.proofs.lemmas.List.{take-append-drop, length-drop, length-append, drop-drop}
@@ -19,28 +21,37 @@ use Rattle.icap_client.specs.Hearing.{ReadsOn}
 use Rattle.icap_client.specs.Replies.{lists_of}
 use Rattle.icap_chunks.specs.Grammar.{crlf}
 use Rattle.icap_client.specs.RequestHead.{joined, host_pieces}
-use Rattle.icap_client.specs.Asking.{options_pieces, options_request, HasOptionsBody, IsOptionsAnswer, IsOptionsFront, Asker, AnsweredTo, Frames, Tells, HasAnyHead, RefusesOptionsHead, RefusesOptions, RefusesRaw, HoldsHead}
+use Rattle.icap_client.specs.Asking.{options_pieces, options_request, HasOptionsBody, IsOptionsAnswer, IsOptionsFront, Asker, AnsweredTo}
+use Rattle.icap_client.specs.Asking.{Frames, Tells, HasAnyHead, RefusesOptionsHead, RefusesOptions, RefusesRaw, HoldsHead}
 use Rattle.icap_client.specs.declared.options.OptionsStage.{OptionsStage}
 use Rattle.icap_client.specs.declared.options.OptionsStage.TheVariants.{Head, Body, Over}
 use Rattle.icap_client.proofs.Heads.{is_head, stands_for}
 
 pub skip_none : (a : ChunkReader) (raw : List ℕ) → ReadsOn a raw 0 [] a
-skip_none a raw text body h = subst (λ (t : List ℕ). HasRead t (body ++ []) a) (sym (append-nil text)) (subst (λ (b : List ℕ). HasRead text b a) (sym (append-nil body)) h)
+skip_none a raw text body h = subst (λ (t : List ℕ). HasRead t (body ++ []) a) (sym (append-nil text))
+    (subst (λ (b : List ℕ). HasRead text b a) (sym (append-nil body)) h)
 
 -- a fault behind a part of the body that was skipped
-pub skip_breaks : (a b : ChunkReader) (raw rest : List ℕ) (used : ℕ) (p : List ℕ) (fault : ChunkFault) → ReadsOn a raw used p b → rest ≡ drop used raw
-    → ((text body : List ℕ) → HasRead text body b → Breaks (text ++ rest) body fault) → (text body : List ℕ) → HasRead text body a → Breaks (text ++ raw) (body ++ p) fault
+pub skip_breaks : (a b : ChunkReader) (raw rest : List ℕ) (used : ℕ) (p : List ℕ) (fault : ChunkFault) → ReadsOn a raw used p b
+    → rest ≡ drop used raw
+    → ((text body : List ℕ) → HasRead text body b → Breaks (text ++ rest) body fault) → (text body : List ℕ) → HasRead text body a
+    → Breaks (text ++ raw) (body ++ p) fault
 skip_breaks a b raw rest used p fault f is g text body h =
     let texts : (text ++ take used raw) ++ rest ≡ text ++ raw =
-    append_assoc text (take used raw) rest ∙ ap (λ (t : List ℕ). text ++ t) (ap (λ (t : List ℕ). take used raw ++ t) is ∙ take-append-drop used raw) in
+    append_assoc text (take used raw) rest ∙ ap (λ (t : List ℕ). text ++ t)
+    (ap (λ (t : List ℕ). take used raw ++ t) is ∙ take-append-drop used raw) in
     subst (λ (t : List ℕ). Breaks t (body ++ p) fault) texts (g (text ++ take used raw) (body ++ p) (f text body h))
 
-pub skip_more : (a b c : ChunkReader) (raw rest : List ℕ) (used more : ℕ) (p q : List ℕ) → ReadsOn a raw used p b → rest ≡ drop used raw → ReadsOn b rest more q c → ReadsOn a raw (used + more) (p ++ q) c
+pub skip_more : (a b c : ChunkReader) (raw rest : List ℕ) (used more : ℕ) (p q : List ℕ) → ReadsOn a raw used p b → rest ≡ drop used raw
+    → ReadsOn b rest more q c → ReadsOn a raw (used + more) (p ++ q) c
 skip_more a b c raw rest used more p q f is g text body h =
-    let two : HasRead ((text ++ take used raw) ++ take more rest) ((body ++ p) ++ q) c = g (text ++ take used raw) (body ++ p) (f text body h) in
+    let two : HasRead ((text ++ take used raw) ++ take more rest) ((body ++ p) ++ q) c =
+    g (text ++ take used raw) (body ++ p) (f text body h) in
     let texts : (text ++ take used raw) ++ take more rest ≡ text ++ take (used + more) raw =
-    append_assoc text (take used raw) (take more rest) ∙ ap (λ (t : List ℕ). text ++ t) (ap (λ (t : List ℕ). take used raw ++ take more t) is ∙ sym (take-add used more raw)) in
-    subst (λ (t : List ℕ). HasRead t (body ++ (p ++ q)) c) texts (subst (λ (t : List ℕ). HasRead ((text ++ take used raw) ++ take more rest) t c) (append_assoc body p q) two)
+    append_assoc text (take used raw) (take more rest) ∙ ap (λ (t : List ℕ). text ++ t)
+    (ap (λ (t : List ℕ). take used raw ++ take more t) is ∙ sym (take-add used more raw)) in
+    subst (λ (t : List ℕ). HasRead t (body ++ (p ++ q)) c) texts (subst
+    (λ (t : List ℕ). HasRead ((text ++ take used raw) ++ take more rest) t c) (append_assoc body p q) two)
 
 pub none_starts : end_of start ≡ None
 unfolding end_at
@@ -100,10 +111,12 @@ tells_then a b c found f g = record {
 -- ---- framing
 
 -- a head with no body behind it
-pub frames_bare : (old new : Asker) (value : Response) (size : ℕ) → old.stage ≡ Head → HasResponse old.raw value size → HasOptionsBody (lists_of value) false → new.stage ≡ Over → new.raw ≡ drop size old.raw → new.waiting ≡ old.waiting
+pub frames_bare : (old new : Asker) (value : Response) (size : ℕ) → old.stage ≡ Head → HasResponse old.raw value size
+    → HasOptionsBody (lists_of value) false → new.stage ≡ Over → new.raw ≡ drop size old.raw → new.waiting ≡ old.waiting
     → Frames old new (Some value)
 frames_bare old new value size s h l o r w =
-    let whole : (framed : List ℕ) → AnsweredTo old.stage old.response framed → IsOptionsAnswer value (framed ++ take size old.raw) = λ framed a.
+    let whole : (framed : List ℕ) → AnsweredTo old.stage old.response framed → IsOptionsAnswer value (framed ++ take size old.raw) =
+    λ framed a.
     let none : framed ≡ [] = subst (λ (t : OptionsStage). AnsweredTo t old.response framed) s a in
     record {
       head = take size old.raw;
@@ -116,13 +129,15 @@ frames_bare old new value size s h l o r w =
       used = take size old.raw;
       raw_is = sym (take-append-drop size old.raw) ∙ ap (λ (t : List ℕ). take size old.raw ++ t) (sym r);
       waiting = w;
-      answered = λ framed a. subst (λ (t : OptionsStage). AnsweredTo t new.response (framed ++ take size old.raw)) (sym o) (value, whole framed a);
+      answered = λ framed a. subst (λ (t : OptionsStage). AnsweredTo t new.response (framed ++ take size old.raw)) (sym o)
+          (value, whole framed a);
       answer = whole;
       tells = tells_end old.stage new.stage (Some value) (no_head_over old.stage s) o refl;
     }
 
 -- a head with a body behind it
-pub begins_body : (old : Asker) (value : Response) (size : ℕ) (framed : List ℕ) → old.stage ≡ Head → HasResponse old.raw value size → HasOptionsBody (lists_of value) true → AnsweredTo old.stage old.response framed
+pub begins_body : (old : Asker) (value : Response) (size : ℕ) (framed : List ℕ) → old.stage ≡ Head → HasResponse old.raw value size
+    → HasOptionsBody (lists_of value) true → AnsweredTo old.stage old.response framed
     → IsOptionsFront value start (framed ++ take size old.raw)
 begins_body old value size framed s h l a =
     let none : framed ≡ [] = subst (λ (t : OptionsStage). AnsweredTo t old.response framed) s a in
@@ -139,26 +154,39 @@ begins_body old value size framed s h l a =
     }
 
 -- one behind the other
-pub frames_then : (a b c : Asker) (value : Response) (chunks : ChunkReader) (size : ℕ) (found : Option Response) → chunks ≡ start → a.stage ≡ Head → HasResponse a.raw value size → HasOptionsBody (lists_of value) true
-    → b.stage ≡ Body chunks → b.response ≡ Some value → b.raw ≡ drop size a.raw → b.waiting ≡ a.waiting → Frames b c found → Frames a c found
+pub frames_then : (a b c : Asker) (value : Response) (chunks : ChunkReader) (size : ℕ) (found : Option Response) → chunks ≡ start
+    → a.stage ≡ Head → HasResponse a.raw value size → HasOptionsBody (lists_of value) true
+    → b.stage ≡ Body chunks → b.response ≡ Some value → b.raw ≡ drop size a.raw → b.waiting ≡ a.waiting → Frames b c found
+    → Frames a c found
 frames_then a b c value chunks size found st s h l t r e w g =
-    let to_b : (framed : List ℕ) → AnsweredTo a.stage a.response framed → AnsweredTo b.stage b.response (framed ++ take size a.raw) = λ framed x.
-    subst (λ (k : OptionsStage). AnsweredTo k b.response (framed ++ take size a.raw)) (sym t)
-    (value, r, subst (λ (k : ChunkReader). IsOptionsFront value k (framed ++ take size a.raw)) (sym st) (begins_body a value size framed s h l x)) in
+    let to_b : (framed : List ℕ) → AnsweredTo a.stage a.response framed → AnsweredTo b.stage b.response (framed ++ take size a.raw) =
+    λ framed x.
+    subst (λ (k : OptionsStage). AnsweredTo k b.response (framed ++ take size a.raw)) (sym t) (
+      value,
+      r,
+      subst (λ (k : ChunkReader). IsOptionsFront value k (framed ++ take size a.raw)) (sym st)
+          (begins_body a value size framed s h l x),
+    ) in
     record {
       used = take size a.raw ++ g.used;
-      raw_is = sym (take-append-drop size a.raw) ∙ (ap (λ (t : List ℕ). take size a.raw ++ t) (sym e ∙ g.raw_is) ∙ sym (append_assoc (take size a.raw) g.used c.raw));
+      raw_is = sym (take-append-drop size a.raw) ∙ (ap (λ (t : List ℕ). take size a.raw ++ t) (sym e ∙ g.raw_is)
+          ∙ sym (append_assoc (take size a.raw) g.used c.raw));
       waiting = g.waiting ∙ w;
-      answered = λ framed x. subst (λ (t : List ℕ). AnsweredTo c.stage c.response t) (append_assoc framed (take size a.raw) g.used) (g.answered (framed ++ take size a.raw) (to_b framed x));
-      answer = λ framed x. subst (λ (t : List ℕ). IfSome found (λ v. IsOptionsAnswer v t)) (append_assoc framed (take size a.raw) g.used) (g.answer (framed ++ take size a.raw) (to_b framed x));
-      tells = tells_then a.stage b.stage c.stage found (tells_on a.stage b.stage (no_head_over a.stage s) (no_body_over b.stage chunks t)) g.tells;
+      answered = λ framed x. subst (λ (t : List ℕ). AnsweredTo c.stage c.response t) (append_assoc framed (take size a.raw) g.used)
+          (g.answered (framed ++ take size a.raw) (to_b framed x));
+      answer = λ framed x. subst (λ (t : List ℕ). IfSome found (λ v. IsOptionsAnswer v t)) (append_assoc framed (take size a.raw) g.used)
+          (g.answer (framed ++ take size a.raw) (to_b framed x));
+      tells = tells_then a.stage b.stage c.stage found (tells_on a.stage b.stage (no_head_over a.stage s) (no_body_over b.stage chunks t))
+          g.tells;
     }
 
 -- more of the body is read, behind the head
-rest_more : (value : Response) (chunks : ChunkReader) (framed more : List ℕ) → (f : IsOptionsFront value chunks framed) → framed ++ more ≡ f.head ++ (f.rest ++ more)
+rest_more : (value : Response) (chunks : ChunkReader) (framed more : List ℕ) → (f : IsOptionsFront value chunks framed)
+    → framed ++ more ≡ f.head ++ (f.rest ++ more)
 rest_more value chunks framed more f = ap (λ (t : List ℕ). t ++ more) f.text_is ∙ append_assoc f.head f.rest more
 
-front_more : (value : Response) (chunks next : ChunkReader) (framed raw part : List ℕ) (used : ℕ) → ReadsOn chunks raw used part next → end_of next ≡ None → fault_of next ≡ None
+front_more : (value : Response) (chunks next : ChunkReader) (framed raw part : List ℕ) (used : ℕ) → ReadsOn chunks raw used part next
+    → end_of next ≡ None → fault_of next ≡ None
     → IsOptionsFront value chunks framed → IsOptionsFront value next (framed ++ take used raw)
 front_more value chunks next framed raw part used on e n f = record {
   head = f.head;
@@ -177,7 +205,8 @@ some_is None e = cc
 some_is (Some b) e = (b, refl)
 
 -- within the body
-pub frames_on : (old new : Asker) (chunks next : ChunkReader) (used : ℕ) (part : List ℕ) → old.stage ≡ Body chunks → ReadsOn chunks old.raw used part next → end_of next ≡ None → fault_of next ≡ None
+pub frames_on : (old new : Asker) (chunks next : ChunkReader) (used : ℕ) (part : List ℕ) → old.stage ≡ Body chunks
+    → ReadsOn chunks old.raw used part next → end_of next ≡ None → fault_of next ≡ None
     → new.stage ≡ Body next → new.response ≡ old.response → new.raw ≡ drop used old.raw → new.waiting ≡ old.waiting → Frames old new None
 frames_on old new chunks next used part s on going sound t e r w = record {
   used = take used old.raw;
@@ -185,17 +214,20 @@ frames_on old new chunks next used part s on going sound t e r w = record {
   waiting = w;
   answered = λ framed a.
       let here : AnsweredTo (Body chunks) old.response framed = subst (λ (k : OptionsStage). AnsweredTo k old.response framed) s a in
-      subst (λ (k : OptionsStage). AnsweredTo k new.response (framed ++ take used old.raw)) (sym t) (here.0, e ∙ here.1, front_more here.0 chunks next framed old.raw part used on going sound here.2);
+      subst (λ (k : OptionsStage). AnsweredTo k new.response (framed ++ take used old.raw)) (sym t)
+      (here.0, e ∙ here.1, front_more here.0 chunks next framed old.raw part used on going sound here.2);
   answer = λ framed a. tt;
   tells = tells_on old.stage new.stage (no_body_over old.stage chunks s) (no_body_over new.stage next t);
 }
 
 -- up to its end
-pub frames_end : (old new : Asker) (chunks next : ChunkReader) (used : ℕ) (part : List ℕ) (found : Option Response) → old.stage ≡ Body chunks → ReadsOn chunks old.raw used part next → is_some (end_of next) ≡ true → is_some old.response ≡ true
+pub frames_end : (old new : Asker) (chunks next : ChunkReader) (used : ℕ) (part : List ℕ) (found : Option Response)
+    → old.stage ≡ Body chunks → ReadsOn chunks old.raw used part next → is_some (end_of next) ≡ true → is_some old.response ≡ true
     → new.stage ≡ Over → found ≡ old.response → new.raw ≡ drop used old.raw → new.waiting ≡ old.waiting → Frames old new found
 frames_end old new chunks next used part found s on ended held t f r w =
     let last = some_is (end_of next) ended in
-    let whole : (framed : List ℕ) → AnsweredTo old.stage old.response framed → (value : Response) × (old.response ≡ Some value) × IsOptionsAnswer value (framed ++ take used old.raw) = λ framed a.
+    let whole : (framed : List ℕ) → AnsweredTo old.stage old.response framed
+    → (value : Response) × (old.response ≡ Some value) × IsOptionsAnswer value (framed ++ take used old.raw) = λ framed a.
     let here : AnsweredTo (Body chunks) old.response framed = subst (λ (k : OptionsStage). AnsweredTo k old.response framed) s a in
     let front = here.2 in (
       here.0,
@@ -205,33 +237,45 @@ frames_end old new chunks next used part found s on ended held t f r w =
         rest = front.rest ++ take used old.raw;
         text_is = rest_more here.0 chunks framed (take used old.raw) front;
         head_is = front.head_is;
-        body_is = inr (front.list, (front.body ++ part, last.0, reads_end (front.rest ++ take used old.raw) (front.body ++ part) next last.0 (on front.rest front.body front.read) last.1));
+        body_is = inr (
+          front.list,
+          (
+            front.body ++ part,
+            last.0,
+            reads_end (front.rest ++ take used old.raw) (front.body ++ part) next last.0 (on front.rest front.body front.read) last.1,
+          ),
+        );
       },
     ) in
     record {
       used = take used old.raw;
       raw_is = sym (take-append-drop used old.raw) ∙ ap (λ (l : List ℕ). take used old.raw ++ l) (sym r);
       waiting = w;
-      answered = λ framed a. let k = whole framed a in subst (λ (o : OptionsStage). AnsweredTo o new.response (framed ++ take used old.raw)) (sym t) (k.0, k.2);
-      answer = λ framed a. let k = whole framed a in subst (λ (o : Option Response). IfSome o (λ v. IsOptionsAnswer v (framed ++ take used old.raw))) (sym (f ∙ k.1)) k.2;
+      answered = λ framed a. let k = whole framed a in
+          subst (λ (o : OptionsStage). AnsweredTo o new.response (framed ++ take used old.raw)) (sym t) (k.0, k.2);
+      answer = λ framed a. let k = whole framed a in
+          subst (λ (o : Option Response). IfSome o (λ v. IsOptionsAnswer v (framed ++ take used old.raw))) (sym (f ∙ k.1)) k.2;
       tells = tells_end old.stage new.stage found (no_body_over old.stage chunks s) t (ap (λ (o : Option Response). is_some o) f ∙ held);
     }
 
 -- nothing more is framed
-pub frames_kept : (old new : Asker) → new.stage ≡ old.stage → new.response ≡ old.response → new.raw ≡ old.raw → new.waiting ≡ old.waiting → Frames old new None
+pub frames_kept : (old new : Asker) → new.stage ≡ old.stage → new.response ≡ old.response → new.raw ≡ old.raw → new.waiting ≡ old.waiting
+    → Frames old new None
 frames_kept old new s o r w = record {
   used = [];
   raw_is = sym r;
   waiting = w;
   answered = λ framed a.
       subst (λ (t : List ℕ). AnsweredTo new.stage new.response t) (sym (append-nil framed))
-      (subst (λ (k : OptionsStage). AnsweredTo k new.response framed) (sym s) (subst (λ (v : Option Response). AnsweredTo old.stage v framed) (sym o) a));
+      (subst (λ (k : OptionsStage). AnsweredTo k new.response framed) (sym s)
+      (subst (λ (v : Option Response). AnsweredTo old.stage v framed) (sym o) a));
   answer = λ framed a. tt;
   tells = tells_still old.stage new.stage s;
 }
 
 pub frames_same : (old new : Asker) → new ≡ old → Frames old new None
-frames_same old new e = frames_kept old new (ap (λ (n : Asker). n.stage) e) (ap (λ (n : Asker). n.response) e) (ap (λ (n : Asker). n.raw) e) (ap (λ (n : Asker). n.waiting) e)
+frames_same old new e = frames_kept old new (ap (λ (n : Asker). n.stage) e) (ap (λ (n : Asker). n.response) e) (ap (λ (n : Asker). n.raw) e)
+    (ap (λ (n : Asker). n.waiting) e)
 
 -- a body that comes
 pub holds_start : (head : IcapResponse) (chunks : ChunkReader) → chunks ≡ start → HoldsHead (Body chunks) (Some head)
@@ -241,7 +285,8 @@ some_mapped : (o : Option IcapResponse) → is_some o ≡ true → is_some (opti
 some_mapped None e = cc
 some_mapped (Some head) e = refl
 
-pub head_held : (s : Asker) (stage : OptionsStage) (response : Option IcapResponse) (chunks : ChunkReader) → option_map response_parts response ≡ s.response → stage ≡ Body chunks → HoldsHead stage response → is_some s.response ≡ true
+pub head_held : (s : Asker) (stage : OptionsStage) (response : Option IcapResponse) (chunks : ChunkReader)
+    → option_map response_parts response ≡ s.response → stage ≡ Body chunks → HoldsHead stage response → is_some s.response ≡ true
 head_held s stage response chunks e b h =
     let here : HoldsHead (Body chunks) response = subst (λ (t : OptionsStage). HoldsHead t response) b h in
     ap (λ (o : Option Response). is_some o) (sym e) ∙ some_mapped response here.0
@@ -249,7 +294,8 @@ head_held s stage response chunks e b h =
 -- ---- refusing
 
 -- the raw bytes are refused where they begin
-pub refuses_here : (old : Asker) (stage : OptionsStage) (fault : ClientFault) → old.stage ≡ stage → RefusesOptions fault stage old.raw → RefusesRaw fault old
+pub refuses_here : (old : Asker) (stage : OptionsStage) (fault : ClientFault) → old.stage ≡ stage → RefusesOptions fault stage old.raw
+    → RefusesRaw fault old
 refuses_here old stage fault s r = record {
   at = old;
   frames = frames_same old old refl;
@@ -257,8 +303,10 @@ refuses_here old stage fault s r = record {
 }
 
 -- a body's bytes are, behind its head
-pub refuses_then : (a b : Asker) (value : Response) (chunks : ChunkReader) (size : ℕ) (fault : ClientFault) → chunks ≡ start → a.stage ≡ Head → HasResponse a.raw value size → HasOptionsBody (lists_of value) true
-    → b.stage ≡ Body chunks → b.response ≡ Some value → b.raw ≡ drop size a.raw → b.waiting ≡ a.waiting → RefusesRaw fault b → RefusesRaw fault a
+pub refuses_then : (a b : Asker) (value : Response) (chunks : ChunkReader) (size : ℕ) (fault : ClientFault) → chunks ≡ start
+    → a.stage ≡ Head → HasResponse a.raw value size → HasOptionsBody (lists_of value) true
+    → b.stage ≡ Body chunks → b.response ≡ Some value → b.raw ≡ drop size a.raw → b.waiting ≡ a.waiting → RefusesRaw fault b
+    → RefusesRaw fault a
 refuses_then a b value chunks size fault st s h l t r e w g = record {
   at = g.at;
   frames = frames_then a b g.at value chunks size None st s h l t r e w g.frames;
@@ -280,17 +328,24 @@ none_wants raw (inr (line, behind, first, inr (form, inr (inr h)))) = unended_wa
 
 -- a body's byte breaks it
 pub refuses_body : (old : Asker) (chunks : ChunkReader) (raw : List ℕ) (fault : ChunkFault) → old.stage ≡ Body chunks → raw ≡ old.raw
-    → ((part : List ℕ) × ((text body : List ℕ) → HasRead text body chunks → Breaks (text ++ raw) (body ++ part) fault)) → RefusesRaw faults.Chunk old
+    → ((part : List ℕ) × ((text body : List ℕ) → HasRead text body chunks → Breaks (text ++ raw) (body ++ part) fault))
+    → RefusesRaw faults.Chunk old
 refuses_body old chunks raw fault s e b =
-    refuses_here old (Body chunks) faults.Chunk s (fault, b.0, subst (λ (t : List ℕ). (text body : List ℕ) → HasRead text body chunks → Breaks (text ++ t) (body ++ b.0) fault) e b.1)
+    refuses_here old (Body chunks) faults.Chunk s (
+      fault,
+      b.0,
+      subst (λ (t : List ℕ). (text body : List ℕ) → HasRead text body chunks → Breaks (text ++ t) (body ++ b.0) fault) e b.1,
+    )
 
 -- what is said of the text of the raw bytes
-pub head_stands : {A : Type 0} (fault : HeadFault) (raw text : List ℕ) → text ≡ raw → (A → HasAnyHead text) → ((fault ≡ heads.NoMemory) × A) ⊎ RefusesResponse fault text
+pub head_stands : {A : Type 0} (fault : HeadFault) (raw text : List ℕ) → text ≡ raw → (A → HasAnyHead text)
+    → ((fault ≡ heads.NoMemory) × A) ⊎ RefusesResponse fault text
     → ((fault ≡ heads.NoMemory) × HasAnyHead raw) ⊎ RefusesResponse fault raw
 head_stands fault raw text e f (inl h) = inl (h.0, subst HasAnyHead e (f h.1))
 head_stands fault raw text e f (inr s) = inr (subst (λ (t : List ℕ). RefusesResponse fault t) e s)
 
-pub more_stands : (fault : HeadFault) (raw : List ℕ) → fault ≡ heads.More → ((fault ≡ heads.NoMemory) × HasAnyHead raw) ⊎ RefusesResponse fault raw → RefusesResponse heads.More raw
+pub more_stands : (fault : HeadFault) (raw : List ℕ) → fault ≡ heads.More
+    → ((fault ≡ heads.NoMemory) × HasAnyHead raw) ⊎ RefusesResponse fault raw → RefusesResponse heads.More raw
 more_stands fault raw e (inl h) = let odd : heads.More ≡ heads.NoMemory = sym e ∙ h.0 in cc
 more_stands fault raw e (inr s) = subst (λ (f : HeadFault). RefusesResponse f raw) e s
 
@@ -299,11 +354,13 @@ err_map (Ok a) P Q f h = tt
 err_map (Err b) P Q f h = f b h
 
 -- a head's fault
-pub refuses_head : (fault : HeadFault) (found : ClientFault) (raw : List ℕ) → (((fault ≡ heads.NoMemory) × (found ≡ faults.NoMemory)) ⊎ ((found ≡ faults.Head) × (fault ≢ heads.NoMemory) × (fault ≢ heads.More)))
+pub refuses_head : (fault : HeadFault) (found : ClientFault) (raw : List ℕ)
+    → (((fault ≡ heads.NoMemory) × (found ≡ faults.NoMemory)) ⊎ ((found ≡ faults.Head) × (fault ≢ heads.NoMemory) × (fault ≢ heads.More)))
     → ((fault ≡ heads.NoMemory) × HasAnyHead raw) ⊎ RefusesResponse fault raw → RefusesOptionsHead found raw
 refuses_head fault found raw (inl m) (inl h) = subst (λ (f : ClientFault). RefusesOptionsHead f raw) (sym m.1) h.1
 refuses_head fault found raw (inl m) (inr s) = absurd (none_wants raw (subst (λ (f : HeadFault). RefusesResponse f raw) m.0 s))
-refuses_head fault found raw (inr h) s = subst (λ (f : ClientFault). RefusesOptionsHead f raw) (sym h.0) (fault, h.2, stands_for fault raw h.1 s)
+refuses_head fault found raw (inr h) s = subst (λ (f : ClientFault). RefusesOptionsHead f raw) (sym h.0)
+    (fault, h.2, stands_for fault raw h.1 s)
 
 pub none_left : (n : ℕ) (xs : List ℕ) → length xs ≤ n → drop n xs ≡ []
 none_left n xs l = drop_of_length-le xs l
@@ -321,7 +378,8 @@ none_more n m xs l = drop-drop m n xs ∙ none_left (n + m) xs l
 
 pub some_text : (host path : List ℕ) (port : ℕ) → 0 < length (options_request host port path)
 some_text host path port =
-    let front = joined (codes "Encapsulated: null-body=0" ∷ crlf ∷ []) (joined (host_pieces host port) (joined (options_pieces host port path) [])) in
+    let front = joined (codes "Encapsulated: null-body=0" ∷ crlf ∷ []) (joined (host_pieces host port)
+    (joined (options_pieces host port path) [])) in
     let long : length (front ++ crlf) ≡ length front + length crlf = length-append front crlf in
     let two : length crlf ≡ 2 = refl in
     omega (arith, long, two)

@@ -1,5 +1,7 @@
 -- A turn's moves, as steps of what was sent.
-use Rattle.std.proofs.Common.{◌≡◌, ℕ, ◌+◌, ◌-◌, ◌<◌, ◌≤◌, ◌⊎◌, inl, inr, Bool, true, false, not, ◌&&◌, List, [], ◌∷◌, ◌++◌, length, take, drop, refl, ap, sym, subst, ◌∙◌, append_assoc, append-nil, arith, Option, Some, None, IfSome, IsSomeAnd, if◌then◌else◌, ◌==◌}
+use Rattle.std.proofs.Common.{◌≡◌, ℕ, ◌+◌, ◌-◌, ◌<◌, ◌≤◌, ◌⊎◌, inl, inr, Bool, true, false, not, ◌&&◌, List, [], ◌∷◌, ◌++◌, length, take}
+use Rattle.std.proofs.Common.{drop, refl, ap, sym, subst, ◌∙◌, append_assoc, append-nil, arith, Option, Some, None, IfSome, IsSomeAnd}
+use Rattle.std.proofs.Common.{if◌then◌else◌, ◌==◌}
 use Rattle.std.proofs.lemmas.Bool.Decides.{nat_tests}
 use Rattle.std.proofs.lemmas.Bool.{cases_lt}
 use Rattle.std.proofs.lemmas.List.{length-take-le, take-take, drop-drop}
@@ -17,7 +19,8 @@ use Rattle.chunk_writer.specs.Moves.{Moves}
 use Rattle.chunk_writer.specs.Moves.Moves.{start, passed, begun_chunk, sent, ended}
 use Rattle.chunk_writer.proofs.Moving.{Reaches, reaches, there}
 use Rattle.icap_client.specs.RequestText.{is_null}
-use Rattle.icap_client.specs.Sending.{HasSent, Came, KeepsUnsent, NothingDue, Decides, StopsAt, stop_text, stop_text_at, svc_events, sending_events}
+use Rattle.icap_client.specs.Sending.{HasSent, Came, KeepsUnsent, NothingDue, Decides, StopsAt, stop_text, stop_text_at, svc_events}
+use Rattle.icap_client.specs.Sending.{sending_events}
 use Rattle.icap_client.specs.Events.{after_all, MayAllFollow, AllAre, is_of_sending}
 use Rattle.icap_client.specs.Turns.{GoesOn}
 use Rattle.icap_client.proofs.Sent.{sent_taken, sent_begun, sent_stopped, sent_data}
@@ -58,7 +61,8 @@ text_after x n =
     let e : x.sent + n ≡ n + x.sent = omega arith in
     let r : x.received ≡ 0 + x.received = omega arith in
     ap (λ (place : ℕ). stop_text_at x place) e
-    ∙ ap (λ (received : ℕ). if is_null x.plan.len then [] else last_chunk (is_preview x.plan.kind && not x.stopped && x.ended && (n + x.sent == received))) r
+    ∙ ap (λ (received : ℕ). if is_null x.plan.len then [] else last_chunk
+    (is_preview x.plan.kind && not x.stopped && x.ended && (n + x.sent == received))) r
 
 text_here : (x : Seen) → stop_text_at x (x.sent + 0) ≡ stop_text x
 text_here x = ap (λ (place : ℕ). stop_text_at x place) (add_zero x.sent)
@@ -100,7 +104,8 @@ all_then x n true e = rw e refl
 all_then x n false e = rw e refl
 
 -- Body bytes.
-part_is : (tape : Tape) (next : Next) (came : List ℕ) (from k : ℕ) → next.from ≡ from → tape.base ≤ from → drop tape.base came ≡ tape.bytes → k ≤ next.count
+part_is : (tape : Tape) (next : Next) (came : List ℕ) (from k : ℕ) → next.from ≡ from → tape.base ≤ from → drop tape.base came ≡ tape.bytes
+    → k ≤ next.count
     → take k (bytes_of tape next) ≡ take k (drop from came)
 part_is tape next came from k e b i l =
     let behind_base : tape.base + (next.from - tape.base) ≡ from = omega arith in
@@ -109,8 +114,10 @@ part_is tape next came from k e b i l =
     ∙ (ap (λ (xs : List ℕ). take k xs) (drop-drop (next.from - tape.base) tape.base came)
     ∙ ap (λ (m : ℕ). take k (drop m came)) behind_base))
 
-data_by : (head : List ℕ) (x : Seen) (tape : Tape) (next : Next) (came taken : List ℕ) (v : Writer) (k : ℕ) → next.from ≡ x.sent → tape.base ≤ x.sent → Came x tape came → length (bytes_of tape next) ≡ next.count
-    → waiting v ≡ [] → 0 < k → k ≤ next.count → k ≤ v.left → HasSent head x came taken v → HasSent head (sent_to x k) came (taken ++ take k (bytes_of tape next)) (sent_on v k)
+data_by : (head : List ℕ) (x : Seen) (tape : Tape) (next : Next) (came taken : List ℕ) (v : Writer) (k : ℕ) → next.from ≡ x.sent
+    → tape.base ≤ x.sent → Came x tape came → length (bytes_of tape next) ≡ next.count
+    → waiting v ≡ [] → 0 < k → k ≤ next.count → k ≤ v.left → HasSent head x came taken v
+    → HasSent head (sent_to x k) came (taken ++ take k (bytes_of tape next)) (sent_on v k)
 data_by head x tape next came taken v k f b i l o some few within h =
     let part = take k (bytes_of tape next) in
     let long : length part ≡ k = length-take-le k (bytes_of tape next) (omega arith) in
@@ -132,8 +139,10 @@ pub record Given (x : Seen) (tape : Tape) (next : Next) (old : Writer) (came : L
   long : length (bytes_of tape next) ≡ next.count
   came_is : Came x tape came
 
-ended_at : (head : List ℕ) (x : Seen) (tape : Tape) (next : Next) (old v : Writer) (came taken : List ℕ) → Given x tape next old came → waiting v ≡ [] → is_ending next.end ≡ true
-    → HasSent head (sent_to x next.count) came taken v → HasSent head (after_all x (sending_events next.count true)) came taken (fixed v (end_text next.end))
+ended_at : (head : List ℕ) (x : Seen) (tape : Tape) (next : Next) (old v : Writer) (came taken : List ℕ) → Given x tape next old came
+    → waiting v ≡ [] → is_ending next.end ≡ true
+    → HasSent head (sent_to x next.count) came taken v
+    → HasSent head (after_all x (sending_events next.count true)) came taken (fixed v (end_text next.end))
 ended_at head x tape next old v came taken g o i h =
     let y = sent_to x next.count in
     let due = g.decided.stop i in
@@ -143,7 +152,8 @@ ended_at head x tape next old v came taken g o i h =
     (subst (λ (xs : List ℕ). HasSent head (after y Stop) came taken (fixed v xs)) (sym text)
     (sent_stopped head y came taken v o (l.came came g.came_is).count l.sound (l.stop due.1 due.2) h))
 
-pub carried : (head : List ℕ) (x : Seen) (tape : Tape) (next : Next) (old w : Writer) (came taken : List ℕ) (k : ℕ) (e : Bool) (d : List ℕ) → Given x tape next old came → Moves tape next old k e d w
+pub carried : (head : List ℕ) (x : Seen) (tape : Tape) (next : Next) (old w : Writer) (came taken : List ℕ) (k : ℕ) (e : Bool) (d : List ℕ)
+    → Given x tape next old came → Moves tape next old k e d w
     → HasSent head x came taken old → HasSent head (after_all x (sending_events k e)) came (taken ++ d) w
 carried head x tape next old w came taken k e d g start h = subst (λ (xs : List ℕ). HasSent head x came xs old) (sym (append-nil taken)) h
 carried head x tape next old w came taken k e d g (passed {d = d'} {v = v} m part w' p) h =
@@ -151,13 +161,16 @@ carried head x tape next old w came taken k e d g (passed {d = d'} {v = v} m par
     subst (λ (xs : List ℕ). HasSent head (after_all x (sending_events k e)) came xs w) (append_assoc taken d' part)
     (sent_taken head (after_all x (sending_events k e)) came (taken ++ d') part v w p.rest p.framing p.left before)
 carried head x tape next old w came taken k e d g (begun_chunk {v = v} m c o l s) h =
-    sent_begun head x came (taken ++ d) v next.count s o l g.sound (g.decided.svc s).1 (carried head x tape next old v came taken 0 false d g m h)
+    sent_begun head x came (taken ++ d) v next.count s o l g.sound (g.decided.svc s).1
+    (carried head x tape next old v came taken 0 false d g m h)
 carried head x tape next old w came taken k e d g (sent {d = d'} {v = v} m k' o s few within) h =
     let before = carried head x tape next old v came taken 0 false d' g m h in
     let part = take k (bytes_of tape next) in
-    subst (λ (u : Writer). HasSent head (sent_to x k) came (taken ++ (d' ++ part)) u) (sym (chunked_data next.chunked v k g.decided.chunked))
+    subst (λ (u : Writer). HasSent head (sent_to x k) came (taken ++ (d' ++ part)) u)
+    (sym (chunked_data next.chunked v k g.decided.chunked))
     (subst (λ (xs : List ℕ). HasSent head (sent_to x k) came xs (sent_on v k)) (append_assoc taken d' part)
-    (data_by head x tape next came (taken ++ d') v k g.decided.from (g.base (omega arith)) g.came_is g.long o s few (within g.decided.chunked) before))
+    (data_by head x tape next came (taken ++ d') v k g.decided.from (g.base (omega arith)) g.came_is g.long o s few
+    (within g.decided.chunked) before))
 carried head x tape next old w came taken k e d g (ended {v = v} m o a i) h =
     let before = carried head x tape next old v came taken k false d g m h in
     subst (λ (n : ℕ). HasSent head (after_all x (sending_events n true)) came (taken ++ d) (fixed v (end_text next.end))) (sym a)
@@ -168,25 +181,30 @@ svc_legal : (x : Seen) (n : ℕ) → (0 < n → (x.closed ≡ false) × Allows x
 svc_legal x n a (inl some) = let e : (n == 0) ≡ false = grind (arith, nat_tests) in rw e ((a some).0, (a some).1, tt)
 svc_legal x n a (inr none) = let e : (n == 0) ≡ true = grind (arith, nat_tests) in rw e tt
 
-stop_by : (x : Seen) (n : ℕ) (b : Bool) → MayAllFollow x (if b then [] else Svc n ∷ []) → (after_all x (if b then [] else Svc n ∷ [])).closed ≡ false
+stop_by : (x : Seen) (n : ℕ) (b : Bool) → MayAllFollow x (if b then [] else Svc n ∷ [])
+    → (after_all x (if b then [] else Svc n ∷ [])).closed ≡ false
     → Allows (after_all x (if b then [] else Svc n ∷ [])) Stop → MayAllFollow x ((if b then [] else Svc n ∷ []) ++ Stop ∷ [])
 stop_by x n true l o a = (o, a, tt)
 stop_by x n false l o a = (l.0, l.1, (o, a, tt))
 
-legal_by : {most : ℕ} (x : Seen) (tape : Tape) (next : Next) (old : Writer) (k : ℕ) (e : Bool) → Sound x → Decides most x old next → Reaches next k e → MayAllFollow x (sending_events k e)
+legal_by : {most : ℕ} (x : Seen) (tape : Tape) (next : Next) (old : Writer) (k : ℕ) (e : Bool) → Sound x → Decides most x old next
+    → Reaches next k e → MayAllFollow x (sending_events k e)
 legal_by x tape next old k false s c r =
     svc_legal x k (λ some. let all = c.svc (omega (arith, r.few)) in (all.0, fewer x k next.count some r.few all.1)) (cases_lt 0 k)
 legal_by x tape next old k true s c r =
     let due = c.stop (r.all refl).1 in
     let l = leads x tape next.count s (λ some. (c.svc some).1) in
     subst (λ (n : ℕ). MayAllFollow x (sending_events n true)) (sym (r.all refl).0)
-    (stop_by x next.count (next.count == 0) (svc_legal x next.count c.svc (cases_lt 0 next.count)) (l.open_still ∙ due.0) (l.stop due.1 due.2))
+    (stop_by x next.count (next.count == 0) (svc_legal x next.count c.svc (cases_lt 0 next.count)) (l.open_still ∙ due.0)
+    (l.stop due.1 due.2))
 
-from_base : {most : ℕ} (x : Seen) (tape : Tape) (next : Next) (old : Writer) → KeepsUnsent x tape → Decides most x old next → 0 < next.count → tape.base ≤ x.sent
+from_base : {most : ℕ} (x : Seen) (tape : Tape) (next : Next) (old : Writer) → KeepsUnsent x tape → Decides most x old next → 0 < next.count
+    → tape.base ≤ x.sent
 from_base x tape next old k c some = k.base (c.svc some).0 (c.svc some).1.0
 
 -- a turn may be made by what was decided
-pub may_go_on : {most : ℕ} (x : Seen) (tape : Tape) (next : Next) (old : Writer) → KeepsUnsent x tape → Decides most x old next → MayGoOn old tape next
+pub may_go_on : {most : ℕ} (x : Seen) (tape : Tape) (next : Next) (old : Writer) → KeepsUnsent x tape → Decides most x old next
+    → MayGoOn old tape next
 may_go_on x tape next old k c = record {
   low = λ some. omega (arith, from_base x tape next old k c some, c.from);
   there = λ some. omega (arith, c.from, k.end, (c.svc some).1.2);
@@ -206,7 +224,8 @@ only_by : (k : ℕ) (e : Bool) → AllAre is_of_sending (sending_events k e)
 only_by k true = only_stop k (k == 0)
 only_by k false = only_svc k (k == 0)
 
-pub goes_on : {most : ℕ} (x : Seen) (tape : Tape) (next : Next) (old w : Writer) (k : ℕ) (e : Bool) (d : List ℕ) → Sound x → KeepsUnsent x tape → Decides most x old next → Moves tape next old k e d w
+pub goes_on : {most : ℕ} (x : Seen) (tape : Tape) (next : Next) (old w : Writer) (k : ℕ) (e : Bool) (d : List ℕ) → Sound x
+    → KeepsUnsent x tape → Decides most x old next → Moves tape next old k e d w
     → GoesOn x tape old w (sending_events k e) d
 goes_on {most} x tape next old w k e d s u c m = record {
   legal = legal_by x tape next old k e s c (reaches tape next old w k e d m);
@@ -229,14 +248,17 @@ no_events : (n : ℕ) → n ≡ 0 → sending_events n false ≡ []
 no_events n e = rw e refl
 
 -- where nothing waits and nothing comes next, nothing waits behind the moves
-pub still_out : (tape : Tape) (next : Next) (v w : Writer) (k : ℕ) (d : List ℕ) → waiting v ≡ [] → next.count ≡ 0 → Moves tape next v k false d w → waiting w ≡ []
+pub still_out : (tape : Tape) (next : Next) (v w : Writer) (k : ℕ) (d : List ℕ) → waiting v ≡ [] → next.count ≡ 0
+    → Moves tape next v k false d w → waiting w ≡ []
 still_out tape next v w k d o c start = o
-still_out tape next v w k d o c (passed {d = d'} {v = u} m part w' p) = (append_none part (waiting w) (p.rest ∙ still_out tape next v u k d' o c m)).1
+still_out tape next v w k d o c (passed {d = d'} {v = u} m part w' p) =
+    (append_none part (waiting w) (p.rest ∙ still_out tape next v u k d' o c m)).1
 still_out tape next v w k d o c (begun_chunk m a b l some) = absurd (omega (arith, c, some))
 still_out tape next v w k d o c (sent m k' a some few inside) = absurd (omega (arith, c, some, few))
 
 -- where no byte comes next, none may follow
-none_fits : {most : ℕ} (x : Seen) (w : Writer) (next : Next) → Decides most x w next → next.count ≡ 0 → (n : ℕ) → x.closed ≡ false → Allows x (Svc n) → ⊥
+none_fits : {most : ℕ} (x : Seen) (w : Writer) (next : Next) → Decides most x w next → next.count ≡ 0 → (n : ℕ) → x.closed ≡ false
+    → Allows x (Svc n) → ⊥
 none_fits x w next c z n o a =
     let one : 0 < next.count = c.some n (o, a) in
     omega (arith, one, z)
@@ -247,7 +269,8 @@ stop_from x n z (m, inl h) = inl (h.0, omega (arith, h.1, z))
 stop_from x n z (m, inr h) = inr (moved_preview (open_preview x) x.sent (x.sent + n) (omega (arith, z)) h)
 
 -- nothing was offered, and no event stands: nothing is due
-pub nothing_due : {most : ℕ} (x : Seen) (tape : Tape) (next : Next) (w new : Writer) (k : ℕ) (e : Bool) (d : List ℕ) → Decides most x w next → Moves tape next w k e d new → IsIdle w next k e → sending_events 0 e ≡ [] → NothingDue x new
+pub nothing_due : {most : ℕ} (x : Seen) (tape : Tape) (next : Next) (w new : Writer) (k : ℕ) (e : Bool) (d : List ℕ) → Decides most x w next
+    → Moves tape next w k e d new → IsIdle w next k e → sending_events 0 e ≡ [] → NothingDue x new
 nothing_due x tape next w new k true d c m i n = cc
 nothing_due x tape next w new k false d c m i n = record {
   flushed = still_out tape next w new k d i.out i.none m;
@@ -257,4 +280,8 @@ nothing_due x tape next w new k false d c m i n = record {
 
 -- a turn that does nothing
 pub goes_same : (x : Seen) (tape : Tape) (w : Writer) → GoesOn x tape w w [] []
-goes_same x tape w = record { legal = tt; only = tt; sent = λ head came taken i h. subst (λ (xs : List ℕ). HasSent head x came xs w) (sym (append-nil taken)) h }
+goes_same x tape w = record {
+  legal = tt;
+  only = tt;
+  sent = λ head came taken i h. subst (λ (xs : List ℕ). HasSent head x came xs w) (sym (append-nil taken)) h;
+}

@@ -12,7 +12,12 @@ use Rattle.icap_client.specs.declared.stage.Stage.{Stage}
 use Rattle.icap_client.specs.declared.stage.Stage.TheVariants.{Over}
 
 pub nothing_heard : (plan : Plan) (point : Point) → HasHeard (seen plan []) [] [] (first_reader point)
-nothing_heard plan point = record { marks = record { no_mod_is = refl; modified_is = refl; has_body_is = refl; over_is = refl }; none = refl; count = refl; interim = refl }
+nothing_heard plan point = record {
+  marks = record { no_mod_is = refl; modified_is = refl; has_body_is = refl; over_is = refl };
+  none = refl;
+  count = refl;
+  interim = refl;
+}
 
 whole_by : (x : Seen) (adapted read : List ℕ) (r : Reader) → HeardFinal x adapted read r → IsWhole x adapted read r
 whole_by x adapted read r (was_unchanged h) = record {
@@ -44,7 +49,8 @@ said_by x adapted read r (was_changed h) =
       before = h.before;
       icap = h.reply.heads_are.icap;
       rest = r.head ++ h.reply.rest;
-      text_is = h.text_is ∙ ap (λ (t : List ℕ). h.before ++ t) (h.reply.text_is ∙ (ap (λ (t : List ℕ). t ++ h.reply.rest) heads ∙ append_assoc h.reply.heads_are.icap r.head h.reply.rest));
+      text_is = h.text_is ∙ ap (λ (t : List ℕ). h.before ++ t) (h.reply.text_is
+          ∙ (ap (λ (t : List ℕ). t ++ h.reply.rest) heads ∙ append_assoc h.reply.heads_are.icap r.head h.reply.rest));
       interim = h.interim;
       said = h.said;
     }

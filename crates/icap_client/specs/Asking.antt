@@ -1,5 +1,6 @@
 -- What an OPTIONS request and its answer are (RFC 3507, section 4.10), and how far a side is with both.
-use Rattle.std.specs.Prelude.{◌≡◌, ◌≢◌, ℕ, ◌<◌, ◌≤◌, ◌⊎◌, Bool, true, false, List, [], ◌∷◌, ◌++◌, length, codes, Option, Some, None, IfSome, IfNone, IfOk, is_some, option_map, Result, Ok, Err}
+use Rattle.std.specs.Prelude.{◌≡◌, ◌≢◌, ℕ, ◌<◌, ◌≤◌, ◌⊎◌, Bool, true, false, List, [], ◌∷◌, ◌++◌, length, codes, Option, Some, None, IfSome}
+use Rattle.std.specs.Prelude.{IfNone, IfOk, is_some, option_map, Result, Ok, Err}
 use Rattle.adapt_bytes.specs.Numeral.{numeral}
 use Rattle.icap_chunks.specs.Grammar.{crlf, IsChunked}
 use Rattle.icap_chunks.specs.Machine.{HasRead, end_of, fault_of}
@@ -43,7 +44,8 @@ options_request host port path =
 -- of the Encapsulated fields' values: there is none, and no body; or just one, which says whether there is one
 abbrev pub HasOptionsBody : List (List ℕ) → Bool → Type 0
 HasOptionsBody [] body = body ≡ false
-HasOptionsBody (list ∷ []) body = (layout : Layout) × IsLayout methods.Options directions.Response list layout × (body ≡ has_body layout.body)
+HasOptionsBody (list ∷ []) body = (layout : Layout) × IsLayout methods.Options directions.Response list layout
+    × (body ≡ has_body layout.body)
 HasOptionsBody (list ∷ other ∷ more) body = ⊥
 
 -- the text is a whole answer with this head: the head, and after it a chunked body that its list names, or nothing
@@ -86,7 +88,8 @@ RefusesOptionsHead _ raw = ⊥
 
 -- of bytes of its body: one breaks it, after this part of the body
 abbrev pub RefusesOptionsBody : ClientFault → ChunkReader → List ℕ → Type 0
-RefusesOptionsBody faults.Chunk chunks raw = (fault : ChunkFault) × (part : List ℕ) × ((text body : List ℕ) → HasRead text body chunks → Breaks (text ++ raw) (body ++ part) fault)
+RefusesOptionsBody faults.Chunk chunks raw = (fault : ChunkFault) × (part : List ℕ)
+    × ((text body : List ℕ) → HasRead text body chunks → Breaks (text ++ raw) (body ++ part) fault)
 RefusesOptionsBody _ chunks raw = ⊥
 
 -- by how far the answer is read
@@ -168,7 +171,8 @@ pub record RefusesRaw (fault : ClientFault) (old : Asker) : Type 0 where
 -- what was read says what is answered
 pub record AnswersOptions (old new : Asker) (given : List ℕ) (found : Option Response) : Type 0 where
   pub answered : (read : List ℕ) → HasAnswered read old → HasAnswered (read ++ given) new
-  pub answer : (read : List ℕ) → HasAnswered read old → IfSome found (λ value. (text : List ℕ) × IsOptionsAnswer value text × (read ++ given ≡ text ++ new.raw))
+  pub answer : (read : List ℕ) → HasAnswered read old
+      → IfSome found (λ value. (text : List ℕ) × IsOptionsAnswer value text × (read ++ given ≡ text ++ new.raw))
   pub tells : Tells old.stage new.stage found
 
 -- with these bytes after those that were read, what isn't framed of them is refused
@@ -187,8 +191,10 @@ pub data Call : Type 0 where
 
 -- the wire was asked this once, when it was due, and gave and took these bytes
 abbrev pub IsCall : Call → (Past → Type 0) → (Past → Type 0) → Asker → List ℕ → List ℕ → Type 0
-IsCall (offered answer) before after old given taken = (0 < length old.waiting) × Offers before after old.waiting (Some answer) × (given ≡ []) × (taken ≡ part_taken answer old.waiting)
-IsCall (filled answer) before after old given taken = (old.waiting ≡ []) × ¬ (old.stage ≡ Over) × IsFilled before after [] given answer × (taken ≡ [])
+IsCall (offered answer) before after old given taken =
+    (0 < length old.waiting) × Offers before after old.waiting (Some answer) × (given ≡ []) × (taken ≡ part_taken answer old.waiting)
+IsCall (filled answer) before after old given taken =
+    (old.waiting ≡ []) × ¬ (old.stage ≡ Over) × IsFilled before after [] given answer × (taken ≡ [])
 IsCall rested before after old given taken = (old.waiting ≡ []) × ((p : Past) → before p → after p) × (given ≡ []) × (taken ≡ [])
 
 -- what bytes make of a turn: the head of an answer, or why there is none; nothing only if more are wanted

@@ -23,7 +23,8 @@ pub record ReaderHears (x : Seen) (old new : Reader) (events : List Event) (byte
 -- no event came of these bytes: they are a prefix of an ICAP head, and none was used; or the ICAP head of a 200 was used
 pub data PassesWithoutEvent (old new : Reader) (used : ℕ) (raw : List ℕ) : Type 0 where
   waits : used ≡ 0 → new.stage ≡ old.stage → new.point ≡ old.point → RefusesResponse More raw → PassesWithoutEvent old new used raw
-  goes_on : (layout : Layout) → new.stage ≡ Head layout → new.point ≡ old.point → IsModHead old.point layout (take used raw) → PassesWithoutEvent old new used raw
+  goes_on : (layout : Layout) → new.stage ≡ Head layout → new.point ≡ old.point → IsModHead old.point layout (take used raw)
+      → PassesWithoutEvent old new used raw
 
 -- there is no empty line in the text
 abbrev pub HasNoEmptyLine : List ℕ → Type 0

@@ -1,7 +1,8 @@
 -- The side's marks beside the other sides' events, and after a turn's.
 use Rattle.std.proofs.Common.{◌≡◌, ℕ, Bool, false, not, ◌||◌, ◌&&◌, List, ◌++◌, length, refl, ap, sym, ◌∙◌}
 use Rattle.trace_core.specs.declared.history.Event.{Event}
-use Rattle.trace_core.specs.declared.history.Event.TheVariants.{In, End, Svc, Stop, Heard, Continue, NoMod, Mod, Ad, AdEnd, Usr, Done, Fail, Retry}
+use Rattle.trace_core.specs.declared.history.Event.TheVariants.{In, End, Svc, Stop, Heard, Continue, NoMod, Mod, Ad, AdEnd, Usr, Done, Fail}
+use Rattle.trace_core.specs.declared.history.Event.TheVariants.{Retry}
 use Rattle.trace_core.specs.declared.history.Seen.{Seen}
 use Rattle.trace_core.specs.History.{in_bytes, is_retry, is_preview}
 use Rattle.trace_core.specs.View.{after}
@@ -43,7 +44,8 @@ might_retry x Done n m = cc
 might_retry x (Fail cause) n m = cc
 might_retry x Retry n m = cc
 
-pub service_others : (head : List ℕ) (x : Seen) (event : Event) (came bytes taken : List ℕ) (s : Service) → is_of_sending event ≡ false → is_retry event ≡ false → length came ≡ x.received → length bytes ≡ in_bytes event
+pub service_others : (head : List ℕ) (x : Seen) (event : Event) (came bytes taken : List ℕ) (s : Service) → is_of_sending event ≡ false
+    → is_retry event ≡ false → length came ≡ x.received → length bytes ≡ in_bytes event
     → ServiceSent head x came taken s → ServiceSent head (after x event) (came ++ bytes) taken s
 service_others head x event came bytes taken s o n l b h = record {
   sent = others head x event came bytes taken s.writer o n l b h.sent;
@@ -58,7 +60,8 @@ answered_same x event s =
     ∙ (ap (λ (n : Bool). is_preview x.plan.kind && (not x.continued && (n || (after x event).modified))) s.no_mod_is
     ∙ ap (λ (m : Bool). is_preview x.plan.kind && (not x.continued && (x.no_mod || m))) s.modified_is)
 
-pub service_keeps : (x : Seen) (event : Event) (adapted read : List ℕ) (s : Service) → is_of_replies event ≡ false → ServiceHeard x adapted read s → ServiceHeard (after x event) adapted read s
+pub service_keeps : (x : Seen) (event : Event) (adapted read : List ℕ) (s : Service) → is_of_replies event ≡ false
+    → ServiceHeard x adapted read s → ServiceHeard (after x event) adapted read s
 service_keeps x event adapted read s o h = record {
   heard = side_keeps x event adapted read s.replies o h.heard;
   answered = h.answered ∙ sym (answered_same x event (same_after x event o));

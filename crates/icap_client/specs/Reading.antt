@@ -1,5 +1,6 @@
 -- What a read turn of the service's side does, on its wire and by its events.
-use Rattle.std.specs.Prelude.{◌≡◌, ◌≢◌, ℕ, ◌<◌, ◌≤◌, ◌⊎◌, Bool, true, false, List, [], ◌++◌, length, take, Option, Some, None, Result, Ok, Err}
+use Rattle.std.specs.Prelude.{◌≡◌, ◌≢◌, ℕ, ◌<◌, ◌≤◌, ◌⊎◌, Bool, true, false, List, [], ◌++◌, length, take, Option, Some, None, Result, Ok}
+use Rattle.std.specs.Prelude.{Err}
 use Rattle.trace_core.specs.declared.history.Event.{Event}
 use Rattle.trace_core.specs.declared.history.Event.TheVariants.{Heard}
 use Rattle.trace_core.specs.declared.history.Seen.{Seen}
@@ -100,7 +101,8 @@ IsUnheard fault x all_sent = (fault ≡ NotLegal) × (x.heard ≡ false) × MayR
 -- bytes are refused
 abbrev pub IsCause : ClientFault → Seen → Bool → Reader → List ℕ → Type 0
 IsCause fault x all_sent reader raw =
-    (fault ≡ Closed) ⊎ ((fault ≡ Device) ⊎ ((fault ≡ NoMemory) ⊎ (IsUnheard fault x all_sent ⊎ Refuses fault x reader.point reader.stage raw)))
+    (fault ≡ Closed) ⊎ ((fault ≡ Device) ⊎ ((fault ≡ NoMemory) ⊎ (IsUnheard fault x all_sent
+    ⊎ Refuses fault x reader.point reader.stage raw)))
 
 -- what came of a turn in which the wire gave these bytes, with this much room
 abbrev pub CameOf : Seen → Bool → ReadSide → ReadSide → ℕ → List ℕ → List ℕ → Result Turn ClientFault → Type 0
@@ -113,7 +115,8 @@ CameOf x all_sent old new room out given (Err fault) =
     SideHears x old new [] given [] × IsCause fault x all_sent new.reader new.raw
 
 -- A turn of a side without a fault makes one read at most.
-pub record ReadTurn (x : Seen) (all_sent : Bool) (room : ℕ) (old new : ReadSide) (before after : Past → Type 0) (out : List ℕ) (result : Result Turn ClientFault) : Type 0 where
+pub record ReadTurn (x : Seen) (all_sent : Bool) (room : ℕ) (old new : ReadSide) (before after : Past → Type 0) (out : List ℕ)
+    (result : Result Turn ClientFault) : Type 0 where
   pub given : List ℕ
   pub answer : Option Got
   pub wire : ReadsAtMostOnce before after given answer

@@ -57,7 +57,8 @@ RefusesReply _ x point raw = ⊥
 
 -- the adapted message's head doesn't end at the layout's last byte of it
 pub data IsMisfit (layout : Layout) (raw : List ℕ) : Type 0 where
-  ends_early : (size : ℕ) → size ≤ length raw → IsEncapsulatedHead (take size raw) → size ≢ layout.offset → size ≤ layout.offset → IsMisfit layout raw
+  ends_early : (size : ℕ) → size ≤ length raw → IsEncapsulatedHead (take size raw) → size ≢ layout.offset → size ≤ layout.offset
+      → IsMisfit layout raw
   ends_late : layout.offset ≤ length raw → HasNoEmptyLine (take layout.offset raw) → IsMisfit layout raw
 
 -- it ends just there
@@ -74,12 +75,15 @@ RefusesHead _ x layout raw = ⊥
 
 -- bytes of a body came that may not come now, or its end
 pub data IsUntimelyBody (x : Seen) (chunks : ChunkReader) (raw : List ℕ) : Type 0 where
-  bytes : (used : ℕ) (part : List ℕ) (new : ChunkReader) → ReadsOn chunks raw used part new → 0 < length part → ¬ (MayHear x (Ad (length part))) → IsUntimelyBody x chunks raw
-  end : (used : ℕ) (new : ChunkReader) (ieof : Bool) → ReadsOn chunks raw used [] new → end_of new ≡ Some ieof → ¬ (MayHear x AdEnd) → IsUntimelyBody x chunks raw
+  bytes : (used : ℕ) (part : List ℕ) (new : ChunkReader) → ReadsOn chunks raw used part new → 0 < length part
+      → ¬ (MayHear x (Ad (length part))) → IsUntimelyBody x chunks raw
+  end : (used : ℕ) (new : ChunkReader) (ieof : Bool) → ReadsOn chunks raw used [] new → end_of new ≡ Some ieof → ¬ (MayHear x AdEnd)
+      → IsUntimelyBody x chunks raw
 
 -- why bytes of a body are refused
 abbrev pub RefusesBody : ClientFault → Seen → ChunkReader → List ℕ → Type 0
-RefusesBody faults.Chunk x chunks raw = (fault : ChunkFault) × ((text body : List ℕ) → HasRead text body chunks → Breaks (text ++ raw) body fault)
+RefusesBody faults.Chunk x chunks raw = (fault : ChunkFault) × ((text body : List ℕ) → HasRead text body chunks
+    → Breaks (text ++ raw) body fault)
 RefusesBody faults.NotLegal x chunks raw = IsUntimelyBody x chunks raw
 RefusesBody _ x chunks raw = ⊥
 

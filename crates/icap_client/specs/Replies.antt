@@ -1,6 +1,7 @@
 -- What the bytes of a service say (RFC 3507, sections 4.4 to 4.6): a 100 or none, then at most one final response,
 -- which is a 204 alone, or a 200 with the heads that its list names and then a chunked body or none.
-use Rattle.std.specs.Prelude.{◌≡◌, ℕ, ◌-◌, ◌<◌, ◌≤◌, ◌⊎◌, Bool, true, false, ◌&&◌, ◌||◌, nat_le, ◌==◌, List, [], ◌∷◌, ◌++◌, length, take, slice_index, codes, Some, None}
+use Rattle.std.specs.Prelude.{◌≡◌, ℕ, ◌-◌, ◌<◌, ◌≤◌, ◌⊎◌, Bool, true, false, ◌&&◌, ◌||◌, nat_le, ◌==◌, List, [], ◌∷◌, ◌++◌, length, take}
+use Rattle.std.specs.Prelude.{slice_index, codes, Some, None}
 use Rattle.adapt_bytes.specs.Fields.{values_of}
 use Rattle.adapt_bytes.specs.declared.limits.TheConstants.{MAX_HEAD}
 use Rattle.icap_head.specs.Heads.{Response, HasResponse}

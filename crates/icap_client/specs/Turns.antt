@@ -1,5 +1,6 @@
 -- What a write turn of the service's side does.
-use Rattle.std.specs.Prelude.{◌&&◌, ◌||◌, not, option_map, is_some, is_none, ◌≡◌, ℕ, ◌⊎◌, ◌↔◌, ◌==◌, length, Bool, true, false, List, [], ◌++◌, Option, Some, None, Result, Ok, Err}
+use Rattle.std.specs.Prelude.{◌&&◌, ◌||◌, not, option_map, is_some, is_none, ◌≡◌, ℕ, ◌⊎◌, ◌↔◌, ◌==◌, length, Bool, true, false, List, []}
+use Rattle.std.specs.Prelude.{◌++◌, Option, Some, None, Result, Ok, Err}
 use Rattle.trace_core.specs.declared.history.Event.{Event}
 use Rattle.trace_core.specs.declared.history.Event.TheVariants.{Retry}
 use Rattle.trace_core.specs.declared.history.Seen.{Seen}
@@ -28,7 +29,8 @@ use Rattle.adapt_sides.specs.declared.fault.ClientFault.TheVariants.{Device}
 pub record GoesOn (x : Seen) (tape : Tape) (old new : Writer) (events : List Event) (delta : List ℕ) : Type 0 where
   pub legal : MayAllFollow x events
   pub only : AllAre is_of_sending events
-  pub sent : (head came taken : List ℕ) → Came x tape came → HasSent head x came taken old → HasSent head (after_all x events) came (taken ++ delta) new
+  pub sent : (head came taken : List ℕ) → Came x tape came → HasSent head x came taken old
+      → HasSent head (after_all x events) came (taken ++ delta) new
 
 -- the service's side: what is written, what is read with the fault that stays, two marks: the Stop was fixed after which
 -- nothing goes to the service; a preview was answered, with no 100 before it; and how many bytes of the body one turn writes at most
@@ -45,7 +47,8 @@ is_answered x = is_preview x.plan.kind && (not x.continued && (x.no_mod || x.mod
 
 -- a Stop after this many bytes of the body is the one after which nothing goes to the service
 abbrev pub is_last_at : Seen → ℕ → Bool
-is_last_at x place = is_whole x.plan.kind || (is_preview x.plan.kind && not x.stopped && x.ended && (place == x.received)) || (is_preview x.plan.kind && x.continued)
+is_last_at x place = is_whole x.plan.kind || (is_preview x.plan.kind && not x.stopped && x.ended && (place == x.received)) ||
+    (is_preview x.plan.kind && x.continued)
 
 -- all that was fixed is out
 abbrev pub is_flushed : Writer → Bool
@@ -66,9 +69,11 @@ abbrev pub FitsOffer : Seen → Writer → Option Put → Result Turn ClientFaul
 FitsOffer x w answer (Ok turn) = FitsAnswer x w answer turn
 FitsOffer x w answer (Err fault) = (fault ≡ Device) × (answer ≡ Some put.Fault)
 
--- A turn of a side without a fault, of at most this many body bytes: its wire took a prefix of all that is due, which is what waits and, unless a long head goes
+-- A turn of a side without a fault, of at most this many body bytes: its wire took a prefix of all that is due, which is what
+-- waits and, unless a long head goes
 -- out alone, what comes next after it; the wire is asked only if there is such a text.
-pub record WriteTurn (most : ℕ) (x : Seen) (tape : Tape) (old new : Writer) (before after : Past → Type 0) (result : Result Turn ClientFault) : Type 0 where
+pub record WriteTurn (most : ℕ) (x : Seen) (tape : Tape) (old new : Writer) (before after : Past → Type 0)
+    (result : Result Turn ClientFault) : Type 0 where
   pub next : Next
   pub answer : Option Put
   pub decides : Decides most x old next
@@ -125,7 +130,8 @@ is_over Over = true
 -- another request may follow on the service's connection: the request is whole, the final response was read to its end and
 -- nothing after it, it doesn't say that the connection closes, and no fault stands
 abbrev pub is_reusable : Service → Bool
-is_reusable s = is_whole_request s && (is_over s.replies.reader.stage && ((length s.replies.raw == 0) && (not s.replies.reader.closes && is_none s.replies.fault)))
+is_reusable s = is_whole_request s && (is_over s.replies.reader.stage &&
+    ((length s.replies.raw == 0) && (not s.replies.reader.closes && is_none s.replies.fault)))
 
 -- the adapted message is a response: its head stands as res-hdr
 abbrev pub is_response_of : Service → Bool

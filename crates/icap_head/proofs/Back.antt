@@ -1,5 +1,6 @@
 -- What is written is read again.
-use Rattle.std.proofs.Common.{◌≡◌, ℕ, ◌+◌, ◌-◌, ◌/◌, ◌%◌, IsTrue, List, [], ◌∷◌, ◌++◌, length, get_or, map, refl, sym, ap, ap₂, ◌∙◌, arith, length-append, append_assoc, append-nil, codes, All, inr}
+use Rattle.std.proofs.Common.{◌≡◌, ℕ, ◌+◌, ◌-◌, ◌/◌, ◌%◌, IsTrue, List, [], ◌∷◌, ◌++◌, length, get_or, map, refl, sym, ap, ap₂, ◌∙◌, arith}
+use Rattle.std.proofs.Common.{length-append, append_assoc, append-nil, codes, All, inr}
 use Rattle.std.specs.List.{flat_map, AllByRecursion}
 use Rattle.std.proofs.Math.Seq.{take-append_seam}
 use Rattle.std.proofs.lemmas.List.{get_or_at}
@@ -13,7 +14,8 @@ use Rattle.httparse.proofs.TrimLemmas.{trim_ows_space}
 use Rattle.adapt_bytes.specs.Fields.{FieldList}
 use Rattle.icap_head.specs.StartLines.{without_cr, IsStatus, IsVersion}
 use Rattle.icap_head.specs.Heads.{Request, Response, ReadsHead, IsRequestHead, IsResponseHead, StartsRequest, StartsResponse}
-use Rattle.icap_head.specs.Written.{IsFieldPair, IsRequest, IsResponse, field_text, fields_text, request_line, request_text, status_line, response_text}
+use Rattle.icap_head.specs.Written.{IsFieldPair, IsRequest, IsResponse, field_text, fields_text, request_line, request_text, status_line}
+use Rattle.icap_head.specs.Written.{response_text}
 use Rattle.icap_head.proofs.Lacking.{no_feed, lacks_append, lacks_cons, lacks_from, lacks_nil, tested}
 
 cr_off : (line : List ℕ) → without_cr (line ++ 13 ∷ []) ≡ line
@@ -38,7 +40,10 @@ fields_valid : (fields : FieldList) → AllByRecursion IsFieldPair fields → Al
 unfolding line_of
 fields_valid [] h = All-nil IsField
 fields_valid (f ∷ fields) h =
-    All-cons IsField (line_of f) (map line_of fields) (record { name = h.0.name; raw = All-cons (λ b. IsTrue (is_value_byte b)) 32 f.1 refl h.0.value }) (fields_valid fields h.1)
+    All-cons IsField (line_of f) (map line_of fields) (record {
+      name = h.0.name;
+      raw = All-cons (λ b. IsTrue (is_value_byte b)) 32 f.1 refl h.0.value;
+    }) (fields_valid fields h.1)
 
 lines_printed : (fields : FieldList) → flat_map print_field (map line_of fields) ≡ flat_map field_text fields
 unfolding line_of
@@ -62,7 +67,15 @@ head_back S line fields start lacks h = record {
     line_is = sym (cr_off line);
   };
   start = start;
-  section = (map line_of fields, crlf, (fields_valid fields h, sym (fields_printed fields) ∙ sym (append-nil (print_section (map line_of fields) crlf))), fields_back fields h);
+  section = (
+    map line_of fields,
+    crlf,
+    (
+      fields_valid fields h,
+      sym (fields_printed fields) ∙ sym (append-nil (print_section (map line_of fields) crlf)),
+    ),
+    fields_back fields h,
+  );
 }
 
 -- ---- requests
@@ -70,17 +83,20 @@ head_back S line fields start lacks h = record {
 request_lacks : (value : Request) → IsRequest value → Lacks 10 (request_line value)
 request_lacks value h =
     lacks_append 10 (value.method ++ 32 ∷ value.uri) (32 ∷ codes "ICAP/1.0")
-    (lacks_append 10 value.method (32 ∷ value.uri) (no_feed value.method h.method) (lacks_cons 10 32 value.uri (tested 10 32 refl) h.one_line))
+    (lacks_append 10 value.method (32 ∷ value.uri) (no_feed value.method h.method)
+    (lacks_cons 10 32 value.uri (tested 10 32 refl) h.one_line))
     (lacks_from 10 (32 ∷ codes "ICAP/1.0") refl)
 
 pub request_back : (value : Request) → IsRequest value → IsRequestHead (request_text value) value
 unfolding request_text
 request_back value h =
     head_back (StartsRequest value) (request_line value) value.fields
-    (record { line_is = refl; method_is = h.method; uri_is = h.uri; one_word = h.one_word; version_is = version_itself }) (request_lacks value h) h.fields
+    (record { line_is = refl; method_is = h.method; uri_is = h.uri; one_word = h.one_word; version_is = version_itself })
+    (request_lacks value h) h.fields
 
 -- the text as it is put together
-pub request_text_is : (value : Request) → (((value.method ++ 32 ∷ []) ++ value.uri) ++ (codes " ICAP/1.0" ++ 13 ∷ 10 ∷ [])) ++ fields_text value.fields ≡ request_text value
+pub request_text_is : (value : Request) → (((value.method ++ 32 ∷ []) ++ value.uri) ++ (codes " ICAP/1.0" ++ 13 ∷ 10 ∷ []))
+    ++ fields_text value.fields ≡ request_text value
 unfolding request_text
 request_text_is value = simp append_assoc
 
@@ -110,17 +126,24 @@ status_lacks value h =
     (lacks_append 10 (codes "ICAP/1.0") (32 ∷ three_digits n) (lacks_from 10 (codes "ICAP/1.0") refl)
     (lacks_cons 10 32 (three_digits n) (tested 10 32 refl)
     (lacks_cons 10 (48 + n / 100) ((48 + n / 10 % 10) ∷ (48 + n % 10) ∷ []) (digit_no_feed (n / 100))
-    (lacks_cons 10 (48 + n / 10 % 10) ((48 + n % 10) ∷ []) (digit_no_feed (n / 10 % 10)) (lacks_cons 10 (48 + n % 10) [] (digit_no_feed (n % 10)) (lacks_nil 10))))))
+    (lacks_cons 10 (48 + n / 10 % 10) ((48 + n % 10) ∷ []) (digit_no_feed (n / 10 % 10))
+    (lacks_cons 10 (48 + n % 10) [] (digit_no_feed (n % 10)) (lacks_nil 10))))))
     (lacks_cons 10 32 value.phrase (tested 10 32 refl) h.one_line)
 
 pub response_back : (value : Response) → IsResponse value → IsResponseHead (response_text value) value
 unfolding response_text
 response_back value h =
     head_back (StartsResponse value) (status_line value) value.fields
-    (record { text = three_digits value.status ++ 32 ∷ value.phrase; line_is = append_assoc (codes "ICAP/1.0") (32 ∷ three_digits value.status) (32 ∷ value.phrase); version_is = version_itself; status_is = status_back value h })
+    (record {
+      text = three_digits value.status ++ 32 ∷ value.phrase;
+      line_is = append_assoc (codes "ICAP/1.0") (32 ∷ three_digits value.status) (32 ∷ value.phrase);
+      version_is = version_itself;
+      status_is = status_back value h;
+    })
     (status_lacks value h) h.fields
 
 -- the text as it is put together
-pub response_text_is : (value : Response) → (((((codes "ICAP/1.0 " ++ three_digits value.status) ++ 32 ∷ []) ++ value.phrase) ++ 13 ∷ 10 ∷ []) ++ fields_text value.fields) ≡ response_text value
+pub response_text_is : (value : Response) → (((((codes "ICAP/1.0 " ++ three_digits value.status) ++ 32 ∷ []) ++ value.phrase)
+    ++ 13 ∷ 10 ∷ []) ++ fields_text value.fields) ≡ response_text value
 unfolding response_text
 response_text_is value = simp append_assoc

@@ -1,5 +1,7 @@
 -- From the lines that `httparse` is shown to the whole text behind the start line.
-use Rattle.std.proofs.Common.{◌≡◌, ℕ, zero, suc, get_or, length-drop, length-append, ◌-◌, ◌+◌, ◌<◌, ◌≤◌, inl, inr, List, [], ◌∷◌, ◌++◌, length, take, drop, refl, sym, ap, ◌∙◌, subst, arith, append_assoc, take-append-drop, length-take-le, Result, Ok, Err, IfOk, IfErr}
+use Rattle.std.proofs.Common.{◌≡◌, ℕ, zero, suc, get_or, length-drop, length-append, ◌-◌, ◌+◌, ◌<◌, ◌≤◌, inl, inr, List, [], ◌∷◌, ◌++◌}
+use Rattle.std.proofs.Common.{length, take, drop, refl, sym, ap, ◌∙◌, subst, arith, append_assoc, take-append-drop, length-take-le, Result}
+use Rattle.std.proofs.Common.{Ok, Err, IfOk, IfErr}
 use Rattle.std.proofs.lemmas.List.{drop-append-le, take_more}
 use Rattle.httparse.specs.Grammar.{ReadsSection, NeverHasSection}
 use Rattle.httparse.proofs.GrammarLemmas.{ReadsSection-append}
@@ -17,11 +19,13 @@ pub ok_map : {A E : Type 0} {P Q : A → Type 0} (r : Result A E) → ((a : A) �
 ok_map (Ok a) f h = f a h
 ok_map (Err e) f h = h
 
-pub fields-append : (text more : List ℕ) (fields : FieldList) (rest : List ℕ) → ReadsFields text fields rest → ReadsFields (text ++ more) fields (rest ++ more)
+pub fields-append : (text more : List ℕ) (fields : FieldList) (rest : List ℕ) → ReadsFields text fields rest
+    → ReadsFields (text ++ more) fields (rest ++ more)
 fields-append text more fields rest r = (r.0, r.1, ReadsSection-append text r.0 r.1 rest more r.2, r.3)
 
 pub never-append : (text more : List ℕ) → NeverHasSection text → NeverHasSection (text ++ more)
-never-append text more never again fields last rest r = never (more ++ again) fields last rest (subst (λ t. ReadsSection t fields last rest) (append_assoc text more again) r)
+never-append text more never again fields last rest r =
+    never (more ++ again) fields last rest (subst (λ t. ReadsSection t fields last rest) (append_assoc text more again) r)
 
 pub has_fields-append : (text more : List ℕ) → HasFields text → HasFields (text ++ more)
 has_fields-append text more h = (h.0, h.1 ++ more, fields-append text more h.0 h.1 h.2, h.3)
@@ -32,14 +36,16 @@ pub cut_fault : (fault : HeadFault) (len : ℕ) (text more init : List ℕ) → 
 cut_fault fault len text more init ends count (inl h) =
     inl (h.0, never-append text more h.1, never_too_many text more h.1 (ends_too_many text init ends count h.1))
 cut_fault fault len text more init ends count (inr (inl h)) = inr (inl (h.0, too_many-append text more h.1))
-cut_fault fault len text more init ends count (inr (inr h)) = inr (inl (h.0, too_many-append text more (open_too_many text h.1 (omega (arith, count)))))
+cut_fault fault len text more init ends count (inr (inr h)) =
+    inr (inl (h.0, too_many-append text more (open_too_many text h.1 (omega (arith, count)))))
 
 -- the same of the text behind an offset, cut at an offset behind that
 split : (seen : List ℕ) (start end : ℕ) → end ≤ length (drop start seen) → start ≤ length seen
     → drop start seen ≡ drop start (take (start + end) seen) ++ drop (start + end) seen
 split seen start end fits in_seen =
     let n = length-take-le (start + end) seen (omega (arith, length-drop start seen)) in
-    ap (drop start) (sym (take-append-drop (start + end) seen)) ∙ drop-append-le start (take (start + end) seen) (drop (start + end) seen) (omega (arith, n))
+    ap (drop start) (sym (take-append-drop (start + end) seen)) ∙ drop-append-le start (take (start + end) seen) (drop (start + end) seen)
+    (omega (arith, n))
 
 take_nothing : (n : ℕ) (text : List ℕ) → text ≡ [] → [] ≡ take n text
 take_nothing zero text e = refl
@@ -47,22 +53,30 @@ take_nothing (suc n) text e = rw e refl
 
 drop_take : (seen : List ℕ) (start end : ℕ) → drop start (take (start + end) seen) ≡ take end (drop start seen)
 drop_take seen zero end = let e : 0 + end ≡ end = omega arith in ap (λ k. take k seen) e
-drop_take [] (suc start) end = let e : suc start + end ≡ suc (start + end) = omega arith in ap (λ k. drop (suc start) (take k [])) e ∙ take_nothing end [] refl
-drop_take (b ∷ seen) (suc start) end = let e : suc start + end ≡ suc (start + end) = omega arith in ap (λ k. drop (suc start) (take k (b ∷ seen))) e ∙ drop_take seen start end
+drop_take [] (suc start) end = let e : suc start + end ≡ suc (start + end) = omega arith in
+    ap (λ k. drop (suc start) (take k [])) e ∙ take_nothing end [] refl
+drop_take (b ∷ seen) (suc start) end = let e : suc start + end ≡ suc (start + end) = omega arith in
+    ap (λ k. drop (suc start) (take k (b ∷ seen))) e ∙ drop_take seen start end
 
-pub cut_stands : (fault : HeadFault) (len : ℕ) (seen : List ℕ) (start end : ℕ) → start ≤ length seen → 0 < end → end ≤ length (drop start seen)
+pub cut_stands : (fault : HeadFault) (len : ℕ) (seen : List ℕ) (start end : ℕ) → start ≤ length seen → 0 < end
+    → end ≤ length (drop start seen)
     → line_count (take end (drop start seen)) ≡ 101 → get_or (drop start seen) (end - 1) 0 ≡ 10
     → RefusesFieldLines fault TooMany (drop start (take (start + end) seen)) → RefusesFields fault len (drop start seen)
 cut_stands fault len seen start end in_seen pos fits count is h =
     let text = take end (drop start seen) in
     let init = take (end - 1) (drop start seen) in
     let back : end - 1 + 1 ≡ end = omega arith in
-    let ends : text ≡ init ++ 10 ∷ [] = ap (λ k. take k (drop start seen)) (sym back) ∙ take_more (drop start seen) (end - 1) 0 (omega arith) ∙ ap (λ b. init ++ b ∷ []) is in
-    subst (RefusesFields fault len) (sym (split seen start end fits in_seen ∙ ap (λ t. t ++ drop (start + end) seen) (drop_take seen start end)))
-    (cut_fault fault len text (drop (start + end) seen) init ends count (subst (RefusesFieldLines fault TooMany) (drop_take seen start end) h))
+    let ends : text ≡ init ++ 10 ∷ [] = ap (λ k. take k (drop start seen)) (sym back)
+    ∙ take_more (drop start seen) (end - 1) 0 (omega arith) ∙ ap (λ b. init ++ b ∷ []) is in
+    subst (RefusesFields fault len) (sym (split seen start end fits in_seen
+    ∙ ap (λ t. t ++ drop (start + end) seen) (drop_take seen start end)))
+    (cut_fault fault len text (drop (start + end) seen) init ends count
+    (subst (RefusesFieldLines fault TooMany) (drop_take seen start end) h))
 
-pub cut_found : (seen : List ℕ) (start end n : ℕ) (fields : FieldList) → start ≤ length seen → end ≤ length (drop start seen) → n ≤ length (take (start + end) seen)
-    → ReadsFields (drop start (take (start + end) seen)) fields (drop n (take (start + end) seen)) → (n ≤ length seen) × ReadsFields (drop start seen) fields (drop n seen)
+pub cut_found : (seen : List ℕ) (start end n : ℕ) (fields : FieldList) → start ≤ length seen → end ≤ length (drop start seen)
+    → n ≤ length (take (start + end) seen)
+    → ReadsFields (drop start (take (start + end) seen)) fields (drop n (take (start + end) seen))
+    → (n ≤ length seen) × ReadsFields (drop start seen) fields (drop n seen)
 cut_found seen start end n fields in_seen fits inside h =
     let lines = take (start + end) seen in
     let rest = drop (start + end) seen in
@@ -70,14 +84,18 @@ cut_found seen start end n fields in_seen fits inside h =
     let len = ap length whole in (
       omega (arith, len, length-append lines rest),
       subst (λ t. ReadsFields t fields (drop n seen)) (sym (split seen start end fits in_seen))
-          (subst (ReadsFields (drop start lines ++ rest) fields) (sym (drop-append-le n lines rest inside) ∙ ap (drop n) whole) (fields-append (drop start lines) rest fields (drop n lines) h)),
+          (subst (ReadsFields (drop start lines ++ rest) fields) (sym (drop-append-le n lines rest inside) ∙ ap (drop n) whole)
+          (fields-append (drop start lines) rest fields (drop n lines) h)),
     )
 
-pub cut_has : (seen : List ℕ) (start end : ℕ) → start ≤ length seen → end ≤ length (drop start seen) → HasFields (drop start (take (start + end) seen)) → HasFields (drop start seen)
-cut_has seen start end in_seen fits h = subst HasFields (sym (split seen start end fits in_seen)) (has_fields-append (drop start (take (start + end) seen)) (drop (start + end) seen) h)
+pub cut_has : (seen : List ℕ) (start end : ℕ) → start ≤ length seen → end ≤ length (drop start seen)
+    → HasFields (drop start (take (start + end) seen)) → HasFields (drop start seen)
+cut_has seen start end in_seen fits h = subst HasFields (sym (split seen start end fits in_seen))
+    (has_fields-append (drop start (take (start + end) seen)) (drop (start + end) seen) h)
 
 -- the faults of a text of fewer lines
-pub whole_fault : (fault : HeadFault) (len : ℕ) (text : List ℕ) → line_count text < 101 → RefusesFieldLines fault (unended len) text → RefusesFields fault len text
+pub whole_fault : (fault : HeadFault) (len : ℕ) (text : List ℕ) → line_count text < 101 → RefusesFieldLines fault (unended len) text
+    → RefusesFields fault len text
 whole_fault fault len text count h =
     let few : HasTooMany text → ⊥ = λ many. let n = too_many_count text many in omega (arith, n, count) in
     with few h

@@ -1,11 +1,14 @@
 -- Folds change no length, and what follows a head changes nothing in it.
-use Rattle.std.proofs.Common.{◌≡◌, ◌≢◌, ℕ, suc, ◌+◌, ◌-◌, ◌<◌, ◌≤◌, ◌⊎◌, inl, inr, Bool, true, false, List, [], ◌∷◌, ◌++◌, length, take, drop, get_or, refl, sym, ap, ap₂, ◌∙◌, subst, arith, rules, codes, append_assoc, append-nil, length-append, length-take, length-take-le, take-append-drop, take_all, nat_lt, if◌then◌else◌, eqb, All}
+use Rattle.std.proofs.Common.{◌≡◌, ◌≢◌, ℕ, suc, ◌+◌, ◌-◌, ◌<◌, ◌≤◌, ◌⊎◌, inl, inr, Bool, true, false, List, [], ◌∷◌, ◌++◌, length, take}
+use Rattle.std.proofs.Common.{drop, get_or, refl, sym, ap, ap₂, ◌∙◌, subst, arith, rules, codes, append_assoc, append-nil, length-append}
+use Rattle.std.proofs.Common.{length-take, length-take-le, take-append-drop, take_all, nat_lt, if◌then◌else◌, eqb, All}
 use Rattle.std.specs.List.{flat_map}
 use Rattle.std.proofs.lemmas.Bool.{cases_lt, cases_eq, ne_eqb}
 use Rattle.std.proofs.lemmas.List.{take_more, take-append-le, take-take, take_at, get_or_at, append_cancel_left}
 use Rattle.adapt_bytes.specs.Text.{Lacks, is_blank}
 use Rattle.adapt_bytes.specs.Fields.{FieldList}
-use Rattle.httparse.specs.Grammar.{LineEnd, crlf, lf, print_end, Field as Line, print_field, IsField, print_section, IsToken, is_token_byte, is_value_byte, AllPass}
+use Rattle.httparse.specs.Grammar.{LineEnd, crlf, lf, print_end, Field as Line, print_field, IsField, print_section, IsToken, is_token_byte}
+use Rattle.httparse.specs.Grammar.{is_value_byte, AllPass}
 use Rattle.icap_head.specs.declared.folds.HeadByte.{HeadByte}
 use Rattle.icap_head.specs.declared.folds.HeadByte.TheVariants as bytes
 use Rattle.icap_head.specs.declared.folds.HeadPlace.{HeadPlace}
@@ -32,7 +35,8 @@ added-append p (x ∷ xs) ys =
 
 -- ---- lengths
 
-one_length : (p : HeadPlace) (k : HeadByte) (b : ℕ) → length (if is_held (place_after p k) then [] else settled p k ++ b ∷ []) + length (held (place_after p k)) ≡ length (held p) + 1
+one_length : (p : HeadPlace) (k : HeadByte) (b : ℕ)
+    → length (if is_held (place_after p k) then [] else settled p k ++ b ∷ []) + length (held (place_after p k)) ≡ length (held p) + 1
 one_length StartLine bytes.Feed b = refl
 one_length StartLine k b = refl
 one_length LineStart bytes.Feed b = refl
@@ -77,10 +81,12 @@ settled_length ReturnFeed k = refl
 settled_length Over k = refl
 
 -- with one byte more
-pub place_more : (p : HeadPlace) (xs : List ℕ) (k : ℕ) → k < length xs → place_behind p (take (k + 1) xs) ≡ place_after (place_behind p (take k xs)) (head_byte (get_or xs k 0))
+pub place_more : (p : HeadPlace) (xs : List ℕ) (k : ℕ) → k < length xs
+    → place_behind p (take (k + 1) xs) ≡ place_after (place_behind p (take k xs)) (head_byte (get_or xs k 0))
 place_more p xs k l = ap (place_behind p) (take_more xs k 0 l) ∙ place-append p (take k xs) (get_or xs k 0 ∷ [])
 
-pub added_more : (p : HeadPlace) (xs : List ℕ) (k : ℕ) → k < length xs → all_added p (take (k + 1) xs) ≡ all_added p (take k xs) ++ added (place_behind p (take k xs)) (get_or xs k 0)
+pub added_more : (p : HeadPlace) (xs : List ℕ) (k : ℕ) → k < length xs
+    → all_added p (take (k + 1) xs) ≡ all_added p (take k xs) ++ added (place_behind p (take k xs)) (get_or xs k 0)
 added_more p xs k l =
     ap (all_added p) (take_more xs k 0 l) ∙ added-append p (take k xs) (get_or xs k 0 ∷ [])
     ∙ ap (λ t. all_added p (take k xs) ++ t) (append-nil (added (place_behind p (take k xs)) (get_or xs k 0)))
@@ -156,7 +162,8 @@ pub long_more : (text more : List ℕ) → 16384 ≤ length text → unfolded (t
 long_more text more long =
     let same = take-append-le 16384 text more long in
     let len = length-append text more in
-    unfolded_long (text ++ more) (omega (arith, len, long)) ∙ ap (λ t. all_added StartLine t ++ held (place_behind StartLine t)) same ∙ sym (unfolded_long text long)
+    unfolded_long (text ++ more) (omega (arith, len, long)) ∙ ap (λ t. all_added StartLine t ++ held (place_behind StartLine t)) same
+    ∙ sym (unfolded_long text long)
 
 -- what is read of a text is read of it whatever follows
 pub unfolded_more : (text more : List ℕ) → (rest : List ℕ) × (unfolded (text ++ more) ≡ unfolded text ++ rest)
@@ -173,12 +180,14 @@ no_feed_byte b no_feed =
     let off : eqb b 10 ≡ false = ne_eqb b 10 no_feed in
     rw off (by_return (eqb b 13) (is_blank b))
   where
-    by_blank : (q : Bool) → ((if q then bytes.Blank else bytes.Other) ≡ bytes.Return) ⊎ (((if q then bytes.Blank else bytes.Other) ≡ bytes.Blank) ⊎ ((if q then bytes.Blank else bytes.Other) ≡ bytes.Other))
+    by_blank : (q : Bool) → ((if q then bytes.Blank else bytes.Other) ≡ bytes.Return)
+        ⊎ (((if q then bytes.Blank else bytes.Other) ≡ bytes.Blank) ⊎ ((if q then bytes.Blank else bytes.Other) ≡ bytes.Other))
     by_blank true = inr (inl refl)
     by_blank false = inr (inr refl)
 
     by_return : (p q : Bool) → ((if p then bytes.Return else (if q then bytes.Blank else bytes.Other)) ≡ bytes.Return)
-        ⊎ (((if p then bytes.Return else (if q then bytes.Blank else bytes.Other)) ≡ bytes.Blank) ⊎ ((if p then bytes.Return else (if q then bytes.Blank else bytes.Other)) ≡ bytes.Other))
+        ⊎ (((if p then bytes.Return else (if q then bytes.Blank else bytes.Other)) ≡ bytes.Blank)
+        ⊎ ((if p then bytes.Return else (if q then bytes.Blank else bytes.Other)) ≡ bytes.Other))
     by_return true q = inl refl
     by_return false q = by_blank q
 
@@ -229,7 +238,8 @@ text_byte b no_feed no_return = elim (line_byte b no_feed no_return) [
 start_line : (raw : List ℕ) → Lacks 10 raw → Passes StartLine StartLine raw
 start_line [] lacks = passes_none StartLine
 start_line (b ∷ raw) lacks =
-    passes_then StartLine StartLine StartLine (b ∷ []) raw (one (no_feed_byte b (lacks 0 (omega arith)))) (start_line raw (λ k inside is. lacks (suc k) (omega arith) is))
+    passes_then StartLine StartLine StartLine (b ∷ []) raw (one (no_feed_byte b (lacks 0 (omega arith))))
+    (start_line raw (λ k inside is. lacks (suc k) (omega arith) is))
   where
     one : (head_byte b ≡ bytes.Return) ⊎ ((head_byte b ≡ bytes.Blank) ⊎ (head_byte b ≡ bytes.Other)) → Passes StartLine StartLine (b ∷ [])
     one (inl is) = record { place = rw is refl; adds = rw is refl }
@@ -248,9 +258,12 @@ MayBegin p = (p ≡ LineStart) ⊎ ((p ≡ Feed) ⊎ (p ≡ ReturnFeed))
 
 -- a line's first byte
 first_byte : (p : HeadPlace) (b : ℕ) → MayBegin p → head_byte b ≡ bytes.Other → Passes p Text (b ∷ [])
-first_byte p b (inl e) is = let P : HeadPlace → Type 0 = λ q. Passes q Text (b ∷ []) in subst P (sym e) (record { place = rw is refl; adds = rw is refl })
-first_byte p b (inr (inl e)) is = let P : HeadPlace → Type 0 = λ q. Passes q Text (b ∷ []) in subst P (sym e) (record { place = rw is refl; adds = rw is refl })
-first_byte p b (inr (inr e)) is = let P : HeadPlace → Type 0 = λ q. Passes q Text (b ∷ []) in subst P (sym e) (record { place = rw is refl; adds = rw is refl })
+first_byte p b (inl e) is = let P : HeadPlace → Type 0 = λ q. Passes q Text (b ∷ []) in
+    subst P (sym e) (record { place = rw is refl; adds = rw is refl })
+first_byte p b (inr (inl e)) is = let P : HeadPlace → Type 0 = λ q. Passes q Text (b ∷ []) in
+    subst P (sym e) (record { place = rw is refl; adds = rw is refl })
+first_byte p b (inr (inr e)) is = let P : HeadPlace → Type 0 = λ q. Passes q Text (b ∷ []) in
+    subst P (sym e) (record { place = rw is refl; adds = rw is refl })
 
 false_true : false ≡ true → ⊥
 false_true e = cc
@@ -312,7 +325,8 @@ field_passes p f at h =
               (passes_then Text Text rest.0 f.raw (print_end f.end) value rest.2))),
         )
 
-fields_pass : (p : HeadPlace) (fields : List Line) → MayBegin p → All IsField fields → (q : HeadPlace) × MayBegin q × Passes p q (flat_map print_field fields)
+fields_pass : (p : HeadPlace) (fields : List Line) → MayBegin p → All IsField fields
+    → (q : HeadPlace) × MayBegin q × Passes p q (flat_map print_field fields)
 fields_pass p [] at all = (p, at, passes_none p)
 fields_pass p (f ∷ fields) at all =
     let one = field_passes p f at (all 0 f (omega arith)) in
@@ -321,12 +335,18 @@ fields_pass p (f ∷ fields) at all =
 
 -- the empty line
 last_passes : (p : HeadPlace) (last : LineEnd) → MayBegin p → Passes p Over (print_end last)
-last_passes p crlf (inl e) = let P : HeadPlace → Type 0 = λ q. Passes q Over (13 ∷ 10 ∷ []) in subst P (sym e) (record { place = refl; adds = refl })
-last_passes p crlf (inr (inl e)) = let P : HeadPlace → Type 0 = λ q. Passes q Over (13 ∷ 10 ∷ []) in subst P (sym e) (record { place = refl; adds = refl })
-last_passes p crlf (inr (inr e)) = let P : HeadPlace → Type 0 = λ q. Passes q Over (13 ∷ 10 ∷ []) in subst P (sym e) (record { place = refl; adds = refl })
-last_passes p lf (inl e) = let P : HeadPlace → Type 0 = λ q. Passes q Over (10 ∷ []) in subst P (sym e) (record { place = refl; adds = refl })
-last_passes p lf (inr (inl e)) = let P : HeadPlace → Type 0 = λ q. Passes q Over (10 ∷ []) in subst P (sym e) (record { place = refl; adds = refl })
-last_passes p lf (inr (inr e)) = let P : HeadPlace → Type 0 = λ q. Passes q Over (10 ∷ []) in subst P (sym e) (record { place = refl; adds = refl })
+last_passes p crlf (inl e) = let P : HeadPlace → Type 0 = λ q. Passes q Over (13 ∷ 10 ∷ []) in
+    subst P (sym e) (record { place = refl; adds = refl })
+last_passes p crlf (inr (inl e)) = let P : HeadPlace → Type 0 = λ q. Passes q Over (13 ∷ 10 ∷ []) in
+    subst P (sym e) (record { place = refl; adds = refl })
+last_passes p crlf (inr (inr e)) = let P : HeadPlace → Type 0 = λ q. Passes q Over (13 ∷ 10 ∷ []) in
+    subst P (sym e) (record { place = refl; adds = refl })
+last_passes p lf (inl e) = let P : HeadPlace → Type 0 = λ q. Passes q Over (10 ∷ []) in
+    subst P (sym e) (record { place = refl; adds = refl })
+last_passes p lf (inr (inl e)) = let P : HeadPlace → Type 0 = λ q. Passes q Over (10 ∷ []) in
+    subst P (sym e) (record { place = refl; adds = refl })
+last_passes p lf (inr (inr e)) = let P : HeadPlace → Type 0 = λ q. Passes q Over (10 ∷ []) in
+    subst P (sym e) (record { place = refl; adds = refl })
 
 -- a whole head
 pub head_passes : (S : List ℕ → Type 0) (head : List ℕ) (fields : FieldList) → ReadsHead S head fields [] → Passes StartLine Over head
@@ -344,7 +364,8 @@ head_passes S head fields h =
     (passes_then LineStart all.0 Over lines (print_end s.1) all.2 last)))
 
 -- and so it stays where others follow
-pub head_stays : (S : List ℕ → Type 0) (text : List ℕ) (fields : FieldList) (n : ℕ) → HasHead S text fields n → HasHead S (unfolded text) fields n
+pub head_stays : (S : List ℕ → Type 0) (text : List ℕ) (fields : FieldList) (n : ℕ) → HasHead S text fields n
+    → HasHead S (unfolded text) fields n
 head_stays S text fields n h =
     let head = take n text in
     let size = length-take-le n text h.inside in
@@ -421,7 +442,8 @@ all_free : (p : HeadPlace) (xs : List ℕ) → place_behind (free p) (all_added 
 all_free p [] = refl
 all_free p (x ∷ xs) =
     let q = place_after p (head_byte x) in
-    place-append (free p) (added p x) (all_added q xs) ∙ ap (λ a. place_behind a (all_added q xs)) (one_free p (head_byte x) x refl) ∙ all_free q xs
+    place-append (free p) (added p x) (all_added q xs) ∙ ap (λ a. place_behind a (all_added q xs)) (one_free p (head_byte x) x refl)
+    ∙ all_free q xs
 
 -- within a line one byte isn't the end of the head, and two are only if the first is an LF
 text_one : (k : HeadByte) → place_after Text k ≡ Over → ⊥
@@ -439,11 +461,16 @@ text_two bytes.Return bytes.Other other e = cc
 text_two bytes.Blank k other e = text_one k e
 text_two bytes.Other k other e = text_one k e
 
-no_first_feed : (b : ℕ) (rest : List ℕ) (k : HeadByte) → head_byte b ≡ k → (x : ℕ) (tail : List ℕ) → (settled ReturnFeed k ++ b ∷ []) ++ rest ≡ x ∷ tail → head_byte x ≡ bytes.Feed → ⊥
-no_first_feed b rest bytes.Blank e x tail cut is = let same : x ≡ 32 = cc in let P : ℕ → Type 0 = λ y. head_byte y ≡ bytes.Feed in let now : head_byte 32 ≡ bytes.Feed = subst P same is in cc
-no_first_feed b rest bytes.Feed e x tail cut is = let same : x ≡ 13 = cc in let P : ℕ → Type 0 = λ y. head_byte y ≡ bytes.Feed in let now : head_byte 13 ≡ bytes.Feed = subst P same is in cc
-no_first_feed b rest bytes.Return e x tail cut is = let same : x ≡ 13 = cc in let P : ℕ → Type 0 = λ y. head_byte y ≡ bytes.Feed in let now : head_byte 13 ≡ bytes.Feed = subst P same is in cc
-no_first_feed b rest bytes.Other e x tail cut is = let same : x ≡ 13 = cc in let P : ℕ → Type 0 = λ y. head_byte y ≡ bytes.Feed in let now : head_byte 13 ≡ bytes.Feed = subst P same is in cc
+no_first_feed : (b : ℕ) (rest : List ℕ) (k : HeadByte) → head_byte b ≡ k → (x : ℕ) (tail : List ℕ)
+    → (settled ReturnFeed k ++ b ∷ []) ++ rest ≡ x ∷ tail → head_byte x ≡ bytes.Feed → ⊥
+no_first_feed b rest bytes.Blank e x tail cut is = let same : x ≡ 32 = cc in let P : ℕ → Type 0 = λ y. head_byte y ≡ bytes.Feed in
+    let now : head_byte 32 ≡ bytes.Feed = subst P same is in cc
+no_first_feed b rest bytes.Feed e x tail cut is = let same : x ≡ 13 = cc in let P : ℕ → Type 0 = λ y. head_byte y ≡ bytes.Feed in
+    let now : head_byte 13 ≡ bytes.Feed = subst P same is in cc
+no_first_feed b rest bytes.Return e x tail cut is = let same : x ≡ 13 = cc in let P : ℕ → Type 0 = λ y. head_byte y ≡ bytes.Feed in
+    let now : head_byte 13 ≡ bytes.Feed = subst P same is in cc
+no_first_feed b rest bytes.Other e x tail cut is = let same : x ≡ 13 = cc in let P : ℕ → Type 0 = λ y. head_byte y ≡ bytes.Feed in
+    let now : head_byte 13 ≡ bytes.Feed = subst P same is in cc
 
 return_feed_goes_on : (k : HeadByte) → is_held (place_after ReturnFeed k) ≡ false
 return_feed_goes_on bytes.Feed = refl
@@ -457,12 +484,14 @@ held_goes_on : (p : HeadPlace) (d q tail flush : List ℕ) → all_added p d ++ 
 unfolding free
 held_goes_on Return d (x ∷ []) tail flush e none some size over = text_one (head_byte x) over
 held_goes_on Feed d (x ∷ []) tail flush e none some size over = text_one (head_byte x) over
-held_goes_on ReturnFeed [] (x ∷ y ∷ []) tail flush e none some size over = let nothing = none refl in let n = ap length (sym nothing ∙ e) in omega (arith, n)
+held_goes_on ReturnFeed [] (x ∷ y ∷ []) tail flush e none some size over = let nothing = none refl in let n = ap length (sym nothing ∙ e) in
+    omega (arith, n)
 held_goes_on ReturnFeed (b ∷ d) (x ∷ y ∷ []) tail flush e none some size over =
     let going = return_feed_goes_on (head_byte b) in
     let one : added ReturnFeed b ≡ settled ReturnFeed (head_byte b) ++ b ∷ [] = rw going refl in
     let after = place_after ReturnFeed (head_byte b) in
-    let cut = ap (λ t. t ++ (all_added after d ++ flush)) (sym one) ∙ sym (append_assoc (added ReturnFeed b) (all_added after d) flush) ∙ e in
+    let cut = ap (λ t. t ++ (all_added after d ++ flush)) (sym one) ∙ sym (append_assoc (added ReturnFeed b) (all_added after d) flush)
+    ∙ e in
     text_two (head_byte x) (head_byte y) (no_first_feed b (all_added after d ++ flush) (head_byte b) refl x (y ∷ tail) cut) over
 held_goes_on p d q tail flush e none some size over = absurd (omega (arith, some, size))
 
@@ -474,7 +503,8 @@ less_true : (a b : ℕ) → a < b → nat_lt a b ≡ true
 less_true a b less = search rules
 
 -- what is before the end of a head isn't held
-nothing_held : (S : List ℕ → Type 0) (text : List ℕ) (fields : FieldList) (n : ℕ) → HasHead S (unfolded text) fields n → n < 16384 → held (place_behind StartLine (take n text)) ≡ []
+nothing_held : (S : List ℕ → Type 0) (text : List ℕ) (fields : FieldList) (n : ℕ) → HasHead S (unfolded text) fields n → n < 16384
+    → held (place_behind StartLine (take n text)) ≡ []
 unfolding more_added free
 nothing_held S text fields n h short =
     let head = take n text in
@@ -487,29 +517,35 @@ nothing_held S text fields n h short =
     let flush = if nat_lt (length (head ++ more)) 16384 then [] else held (place_behind StartLine (take 16384 (head ++ more))) in
     let fits : length head < 16384 = omega (arith, size, short) in
     let cut : unfolded text ≡ all_added StartLine head ++ (all_added p d ++ flush) =
-    ap unfolded (sym (take-append-drop n text)) ∙ short_more head more fits ∙ ap (λ t. t ++ (all_added p d ++ flush)) (unfolded_short head fits) in
+    ap unfolded (sym (take-append-drop n text)) ∙ short_more head more fits
+    ∙ ap (λ t. t ++ (all_added p d ++ flush)) (unfolded_short head fits) in
     elim (cases_lt 0 (length (held p))) [
       | inr free_end ↦ empty (held p) free_end
       | inl some ↦
           let front = take n (unfolded text) in
           let tail = drop n (unfolded text) in
           let size_is = length-take-le n (unfolded text) h.inside in
-          let parts = longer_front front tail (all_added StartLine head) (all_added p d ++ flush) (take-append-drop n (unfolded text) ∙ cut) (omega (arith, size_is, sum, size, none)) in
+          let parts = longer_front front tail (all_added StartLine head) (all_added p d ++ flush) (take-append-drop n (unfolded text) ∙ cut)
+          (omega (arith, size_is, sum, size, none)) in
           let q = parts.0 in
           let passes = head_passes S front fields h.head in
           let over : place_behind (free p) q ≡ Over =
-          ap (λ a. place_behind a q) (sym (all_free StartLine head)) ∙ sym (place-append StartLine (all_added StartLine head) q) ∙ ap (place_behind StartLine) (sym parts.1) ∙ passes.place in
+          ap (λ a. place_behind a q) (sym (all_free StartLine head)) ∙ sym (place-append StartLine (all_added StartLine head) q)
+          ∙ ap (place_behind StartLine) (sym parts.1) ∙ passes.place in
           let long = ap length parts.1 in
           let rest : all_added p d ++ flush ≡ q ++ tail =
           append_cancel_left (all_added StartLine head) (all_added p d ++ flush) (q ++ tail)
-          (sym cut ∙ sym (take-append-drop n (unfolded text)) ∙ ap (λ t. t ++ tail) parts.1 ∙ append_assoc (all_added StartLine head) q tail) in
+          (sym cut ∙ sym (take-append-drop n (unfolded text)) ∙ ap (λ t. t ++ tail) parts.1
+          ∙ append_assoc (all_added StartLine head) q tail) in
           let nothing_more : d ≡ [] → flush ≡ [] = λ e.
           let few = ap length e in
           let cut_size = length-take (16384 - length head) more in
           let all = length-append head more in
-          let is : nat_lt (length (head ++ more)) 16384 ≡ true = less_true (length (head ++ more)) 16384 (omega (arith, all, few, cut_size, size, short)) in
+          let is : nat_lt (length (head ++ more)) 16384 ≡ true =
+          less_true (length (head ++ more)) 16384 (omega (arith, all, few, cut_size, size, short)) in
           rw is refl in
-          absurd (held_goes_on p d q tail flush rest nothing_more some (omega (arith, long, size_is, sum, size, none, length-append (all_added StartLine head) q)) over)
+          absurd (held_goes_on p d q tail flush rest nothing_more some (omega
+          (arith, long, size_is, sum, size, none, length-append (all_added StartLine head) q)) over)
     ]
 
 -- of a text that begins with a head, its bytes alone give the same
@@ -525,12 +561,14 @@ head_alone S text fields n h =
           let is : n ≡ 16384 = omega (arith, limit, h.within) in
           let long : 16384 ≤ length text = omega (arith, is, inside) in
           let all : take n (unfolded text) ≡ unfolded text = take_all n (unfolded text) (omega (arith, is, long_length text long)) in
-          sym (all ∙ unfolded_long text long ∙ ap (λ k. all_added StartLine (take k text) ++ held (place_behind StartLine (take k text))) (sym is))
+          sym (all ∙ unfolded_long text long ∙ ap (λ k. all_added StartLine (take k text) ++ held (place_behind StartLine (take k text)))
+          (sym is))
       | inl short ↦
           let nothing = nothing_held S text fields n h short in
           let fits : length head < 16384 = omega (arith, size, short) in
           let rest = unfolded_more head (drop n text) in
-          let cut : unfolded text ≡ all_added StartLine head ++ rest.0 = ap unfolded (sym (take-append-drop n text)) ∙ rest.1 ∙ ap (λ t. t ++ rest.0) (unfolded_short head fits) in
+          let cut : unfolded text ≡ all_added StartLine head ++ rest.0 =
+          ap unfolded (sym (take-append-drop n text)) ∙ rest.1 ∙ ap (λ t. t ++ rest.0) (unfolded_short head fits) in
           let sum = lengths StartLine head in
           let none : length (held StartLine) ≡ 0 = refl in
           let zero_held = ap length nothing in
@@ -539,7 +577,8 @@ head_alone S text fields n h =
     ]
 
 -- so they are that head
-pub front_alone : (S : List ℕ → Type 0) (text : List ℕ) (fields : FieldList) (n : ℕ) → HasHead S (unfolded text) fields n → unfolded (take n text) ≡ take n (unfolded text)
+pub front_alone : (S : List ℕ → Type 0) (text : List ℕ) (fields : FieldList) (n : ℕ) → HasHead S (unfolded text) fields n
+    → unfolded (take n text) ≡ take n (unfolded text)
 front_alone S text fields n h =
     let head = take n text in
     let size = length-take-le n text (omega (arith, h.inside, unfolded_length text)) in
@@ -550,10 +589,12 @@ front_alone S text fields n h =
           unfolded_long head (omega (arith, limit, size)) ∙ ap (λ t. all_added StartLine t ++ held (place_behind StartLine t)) all ∙ alone
       | inl short ↦
           let nothing = nothing_held S text fields n h short in
-          unfolded_short head (omega (arith, size, short)) ∙ sym (append-nil (all_added StartLine head)) ∙ ap (λ t. all_added StartLine head ++ t) (sym nothing) ∙ alone
+          unfolded_short head (omega (arith, size, short)) ∙ sym (append-nil (all_added StartLine head))
+          ∙ ap (λ t. all_added StartLine head ++ t) (sym nothing) ∙ alone
     ]
 
-pub head_of_front : (S : List ℕ → Type 0) (text : List ℕ) (fields : FieldList) (n : ℕ) → HasHead S (unfolded text) fields n → HasHead S (unfolded (take n text)) fields n
+pub head_of_front : (S : List ℕ → Type 0) (text : List ℕ) (fields : FieldList) (n : ℕ) → HasHead S (unfolded text) fields n
+    → HasHead S (unfolded (take n text)) fields n
 head_of_front S text fields n h =
     let same = front_alone S text fields n h in
     let len = ap length same in
@@ -565,18 +606,21 @@ head_of_front S text fields n h =
       head = subst (λ t. ReadsHead S t fields []) (sym (ap (take n) same ∙ take-take n n (unfolded text) (omega arith))) h.head;
     }
 
-pub has_folded-append : (S : List ℕ → Type 0) (text more : List ℕ) (fields : FieldList) (n : ℕ) → HasHead S (unfolded text) fields n → HasHead S (unfolded (text ++ more)) fields n
+pub has_folded-append : (S : List ℕ → Type 0) (text more : List ℕ) (fields : FieldList) (n : ℕ) → HasHead S (unfolded text) fields n
+    → HasHead S (unfolded (text ++ more)) fields n
 has_folded-append S text more fields n h =
     let rest = unfolded_more text more in
     let P : List ℕ → Type 0 = λ t. HasHead S t fields n in
     subst P (sym rest.1) (has_head-append S (unfolded text) rest.0 fields n h)
 
 -- and any longer front of the text begins with it
-pub in_front : (S : List ℕ → Type 0) (text : List ℕ) (fields : FieldList) (n k : ℕ) → n ≤ k → HasHead S (unfolded text) fields n → HasHead S (unfolded (take k text)) fields n
+pub in_front : (S : List ℕ → Type 0) (text : List ℕ) (fields : FieldList) (n k : ℕ) → n ≤ k → HasHead S (unfolded text) fields n
+    → HasHead S (unfolded (take k text)) fields n
 in_front S text fields n k less h =
     let front = take k text in
     let P : List ℕ → Type 0 = λ t. HasHead S (unfolded t) fields n in
-    let whole : take n text ++ drop n front ≡ front = ap (λ t. t ++ drop n front) (sym (take-take n k text less)) ∙ take-append-drop n front in
+    let whole : take n text ++ drop n front ≡ front =
+    ap (λ t. t ++ drop n front) (sym (take-take n k text less)) ∙ take-append-drop n front in
     subst P whole (has_folded-append S (take n text) (drop n front) fields n (head_of_front S text fields n h))
 
 -- ---- a head ends in LF
@@ -628,7 +672,8 @@ one_last ReturnFeed b bytes.Blank e = (32 ∷ 32 ∷ [], refl)
 one_last ReturnFeed b k e = (13 ∷ 10 ∷ [], refl)
 one_last Over b k e = ([], refl)
 
-all_last : (p : HeadPlace) (init : List ℕ) (b : ℕ) → (front : List ℕ) × (all_added p (init ++ b ∷ []) ++ held (place_behind p (init ++ b ∷ [])) ≡ front ++ b ∷ [])
+all_last : (p : HeadPlace) (init : List ℕ) (b : ℕ) → (front : List ℕ) ×
+    (all_added p (init ++ b ∷ []) ++ held (place_behind p (init ++ b ∷ [])) ≡ front ++ b ∷ [])
 all_last p init b =
     let q = place_behind p init in
     let k = head_byte b in
@@ -636,7 +681,8 @@ all_last p init b =
     let place : place_behind p (init ++ b ∷ []) ≡ place_after q k = place-append p init (b ∷ []) in (
       all_added p init ++ one.0,
       ap₂ (λ t a. t ++ held a) (added-append p init (b ∷ []) ∙ ap (λ t. all_added p init ++ t) (append-nil (added q b))) place
-          ∙ append_assoc (all_added p init) (added q b) (held (place_after q k)) ∙ ap (λ t. all_added p init ++ t) one.1 ∙ sym (append_assoc (all_added p init) one.0 (b ∷ [])),
+          ∙ append_assoc (all_added p init) (added q b) (held (place_after q k)) ∙ ap (λ t. all_added p init ++ t) one.1
+          ∙ sym (append_assoc (all_added p init) one.0 (b ∷ [])),
     )
 
 last_of : (xs : List ℕ) → 0 < length xs → (init : List ℕ) × (b : ℕ) × (xs ≡ init ++ b ∷ [])
@@ -650,14 +696,16 @@ same_last xs ys a b e =
     let long : length xs ≡ length ys = omega (arith, n, length-append xs (a ∷ []), length-append ys (b ∷ [])) in
     sym (get_or_at xs a [] 0 (length xs) refl) ∙ ap (λ t. get_or t (length xs) 0) e ∙ get_or_at ys b [] 0 (length xs) (sym long)
 
-reads_ends : (S : List ℕ → Type 0) (text : List ℕ) (fields : FieldList) → ReadsHead S text fields [] → (front : List ℕ) × (text ≡ front ++ 10 ∷ [])
+reads_ends : (S : List ℕ → Type 0) (text : List ℕ) (fields : FieldList) → ReadsHead S text fields []
+    → (front : List ℕ) × (text ≡ front ++ 10 ∷ [])
 reads_ends S text fields h =
     let s = h.section in
     let end = end_feed s.1 in
     let lines = flat_map print_field s.0 in
     let raw = h.first.raw in (
       raw ++ 10 ∷ (lines ++ end.0),
-      h.first.cut ∙ (ap (λ t. raw ++ 10 ∷ t) (s.2.1 ∙ (append-nil (print_section s.0 s.1) ∙ (ap (λ t. lines ++ t) end.1 ∙ sym (append_assoc lines end.0 (10 ∷ [])))))
+      h.first.cut ∙ (ap (λ t. raw ++ 10 ∷ t) (s.2.1 ∙ (append-nil (print_section s.0 s.1)
+          ∙ (ap (λ t. lines ++ t) end.1 ∙ sym (append_assoc lines end.0 (10 ∷ [])))))
           ∙ sym (append_assoc raw (10 ∷ (lines ++ end.0)) (10 ∷ []))),
     )
   where
@@ -665,7 +713,8 @@ reads_ends S text fields h =
     end_feed crlf = (13 ∷ [], refl)
     end_feed lf = ([], refl)
 
-pub head_ends : (S : List ℕ → Type 0) (text : List ℕ) (fields : FieldList) (n : ℕ) → HasHead S (unfolded text) fields n → (front : List ℕ) × (take n text ≡ front ++ 10 ∷ [])
+pub head_ends : (S : List ℕ → Type 0) (text : List ℕ) (fields : FieldList) (n : ℕ) → HasHead S (unfolded text) fields n
+    → (front : List ℕ) × (take n text ≡ front ++ 10 ∷ [])
 head_ends S text fields n h =
     let head = take n text in
     let size = length-take-le n text (omega (arith, h.inside, unfolded_length text)) in
@@ -675,19 +724,23 @@ head_ends S text fields n h =
     let cut = last_of head (omega (arith, size, front_size, some, length-append ends.0 (10 ∷ []))) in
     let whole = all_last StartLine cut.0 cut.1 in
     let same : cut.1 ≡ 10 = same_last whole.0 ends.0 cut.1 10
-    (sym whole.1 ∙ ap (λ t. all_added StartLine t ++ held (place_behind StartLine t)) (sym cut.2) ∙ head_alone S text fields n h ∙ ends.1) in
+    (sym whole.1 ∙ ap (λ t. all_added StartLine t ++ held (place_behind StartLine t)) (sym cut.2) ∙ head_alone S text fields n h
+    ∙ ends.1) in
     (cut.0, cut.2 ∙ ap (λ b. cut.0 ++ b ∷ []) same)
 
 -- ---- faults
 
-pub folded_fault_stays : (Form : List ℕ → List ℕ → Type 0) (fault : HeadFault) (text more : List ℕ) → fault ≢ More → RefusesIcapHead Form fault (unfolded text) → RefusesIcapHead Form fault (unfolded (text ++ more))
+pub folded_fault_stays : (Form : List ℕ → List ℕ → Type 0) (fault : HeadFault) (text more : List ℕ) → fault ≢ More
+    → RefusesIcapHead Form fault (unfolded text) → RefusesIcapHead Form fault (unfolded (text ++ more))
 folded_fault_stays Form fault text more other s =
     let rest = unfolded_more text more in
     let P : List ℕ → Type 0 = λ t. RefusesIcapHead Form fault t in
     subst P (sym rest.1) (fault_stays Form fault (unfolded text) rest.0 other s)
 
-pub folded_front_is_more : (Form : List ℕ → List ℕ → Type 0) (S : List ℕ → Type 0) → ((line : List ℕ) → S line → Form (codes "ICAP/1.0") line)
-    → (text : List ℕ) (fields : FieldList) (size n : ℕ) → HasHead S (unfolded text) fields size → n < size → RefusesIcapHead Form More (unfolded (take n text))
+pub folded_front_is_more : (Form : List ℕ → List ℕ → Type 0) (S : List ℕ → Type 0)
+    → ((line : List ℕ) → S line → Form (codes "ICAP/1.0") line)
+    → (text : List ℕ) (fields : FieldList) (size n : ℕ) → HasHead S (unfolded text) fields size → n < size
+    → RefusesIcapHead Form More (unfolded (take n text))
 folded_front_is_more Form S forms text fields size n h less =
     let front = take n text in
     let rest = unfolded_more front (drop n text) in

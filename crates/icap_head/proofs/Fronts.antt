@@ -1,5 +1,6 @@
 -- What lies in a front of a text is the same in the front.
-use Rattle.std.proofs.Common.{◌≡◌, ℕ, ◌+◌, ◌-◌, ◌≤◌, List, [], ◌∷◌, ◌++◌, length, map, take, drop, zero, suc, refl, sym, ap, ap₂, ◌∙◌, subst, arith, append_assoc, append-nil, length-append}
+use Rattle.std.proofs.Common.{◌≡◌, ℕ, ◌+◌, ◌-◌, ◌≤◌, List, [], ◌∷◌, ◌++◌, length, map, take, drop, zero, suc, refl, sym, ap, ap₂, ◌∙◌}
+use Rattle.std.proofs.Common.{subst, arith, append_assoc, append-nil, length-append}
 use Rattle.std.specs.Prelude.{All, slice_range, Bool, true, false, if◌then◌else◌}
 use Rattle.std.proofs.lemmas.List.{take_at, drop_at, map-append}
 use Rattle.std.proofs.lemmas.List.Elements.{All-append, All-cons, All-nil, All-tail}
@@ -25,21 +26,25 @@ front_span n text s h = front_drop n s.start (s.end - s.start) text (omega (arit
 front_header : (n : ℕ) (text : List ℕ) (h : HeaderSpan) → IsHeaderWithin n h → header_bytes (take n text) h ≡ header_bytes text h
 front_header n text h w = ap₂ (λ a b. (a, b)) (front_span n text h.name w.0) (front_span n text h.value w.1)
 
-pub front_headers : (n : ℕ) (text : List ℕ) (lines : List HeaderSpan) → All (IsHeaderWithin n) lines → map (header_bytes (take n text)) lines ≡ map (header_bytes text) lines
+pub front_headers : (n : ℕ) (text : List ℕ) (lines : List HeaderSpan) → All (IsHeaderWithin n) lines
+    → map (header_bytes (take n text)) lines ≡ map (header_bytes text) lines
 front_headers n text [] all = refl
-front_headers n text (h ∷ lines) all = ap₂ ◌∷◌ (front_header n text h (all 0 h (omega arith))) (front_headers n text lines (All-tail (IsHeaderWithin n) h lines all))
+front_headers n text (h ∷ lines) all = ap₂ ◌∷◌ (front_header n text h (all 0 h (omega arith)))
+    (front_headers n text lines (All-tail (IsHeaderWithin n) h lines all))
 
 -- ---- a text that grows
 
 -- the fields of a text are the same in a longer one
-pub longer_headers : (text more : List ℕ) (lines : List HeaderSpan) → All (IsHeaderWithin (length text)) lines → map (header_bytes (text ++ more)) lines ≡ map (header_bytes text) lines
+pub longer_headers : (text more : List ℕ) (lines : List HeaderSpan) → All (IsHeaderWithin (length text)) lines
+    → map (header_bytes (text ++ more)) lines ≡ map (header_bytes text) lines
 longer_headers text more lines all =
     sym (front_headers (length text) (text ++ more) lines all) ∙ ap (λ t. map (header_bytes t) lines) (take_at text more (length text) refl)
 
 wider : (n m : ℕ) (lines : List HeaderSpan) → n ≤ m → All (IsHeaderWithin n) lines → All (IsHeaderWithin m) lines
 wider n m lines l all = λ k d lt. let h = all k d lt in ((h.0.0, omega (arith, h.0.1)), (h.1.0, omega (arith, h.1.1)))
 
-piece : (before bytes behind : List ℕ) (start end : ℕ) → start ≡ length before → end ≡ length before + length bytes → slice_range (before ++ (bytes ++ behind)) start end ≡ bytes
+piece : (before bytes behind : List ℕ) (start end : ℕ) → start ≡ length before → end ≡ length before + length bytes
+    → slice_range (before ++ (bytes ++ behind)) start end ≡ bytes
 piece before bytes behind start end s e =
     ap (take (end - start)) (drop_at before (bytes ++ behind) start (sym s)) ∙ take_at bytes behind (end - start) (omega (arith, s, e))
 
@@ -57,27 +62,35 @@ added_inside text name value longer lines line added all =
     let size : length longer ≡ length text + length name + length value =
     ap length added.longer_is ∙ omega (arith, length-append text (name ++ value), length-append name value) in
     All-append (IsHeaderWithin (length longer)) lines (line ∷ []) (wider (length text) (length longer) lines (omega (arith, size)) all)
-    (All-cons (IsHeaderWithin (length longer)) line []
-    ((omega (arith, added.name_start, added.name_end), omega (arith, added.name_end, size)), (omega (arith, added.value_start, added.value_end), omega (arith, added.value_end, size)))
+    (All-cons (IsHeaderWithin (length longer)) line [] (
+      (omega (arith, added.name_start, added.name_end), omega (arith, added.name_end, size)),
+      (omega (arith, added.value_start, added.value_end), omega (arith, added.value_end, size)),
+    )
     (All-nil (IsHeaderWithin (length longer))))
 
 pub added_fields : (text name value longer : List ℕ) (lines : List HeaderSpan) (line : HeaderSpan) → IsAdded text name value longer line
-    → All (IsHeaderWithin (length text)) lines → map (header_bytes longer) (lines ++ line ∷ []) ≡ map (header_bytes text) lines ++ (name, value) ∷ []
+    → All (IsHeaderWithin (length text)) lines → map (header_bytes longer) (lines ++ line ∷ []) ≡ map (header_bytes text) lines
+    ++ (name, value) ∷ []
 added_fields text name value longer lines line added all =
     let whole = added.longer_is in
     let first : span_bytes longer line.name ≡ name =
-    ap (λ t. slice_range t line.name.start line.name.end) whole ∙ piece text name value line.name.start line.name.end added.name_start added.name_end in
+    ap (λ t. slice_range t line.name.start line.name.end) whole ∙ piece text name value line.name.start line.name.end added.name_start
+    added.name_end in
     let cut : text ++ (name ++ value) ≡ (text ++ name) ++ (value ++ []) = simp (append_assoc, append-nil) in
     let front : length (text ++ name) ≡ length text + length name = length-append text name in
     let second : span_bytes longer line.value ≡ value =
     ap (λ t. slice_range t line.value.start line.value.end) (whole ∙ cut)
-    ∙ piece (text ++ name) value [] line.value.start line.value.end (omega (arith, added.value_start, front)) (omega (arith, added.value_end, front)) in
+    ∙ piece (text ++ name) value [] line.value.start line.value.end (omega (arith, added.value_start, front))
+    (omega (arith, added.value_end, front)) in
     map-append (header_bytes longer) lines (line ∷ [])
-    ∙ ap₂ ◌++◌ (ap (λ t. map (header_bytes t) lines) whole ∙ longer_headers text (name ++ value) lines all) (ap₂ (λ a b. (a, b) ∷ []) first second)
+    ∙ ap₂ ◌++◌ (ap (λ t. map (header_bytes t) lines) whole ∙ longer_headers text (name ++ value) lines all)
+    (ap₂ (λ a b. (a, b) ∷ []) first second)
 
 -- the same of two parts added in turn
-pub is_added : (text name value first second : List ℕ) (a b : Span) → (a.start ≡ length text) × (a.end ≡ length first) → first ≡ text ++ name
-    → (b.start ≡ length first) × (b.end ≡ length second) → second ≡ first ++ value → IsAdded text name value second (record { name = a; value = b })
+pub is_added : (text name value first second : List ℕ) (a b : Span) → (a.start ≡ length text) × (a.end ≡ length first)
+    → first ≡ text ++ name
+    → (b.start ≡ length first) × (b.end ≡ length second) → second ≡ first ++ value
+    → IsAdded text name value second (record { name = a; value = b })
 is_added text name value first second a b at_name name_is at_value value_is =
     let size = ap length name_is ∙ length-append text name in
     let whole = ap length value_is ∙ length-append first value in
@@ -90,8 +103,10 @@ is_added text name value first second a b at_name name_is at_value value_is =
     }
 
 -- whether or not there was room for the line, the lines lie within the text
-pub either_inside : (text name value longer : List ℕ) (lines new : List HeaderSpan) (line : HeaderSpan) (pushed : Bool) → IsAdded text name value longer line
-    → All (IsHeaderWithin (length text)) lines → new ≡ (if pushed then lines ++ line ∷ [] else lines) → All (IsHeaderWithin (length longer)) new
+pub either_inside : (text name value longer : List ℕ) (lines new : List HeaderSpan) (line : HeaderSpan) (pushed : Bool)
+    → IsAdded text name value longer line
+    → All (IsHeaderWithin (length text)) lines → new ≡ (if pushed then lines ++ line ∷ [] else lines)
+    → All (IsHeaderWithin (length longer)) new
 either_inside text name value longer lines new line true added all e =
     subst (All (IsHeaderWithin (length longer))) (sym e) (added_inside text name value longer lines line added all)
 either_inside text name value longer lines new line false added all e =

@@ -1,5 +1,6 @@
 -- What a head holds can be written again.
-use Rattle.std.proofs.Common.{◌≡◌, ℕ, suc, ◌+◌, ◌-◌, ◌<◌, ◌≤◌, ◌⊎◌, inl, inr, true, false, IsTrue, List, [], ◌∷◌, ◌++◌, length, get_or, take, map, reverse, refl, sym, ap, ◌∙◌, subst, arith, rules, All, length-append, get_or-take, codes, eqb}
+use Rattle.std.proofs.Common.{◌≡◌, ℕ, suc, ◌+◌, ◌-◌, ◌<◌, ◌≤◌, ◌⊎◌, inl, inr, true, false, IsTrue, List, [], ◌∷◌, ◌++◌, length, get_or}
+use Rattle.std.proofs.Common.{take, map, reverse, refl, sym, ap, ◌∙◌, subst, arith, rules, All, length-append, get_or-take, codes, eqb}
 use Rattle.std.specs.Char.{is_ascii_digit, digit_value}
 use Rattle.std.specs.List.{AllByRecursion}
 use Rattle.std.specs.Str.Parse.{digits_value}
@@ -85,7 +86,8 @@ lacks_left : (c : ℕ) (xs ys : List ℕ) → Lacks c (xs ++ ys) → Lacks c xs
 lacks_left c xs ys lacks k inside is = lacks k (omega (arith, inside, length-append xs ys)) (get_or_append_left xs ys 0 k inside ∙ is)
 
 lacks_right : (c : ℕ) (xs ys : List ℕ) → Lacks c (xs ++ ys) → Lacks c ys
-lacks_right c xs ys lacks k inside is = lacks (length xs + k) (omega (arith, inside, length-append xs ys)) (get_or-append-add xs ys k 0 ∙ is)
+lacks_right c xs ys lacks k inside is = lacks (length xs + k) (omega (arith, inside, length-append xs ys))
+    (get_or-append-add xs ys k 0 ∙ is)
 
 lacks_tail : (c b : ℕ) (ys : List ℕ) → Lacks c (b ∷ ys) → Lacks c ys
 lacks_tail c b ys lacks k inside is = lacks (suc k) (omega (arith, inside)) is
@@ -97,7 +99,8 @@ lacks_take c n xs lacks k inside is =
 
 cr_lacks : (raw : List ℕ) → Lacks 10 raw → Lacks 10 (without_cr raw)
 cr_lacks raw lacks = elim (cases_Bool (eqb (get_or raw (length raw - 1) 0) 13)) [
-  | inl is ↦ let e : without_cr raw ≡ take (length raw - 1) raw = rw is refl in subst (Lacks 10) (sym e) (lacks_take 10 (length raw - 1) raw lacks)
+  | inl is ↦ let e : without_cr raw ≡ take (length raw - 1) raw = rw is refl in
+      subst (Lacks 10) (sym e) (lacks_take 10 (length raw - 1) raw lacks)
   | inr off ↦ let e : without_cr raw ≡ raw = rw off refl in subst (Lacks 10) (sym e) lacks
 ]
 
@@ -111,7 +114,8 @@ request_held text value h =
       method = h.start.method_is;
       uri = h.start.uri_is;
       one_word = h.start.one_word;
-      one_line = lacks_tail 10 32 value.uri (lacks_right 10 value.method (32 ∷ value.uri) (lacks_left 10 (value.method ++ 32 ∷ value.uri) (32 ∷ codes "ICAP/1.0") line));
+      one_line = lacks_tail 10 32 value.uri (lacks_right 10 value.method (32 ∷ value.uri)
+          (lacks_left 10 (value.method ++ 32 ∷ value.uri) (32 ∷ codes "ICAP/1.0") line));
       fields = fields_held h.behind value.fields [] h.section;
     }
 
@@ -122,7 +126,8 @@ digit_small d is =
     let v = digit_value_digit d (low, high) in
     omega (arith, v, high)
 
-three_small : (digits : List ℕ) (n : ℕ) → length digits ≡ 3 → All (λ b. IsTrue (is_ascii_digit b)) digits → digits_value 10 digits ≡ n → n < 1000
+three_small : (digits : List ℕ) (n : ℕ) → length digits ≡ 3 → All (λ b. IsTrue (is_ascii_digit b)) digits → digits_value 10 digits ≡ n
+    → n < 1000
 three_small (a ∷ b ∷ c ∷ []) n three all value =
     let x = digit_small a (all 0 0 (omega arith)) in
     let y = digit_small b (all 1 0 (omega arith)) in

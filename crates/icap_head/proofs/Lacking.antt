@@ -1,5 +1,6 @@
 -- Texts without a byte.
-use Rattle.std.proofs.Common.{◌≡◌, ℕ, zero, suc, Bool, true, false, List, [], ◌∷◌, ◌++◌, length, get_or, refl, sym, ap, ◌∙◌, arith, length-append, eqb, not, ◌&&◌}
+use Rattle.std.proofs.Common.{◌≡◌, ℕ, zero, suc, Bool, true, false, List, [], ◌∷◌, ◌++◌, length, get_or, refl, sym, ap, ◌∙◌, arith}
+use Rattle.std.proofs.Common.{length-append, eqb, not, ◌&&◌}
 use Rattle.std.specs.List.{list_all}
 use Rattle.std.proofs.lemmas.Bool.{eq-eqb}
 use Rattle.std.proofs.lemmas.List.{get_or_at}
@@ -31,7 +32,8 @@ lacks_cons c b text other lacks (suc k) inside is = lacks k (omega arith) is
 
 pub lacks_append : (c : ℕ) (xs ys : List ℕ) → Lacks c xs → Lacks c ys → Lacks c (xs ++ ys)
 lacks_append c [] ys h g = g
-lacks_append c (x ∷ xs) ys h g = lacks_cons c x (xs ++ ys) (h 0 (omega arith)) (lacks_append c xs ys (λ k inside is. h (suc k) (omega arith) is) g)
+lacks_append c (x ∷ xs) ys h g = lacks_cons c x (xs ++ ys) (h 0 (omega arith))
+    (lacks_append c xs ys (λ k inside is. h (suc k) (omega arith) is) g)
 
 pub tested : (c b : ℕ) → not (eqb b c) ≡ true → b ≡ c → ⊥
 tested c b h e = let same : eqb b c ≡ true = eq-eqb b c e in false_true (sym (ap not same) ∙ h)

@@ -3,10 +3,12 @@ use Rattle.std.proofs.Common.{◌≡◌, ℕ, ◌+◌, ◌<◌, true, false, Lis
 use Rattle.std.proofs.lemmas.List.{drop_more}
 use Rattle.adapt_bytes.specs.Fields.{FieldList, field_at, value_at, is_named, values_of}
 
-values_yes : (name : List ℕ) (field : List ℕ × List ℕ) (fields : FieldList) → is_named name field ≡ true → values_of name (field ∷ fields) ≡ field.1 ∷ values_of name fields
+values_yes : (name : List ℕ) (field : List ℕ × List ℕ) (fields : FieldList) → is_named name field ≡ true
+    → values_of name (field ∷ fields) ≡ field.1 ∷ values_of name fields
 values_yes name field fields is = rw is refl
 
-values_no : (name : List ℕ) (field : List ℕ × List ℕ) (fields : FieldList) → is_named name field ≡ false → values_of name (field ∷ fields) ≡ values_of name fields
+values_no : (name : List ℕ) (field : List ℕ × List ℕ) (fields : FieldList) → is_named name field ≡ false
+    → values_of name (field ∷ fields) ≡ values_of name fields
 values_no name field fields off = rw off refl
 
 pub values_from_yes : (name : List ℕ) (fields : FieldList) (at : ℕ) → at < length fields → is_named name (field_at fields at) ≡ true

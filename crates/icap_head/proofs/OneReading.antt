@@ -1,11 +1,13 @@
 -- The readings of requests and of responses.
-use Rattle.std.proofs.Common.{◌≡◌, ◌≢◌, ℕ, List, length, take, drop, ap, subst, codes, Result, Ok, Err, IfOk, IfErr, IsOkAnd, IsErrAnd, ◌⊎◌, inl, inr}
+use Rattle.std.proofs.Common.{◌≡◌, ◌≢◌, ℕ, List, length, take, drop, ap, subst, codes, Result, Ok, Err, IfOk, IfErr, IsOkAnd, IsErrAnd, ◌⊎◌}
+use Rattle.std.proofs.Common.{inl, inr}
 use Rattle.icap_head.specs.declared.requests.IcapRequest.{IcapRequest}
 use Rattle.icap_head.specs.declared.responses.IcapResponse.{IcapResponse}
 use Rattle.icap_head.specs.declared.reading.Head.{Head}
 use Rattle.icap_head.specs.declared.reading.HeadFault.{HeadFault}
 use Rattle.icap_head.specs.declared.reading.HeadFault.TheVariants.{StartLine, Version, NoMemory}
-use Rattle.icap_head.specs.Heads.{Request, Response, StartsRequest, StartsResponse, HasRequest, HasPlainResponse, RefusesIcapHead, NeedsUri, ForWantOfMemory, request_parts, response_parts}
+use Rattle.icap_head.specs.Heads.{Request, Response, StartsRequest, StartsResponse, HasRequest, HasPlainResponse, RefusesIcapHead, NeedsUri}
+use Rattle.icap_head.specs.Heads.{ForWantOfMemory, request_parts, response_parts}
 use Rattle.icap_head.specs.FieldLines.{HasFields, RefusesFields}
 use Rattle.icap_head.specs.StartLines.{RequestForm, StatusForm}
 use Rattle.icap_head.proofs.Readings.{OneVersion, head_reads, head_unique, no_fault, no_fields_fault, one_fault, one_fields_fault}
@@ -36,29 +38,37 @@ response_unique text x y n m h g =
     let words = status_line_unique same.0.0 x.status y.status x.phrase y.phrase (codes "ICAP/1.0") (codes "ICAP/1.0") same.0.1 same.0.2 in
     (same_response x y words.0 words.1 same.1, same.2)
 
-pub no_request_fault : (fault : HeadFault) (text : List ℕ) (value : Request) (n : ℕ) → HasRequest text value n → RefusesIcapHead RequestForm fault text → ⊥
-no_request_fault fault text value n h s = no_fault RequestForm request_version (StartsRequest value) (λ line l. (value.method, value.uri, l)) fault text value.fields n h s
+pub no_request_fault : (fault : HeadFault) (text : List ℕ) (value : Request) (n : ℕ) → HasRequest text value n
+    → RefusesIcapHead RequestForm fault text → ⊥
+no_request_fault fault text value n h s = no_fault RequestForm request_version (StartsRequest value)
+    (λ line l. (value.method, value.uri, l)) fault text value.fields n h s
 
-pub no_response_fault : (fault : HeadFault) (text : List ℕ) (value : Response) (n : ℕ) → HasPlainResponse text value n → RefusesIcapHead StatusForm fault text → ⊥
-no_response_fault fault text value n h s = no_fault StatusForm status_version (StartsResponse value) (λ line l. (value.status, value.phrase, l)) fault text value.fields n h s
+pub no_response_fault : (fault : HeadFault) (text : List ℕ) (value : Response) (n : ℕ) → HasPlainResponse text value n
+    → RefusesIcapHead StatusForm fault text → ⊥
+no_response_fault fault text value n h s = no_fault StatusForm status_version (StartsResponse value)
+    (λ line l. (value.status, value.phrase, l)) fault text value.fields n h s
 
 -- ---- what is said for want of memory
 
 -- of a whole head nothing but that
-memory_alone : (fault : HeadFault) (text : List ℕ) (value : Request) (n : ℕ) → HasRequest text value n → ForWantOfMemory fault text → fault ≡ NoMemory
+memory_alone : (fault : HeadFault) (text : List ℕ) (value : Request) (n : ℕ) → HasRequest text value n → ForWantOfMemory fault text
+    → fault ≡ NoMemory
 memory_alone fault text value n h (line, behind, first, may, inl m) = m.0
 memory_alone fault text value n h (line, behind, first, may, inr bad) =
     let x = head_reads (StartsRequest value) text value.fields n h in
     let same = first_unique (take 16384 text) line behind x.line x.behind first x.first in
-    absurd (no_fields_fault fault (length text) x.behind (drop n (take 16384 text)) value.fields x.section h.few (subst (RefusesFields fault (length text)) same.1 bad))
+    absurd (no_fields_fault fault (length text) x.behind (drop n (take 16384 text)) value.fields x.section h.few
+    (subst (RefusesFields fault (length text)) same.1 bad))
 
 -- of fields that have a fault only that
-fields_alone : (g fault : HeadFault) (len : ℕ) (behind : List ℕ) → ((g ≡ NoMemory) × HasFields behind) ⊎ RefusesFields g len behind → RefusesFields fault len behind → g ≡ fault
+fields_alone : (g fault : HeadFault) (len : ℕ) (behind : List ℕ) → ((g ≡ NoMemory) × HasFields behind) ⊎ RefusesFields g len behind
+    → RefusesFields fault len behind → g ≡ fault
 fields_alone g fault len behind (inl m) s = absurd (no_fields_fault fault len behind m.1.1 m.1.0 m.1.2 m.1.3 s)
 fields_alone g fault len behind (inr t) s = one_fields_fault g fault len behind t s
 
 -- of a text that has a fault behind its start line only that
-same_later : (g fault : HeadFault) (text : List ℕ) → fault ≢ StartLine → fault ≢ Version → RefusesIcapHead RequestForm fault text → ForWantOfMemory g text → g ≡ fault
+same_later : (g fault : HeadFault) (text : List ℕ) → fault ≢ StartLine → fault ≢ Version → RefusesIcapHead RequestForm fault text
+    → ForWantOfMemory g text → g ≡ fault
 same_later g fault text a b (inl none) w = absurd (none.1 w.0 w.1 w.2)
 same_later g fault text a b (inr (line, behind, first, inl (inl s))) w = absurd (a s.0)
 same_later g fault text a b (inr (line, behind, first, inl (inr s))) w = absurd (b s.0)
@@ -115,7 +125,8 @@ later_fault text (Err g) ok (inr err) fault a b s = ap Err (same_later g fault t
 
 pub response_fault : (text : List ℕ) (r : Result (Head IcapResponse) HeadFault)
     → IfOk r (λ head. HasPlainResponse text (response_parts head.value) head.length)
-    → IfErr r (λ fault. ((fault ≡ NoMemory) × ((value : Response) × (size : ℕ) × HasPlainResponse text value size)) ⊎ RefusesIcapHead StatusForm fault text)
+    → IfErr r (λ fault. ((fault ≡ NoMemory) × ((value : Response) × (size : ℕ) × HasPlainResponse text value size))
+    ⊎ RefusesIcapHead StatusForm fault text)
     → (fault : HeadFault) → RefusesIcapHead StatusForm fault text → r ≡ Err fault
 response_fault text (Ok head) ok err fault s = absurd (no_response_fault fault text (response_parts head.value) head.length ok s)
 response_fault text (Err g) ok (inl err) fault s = absurd (no_response_fault fault text err.1.0 err.1.1 err.1.2 s)

@@ -5,7 +5,8 @@ use Rattle.icap_head.specs.declared.reading.HeadFault.TheVariants.{NoMemory}
 use Rattle.adapt_bytes.specs.Fields.{FieldList}
 use Rattle.icap_head.specs.FieldLines.{ReadsFields, HasFields, RefusesFields}
 use Rattle.icap_head.specs.StartLines.{IsFirstLine, IsStatusLine, MayBeRequestLine, RequestForm, StatusForm, RefusesStartLine}
-use Rattle.icap_head.specs.Heads.{Request, Response, ForWantOfMemory, HasRequest, HasPlainResponse, StartsRequest, StartsResponse, RefusesIcapHead}
+use Rattle.icap_head.specs.Heads.{Request, Response, ForWantOfMemory, HasRequest, HasPlainResponse, StartsRequest, StartsResponse}
+use Rattle.icap_head.specs.Heads.{RefusesIcapHead}
 use Rattle.icap_head.proofs.Readings.{has_head, has_some_head}
 
 -- what a reader of requests may answer
@@ -14,7 +15,8 @@ RequestRefused fault text = RefusesIcapHead RequestForm fault text ⊎ ForWantOf
 
 -- what a reader of responses may answer
 abbrev pub ResponseRefused : HeadFault → List ℕ → Type 0
-ResponseRefused fault text = ((fault ≡ NoMemory) × ((value : Response) × (size : ℕ) × HasPlainResponse text value size)) ⊎ RefusesIcapHead StatusForm fault text
+ResponseRefused fault text = ((fault ≡ NoMemory) × ((value : Response) × (size : ℕ) × HasPlainResponse text value size))
+    ⊎ RefusesIcapHead StatusForm fault text
 
 pub request_line_refused : (fault : HeadFault) (text seen line behind : List ℕ) → seen ≡ take 16384 text → IsFirstLine seen line behind
     → RefusesStartLine RequestForm fault line → RequestRefused fault text
@@ -23,7 +25,8 @@ request_line_refused fault text seen line behind e first h = inl (inr (line, beh
 -- behind a line that may be a request's
 pub request_fields_refused : (fault : HeadFault) (text seen line behind : List ℕ) → seen ≡ take 16384 text → IsFirstLine seen line behind
     → MayBeRequestLine line → ((fault ≡ NoMemory) × HasFields behind) ⊎ RefusesFields fault (length text) behind → RequestRefused fault text
-request_fields_refused fault text seen line behind e first may h = inr (line, behind, subst (λ t. IsFirstLine t line behind) e first, may, h)
+request_fields_refused fault text seen line behind e first may h =
+    inr (line, behind, subst (λ t. IsFirstLine t line behind) e first, may, h)
 
 -- and where it has fields that pass, and memory ran out
 pub request_unkept : (text seen line behind : List ℕ) → seen ≡ take 16384 text → IsFirstLine seen line behind → MayBeRequestLine line
@@ -31,27 +34,34 @@ pub request_unkept : (text seen line behind : List ℕ) → seen ≡ take 16384 
 request_unkept text seen line behind e first may fields rest reads few =
     request_fields_refused NoMemory text seen line behind e first may (inl (refl, (fields, rest, reads, few)))
 
-pub has_request : (value : Request) (text seen line behind : List ℕ) (n : ℕ) → seen ≡ take 16384 text → n ≤ length seen → IsFirstLine seen line behind → StartsRequest value line
+pub has_request : (value : Request) (text seen line behind : List ℕ) (n : ℕ) → seen ≡ take 16384 text → n ≤ length seen
+    → IsFirstLine seen line behind → StartsRequest value line
     → length value.fields ≤ 100 → ReadsFields behind value.fields (drop n seen) → HasRequest text value n
 has_request value text seen line behind n e inside first h few fields =
-    has_head (StartsRequest value) text line behind value.fields n (subst (λ t. n ≤ length t) e inside) (subst (λ t. IsFirstLine t line behind) e first) h
+    has_head (StartsRequest value) text line behind value.fields n (subst (λ t. n ≤ length t) e inside)
+    (subst (λ t. IsFirstLine t line behind) e first) h
     (subst (λ t. ReadsFields behind value.fields (drop n t)) e fields) few
 
 pub status_line_refused : (fault : HeadFault) (text seen line behind : List ℕ) → seen ≡ take 16384 text → IsFirstLine seen line behind
     → RefusesStartLine StatusForm fault line → ResponseRefused fault text
 status_line_refused fault text seen line behind e first h = inr (inr (line, behind, subst (λ t. IsFirstLine t line behind) e first, inl h))
 
-pub response_fields_refused : (fault : HeadFault) (text seen line behind : List ℕ) (status : ℕ) (phrase : List ℕ) → seen ≡ take 16384 text → IsFirstLine seen line behind
-    → IsStatusLine line status phrase (codes "ICAP/1.0") → ((fault ≡ NoMemory) × HasFields behind) ⊎ RefusesFields fault (length text) behind → ResponseRefused fault text
+pub response_fields_refused : (fault : HeadFault) (text seen line behind : List ℕ) (status : ℕ) (phrase : List ℕ) → seen ≡ take 16384 text
+    → IsFirstLine seen line behind
+    → IsStatusLine line status phrase (codes "ICAP/1.0")
+    → ((fault ≡ NoMemory) × HasFields behind) ⊎ RefusesFields fault (length text) behind → ResponseRefused fault text
 response_fields_refused fault text seen line behind status phrase e first h (inl m) =
     let value : Response = record { status = status; phrase = phrase; fields = m.1.0 } in
-    let some = has_some_head (StartsResponse value) text line behind m.1.0 m.1.1 (subst (λ t. IsFirstLine t line behind) e first) h m.1.2 m.1.3 in
+    let some = has_some_head (StartsResponse value) text line behind m.1.0 m.1.1 (subst (λ t. IsFirstLine t line behind) e first) h m.1.2
+    m.1.3 in
     inl (m.0, (value, some.0, some.1))
 response_fields_refused fault text seen line behind status phrase e first h (inr s) =
     inr (inr (line, behind, subst (λ t. IsFirstLine t line behind) e first, inr ((status, phrase, h), s)))
 
-pub has_response : (value : Response) (text seen line behind : List ℕ) (n : ℕ) → seen ≡ take 16384 text → n ≤ length seen → IsFirstLine seen line behind → StartsResponse value line
+pub has_response : (value : Response) (text seen line behind : List ℕ) (n : ℕ) → seen ≡ take 16384 text → n ≤ length seen
+    → IsFirstLine seen line behind → StartsResponse value line
     → length value.fields ≤ 100 → ReadsFields behind value.fields (drop n seen) → HasPlainResponse text value n
 has_response value text seen line behind n e inside first h few fields =
-    has_head (StartsResponse value) text line behind value.fields n (subst (λ t. n ≤ length t) e inside) (subst (λ t. IsFirstLine t line behind) e first) h
+    has_head (StartsResponse value) text line behind value.fields n (subst (λ t. n ≤ length t) e inside)
+    (subst (λ t. IsFirstLine t line behind) e first) h
     (subst (λ t. ReadsFields behind value.fields (drop n t)) e fields) few

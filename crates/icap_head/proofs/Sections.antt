@@ -1,12 +1,15 @@
 -- Field lines are counted by their line feeds.
-use Rattle.std.proofs.Common.{◌≡◌, ◌≢◌, ℕ, zero, suc, ◌+◌, ◌-◌, ◌<◌, ◌≤◌, inl, inr, true, false, cond, eqb, List, [], ◌∷◌, ◌++◌, length, get_or, take, drop, refl, sym, ap, ◌∙◌, subst, arith, All, length-append, append_assoc, append-nil, length-take-le, take-append-drop}
+use Rattle.std.proofs.Common.{◌≡◌, ◌≢◌, ℕ, zero, suc, ◌+◌, ◌-◌, ◌<◌, ◌≤◌, inl, inr, true, false, cond, eqb, List, [], ◌∷◌, ◌++◌, length}
+use Rattle.std.proofs.Common.{get_or, take, drop, refl, sym, ap, ◌∙◌, subst, arith, All, length-append, append_assoc, append-nil}
+use Rattle.std.proofs.Common.{length-take-le, take-append-drop}
 use Rattle.std.specs.List.{flat_map}
 use Rattle.std.proofs.lemmas.Bool.{ne_eqb, eq-eqb, cases_lt}
 use Rattle.std.proofs.lemmas.List.{take_at, get_or_at, get_or-append-add, take-append-le}
 use Rattle.std.proofs.lemmas.List.Sums.{sum_by-append}
 use Rattle.std.proofs.lemmas.List.Elements.{All-cons}
 use Rattle.adapt_bytes.specs.Text.{Lacks}
-use Rattle.httparse.specs.Grammar.{LineEnd, crlf, lf, print_end, Field as Line, print_field, IsField, print_section, ReadsSection, HasNoSection, NeverHasSection, is_token_byte, is_value_byte, IsToken, AllPass}
+use Rattle.httparse.specs.Grammar.{LineEnd, crlf, lf, print_end, Field as Line, print_field, IsField, print_section, ReadsSection}
+use Rattle.httparse.specs.Grammar.{HasNoSection, NeverHasSection, is_token_byte, is_value_byte, IsToken, AllPass}
 use Rattle.httparse.proofs.GrammarLemmas.{section_unique}
 use Rattle.icap_head.specs.FieldLines.{line_count, HasTooMany, IsOpen}
 use Rattle.icap_head.proofs.Lacking.{false_true, lacks_append, lacks_cons, lacks_nil, lacks_from, tested}
@@ -44,7 +47,8 @@ count_behind : (front w init : List ℕ) → front ++ w ≡ init ++ 10 ∷ [] �
 count_behind front w init e pos =
     let n = ap length e in
     let last : length front + (length w - 1) ≡ length init = omega (arith, n, length-append front w, length-append init (10 ∷ [])) in
-    let is : get_or w (length w - 1) 0 ≡ 10 = sym (get_or-append-add front w (length w - 1) 0) ∙ ap (λ k. get_or (front ++ w) k 0) last ∙ ap (λ t. get_or t (length init) 0) e ∙ get_or_at init 10 [] 0 (length init) refl in
+    let is : get_or w (length w - 1) 0 ≡ 10 = sym (get_or-append-add front w (length w - 1) 0) ∙ ap (λ k. get_or (front ++ w) k 0) last
+    ∙ ap (λ t. get_or t (length init) 0) e ∙ get_or_at init 10 [] 0 (length init) refl in
     count_at w (length w - 1) (omega arith) is
 
 -- ---- lines
@@ -58,7 +62,11 @@ end_line crlf = (13 ∷ [], lacks_from 10 (13 ∷ []) refl, refl)
 end_line lf = ([], lacks_nil 10, refl)
 
 with_front : (front text : List ℕ) → Lacks 10 front → OneLine text → OneLine (front ++ text)
-with_front front text lacks line = (front ++ line.0, lacks_append 10 front line.0 lacks line.1, ap (λ t. front ++ t) line.2 ∙ sym (append_assoc front line.0 (10 ∷ [])))
+with_front front text lacks line = (
+  front ++ line.0,
+  lacks_append 10 front line.0 lacks line.1,
+  ap (λ t. front ++ t) line.2 ∙ sym (append_assoc front line.0 (10 ∷ [])),
+)
 
 feed_no_name : is_token_byte 10 ≡ false
 unfolding is_token_byte
@@ -83,7 +91,8 @@ one_count text line =
     let one : line_count (10 ∷ []) ≡ 1 = refl in
     ap line_count line.2 ∙ omega (arith, n, none, one)
 
-section_cons : (f : Line) (fields : List Line) (last : LineEnd) → print_section (f ∷ fields) last ≡ print_field f ++ print_section fields last
+section_cons : (f : Line) (fields : List Line) (last : LineEnd)
+    → print_section (f ∷ fields) last ≡ print_field f ++ print_section fields last
 section_cons f fields last = append_assoc (print_field f) (flat_map print_field fields) (print_end last)
 
 all_head : (f : Line) (fields : List Line) → All IsField (f ∷ fields) → IsField f
@@ -95,7 +104,8 @@ all_tail f fields all k d inside = all (suc k) d (omega arith)
 pub all_take : (n : ℕ) (fields : List Line) → All IsField fields → All IsField (take n fields)
 all_take zero fields all k d inside = absurd (omega arith)
 all_take (suc n) [] all k d inside = all k d inside
-all_take (suc n) (f ∷ fields) all k d inside = All-cons IsField f (take n fields) (all_head f fields all) (all_take n fields (all_tail f fields all)) k d inside
+all_take (suc n) (f ∷ fields) all k d inside = All-cons IsField f (take n fields) (all_head f fields all)
+    (all_take n fields (all_tail f fields all)) k d inside
 
 pub lines_count : (fields : List Line) → All IsField fields → line_count (flat_map print_field fields) ≡ length fields
 lines_count [] all = refl
@@ -131,11 +141,15 @@ cut_line line text more tail one e pos =
 
 reads_cons : (f : Line) (fields : List Line) (last : LineEnd) (text behind rest : List ℕ) → IsField f → text ≡ print_field f ++ behind
     → ReadsSection behind fields last rest → ReadsSection text (f ∷ fields) last rest
-reads_cons f fields last text behind rest h e r =
-    (All-cons IsField f fields h r.0, e ∙ ap (λ t. print_field f ++ t) r.1 ∙ sym (append_assoc (print_field f) (print_section fields last) rest) ∙ ap (λ t. t ++ rest) (sym (section_cons f fields last)))
+reads_cons f fields last text behind rest h e r = (
+  All-cons IsField f fields h r.0,
+  e ∙ ap (λ t. print_field f ++ t) r.1
+      ∙ sym (append_assoc (print_field f) (print_section fields last) rest) ∙ ap (λ t. t ++ rest) (sym (section_cons f fields last)),
+)
 
 -- the lines of an unfinished section are whole field lines
-pub open_lines : (k : ℕ) (fields : List Line) (last : LineEnd) (text more : List ℕ) → All IsField fields → text ++ more ≡ print_section fields last
+pub open_lines : (k : ℕ) (fields : List Line) (last : LineEnd) (text more : List ℕ) → All IsField fields
+    → text ++ more ≡ print_section fields last
     → k ≤ line_count text → HasNoSection text
     → (k ≤ length fields) × ((rest : List ℕ) × (text ≡ flat_map print_field (take k fields) ++ rest))
 open_lines zero fields last text more all e enough none = (omega arith, (text, refl))
@@ -153,7 +167,11 @@ open_lines (suc k) (f ∷ fields) last text more all e enough none =
     (λ gs end rest r. none (f ∷ gs) end rest (reads_cons f gs end text line.0 rest h line.1 r)) in
     let few = found.0 in (
       omega (arith, few),
-      (found.1.0, line.1 ∙ ap (λ t. print_field f ++ t) found.1.1 ∙ sym (append_assoc (print_field f) (flat_map print_field (take k fields)) found.1.0)),
+      (
+        found.1.0,
+        line.1 ∙ ap (λ t. print_field f ++ t) found.1.1 ∙ sym
+            (append_assoc (print_field f) (flat_map print_field (take k fields)) found.1.0),
+      ),
     )
 
 -- ---- too many
@@ -164,8 +182,14 @@ open_too_many text unfinished enough =
     let whole = more.3.1 ∙ append-nil (print_section more.1 more.2) in
     let found = open_lines 101 more.1 more.2 text more.0 more.3.0 whole enough unfinished.0 in
     let lines = take 101 more.1 in
-    let n = length-take-le 101 more.1 found.0 in
-    (flat_map print_field lines, found.1.0, found.1.1, lines, (all_take 101 more.1 more.3.0, sym (append-nil (print_section lines lf))), omega (arith, n))
+    let n = length-take-le 101 more.1 found.0 in (
+      flat_map print_field lines,
+      found.1.0,
+      found.1.1,
+      lines,
+      (all_take 101 more.1 more.3.0, sym (append-nil (print_section lines lf))),
+      omega (arith, n),
+    )
 
 -- the front of a text with too many lines
 front_count : (front : List ℕ) (fields : List Line) → ReadsSection (front ++ print_end lf) fields lf [] → line_count front ≡ length fields
@@ -191,8 +215,11 @@ too_many-append text more many =
 
 -- of two fronts of a text, the longer begins with the shorter
 pub longer_front : (a x b y : List ℕ) → a ++ x ≡ b ++ y → length b ≤ length a → (c : List ℕ) × (a ≡ b ++ c)
-longer_front a x b y e le =
-    (drop (length b) a, sym (take-append-drop (length b) a) ∙ ap (λ t. t ++ drop (length b) a) (sym (take-append-le (length b) a x le) ∙ ap (take (length b)) e ∙ take_at b y (length b) refl))
+longer_front a x b y e le = (
+  drop (length b) a,
+  sym (take-append-drop (length b) a) ∙ ap (λ t. t ++ drop (length b) a)
+      (sym (take-append-le (length b) a x le) ∙ ap (take (length b)) e ∙ take_at b y (length b) refl),
+)
 
 ends_after : (front more : List ℕ) (c : List ℕ) → front ≡ more ++ c → front ++ 10 ∷ [] ≡ more ++ (c ++ 10 ∷ [])
 ends_after front more c e = ap (λ t. t ++ 10 ∷ []) e ∙ append_assoc more c (10 ∷ [])
@@ -229,7 +256,8 @@ ends_too_many text init ends count never many =
     ]
 
 -- a text with a section of at most 100 fields hasn't too many
-pub section_few : (text : List ℕ) (fields : List Line) (last : LineEnd) (rest : List ℕ) → ReadsSection text fields last rest → length fields ≤ 100 → HasTooMany text → ⊥
+pub section_few : (text : List ℕ) (fields : List Line) (last : LineEnd) (rest : List ℕ) → ReadsSection text fields last rest
+    → length fields ≤ 100 → HasTooMany text → ⊥
 section_few text fields last rest r few many =
     let front = many.0 in
     let printed = print_section fields last in
@@ -251,7 +279,8 @@ section_few text fields last rest r few many =
           absurd (omega (arith, left, n, whole, sum, parts, lines, one, more, few))
       | inr most ↦
           let c = longer_front front many.1 printed rest (sym many.2 ∙ r.1) most in
-          let same = section_unique (front ++ 10 ∷ []) fields many.3 last lf (c.0 ++ 10 ∷ []) [] (r.0, ends_after front printed c.0 c.1) many.4 in
+          let same = section_unique (front ++ 10 ∷ []) fields many.3 last lf (c.0 ++ 10 ∷ []) [] (r.0, ends_after front printed c.0 c.1)
+          many.4 in
           let n = ap length same.0 in
           let more = many.5 in
           absurd (omega (arith, n, more, few))

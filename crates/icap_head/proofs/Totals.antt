@@ -1,10 +1,12 @@
 -- No text is without a head and without a fault.
-use Rattle.std.proofs.Common.{◌≡◌, ℕ, ◌<◌, ◌≤◌, ◌⊎◌, List, [], ◌∷◌, ◌++◌, length, take, map, refl, sym, ap, ◌∙◌, subst, arith, append-nil, append_assoc, codes, inl, inr}
+use Rattle.std.proofs.Common.{◌≡◌, ℕ, ◌<◌, ◌≤◌, ◌⊎◌, List, [], ◌∷◌, ◌++◌, length, take, map, refl, sym, ap, ◌∙◌, subst, arith, append-nil}
+use Rattle.std.proofs.Common.{append_assoc, codes, inl, inr}
 use Rattle.std.specs.List.{flat_map}
 use Rattle.std.proofs.lemmas.Bool.{cases_eq, cases_lt}
 use Rattle.std.proofs.lemmas.List.{length-map}
 use Rattle.adapt_bytes.specs.Text.{Lacks}
-use Rattle.httparse.specs.Grammar.{LineEnd, lf, print_end, Field as Line, print_field, print_section, ReadsSection, HasNoSection, NeverHasSection, MayBecomeSection}
+use Rattle.httparse.specs.Grammar.{LineEnd, lf, print_end, Field as Line, print_field, print_section, ReadsSection, HasNoSection}
+use Rattle.httparse.specs.Grammar.{NeverHasSection, MayBecomeSection}
 use Rattle.httparse.specs.Spans.{name_and_value}
 use Rattle.icap_head.specs.declared.reading.HeadFault.{HeadFault}
 use Rattle.icap_head.specs.declared.reading.HeadFault.TheVariants.{StartLine, Version, Field, TooMany}
@@ -72,7 +74,8 @@ never_section text none unable more fields last rest reads =
     ]
 
 -- more than 100 lines with an empty one behind them are too many
-many_lines : (text : List ℕ) (fields : List Line) (last : LineEnd) (rest : List ℕ) → ReadsSection text fields last rest → 100 < length fields → HasTooMany text
+many_lines : (text : List ℕ) (fields : List Line) (last : LineEnd) (rest : List ℕ) → ReadsSection text fields last rest
+    → 100 < length fields → HasTooMany text
 many_lines text fields last rest reads many =
     let front = flat_map print_field fields in (
       front,
@@ -85,17 +88,29 @@ many_lines text fields last rest reads many =
 
 -- fields and an empty line, or why there are none
 some_fields : (len : ℕ) (text : List ℕ)
-    → NotNot (((fields : FieldList) × (rest : List ℕ) × ReadsFields text fields rest × (length fields ≤ 100)) ⊎ ((fault : HeadFault) × RefusesFields fault len text))
+    → NotNot (((fields : FieldList) × (rest : List ℕ) × ReadsFields text fields rest × (length fields ≤ 100))
+    ⊎ ((fault : HeadFault) × RefusesFields fault len text))
 some_fields len text =
     and_so (decided (HasTooMany text)) (λ many. elim many [
       | inl over ↦ surely (inr (TooMany, inr (inl (refl, over))))
-      | inr few ↦ and_so (decided ((fields : List Line) × (last : LineEnd) × (rest : List ℕ) × ReadsSection text fields last rest)) (λ found. elim found [
-        | inl section ↦ surely (inl (whole few section.0 section.1 section.2 section.3))
-        | inr none ↦ and_so (decided (MayBecomeSection text)) (λ open_end. elim open_end [
-          | inl may ↦ surely (inr (unended len, inr (inr (refl, (λ fields last rest reads. none (fields, last, rest, reads), may), few))))
-          | inr unable ↦ surely (inr (Field, inl (refl, never_section text (λ fields last rest reads. none (fields, last, rest, reads)) unable, few)))
-        ])
-      ])
+      | inr few ↦ and_so (decided ((fields : List Line) × (last : LineEnd) × (rest : List ℕ) × ReadsSection text fields last rest))
+          (λ found. elim found [
+            | inl section ↦ surely (inl (whole few section.0 section.1 section.2 section.3))
+            | inr none ↦ and_so (decided (MayBecomeSection text)) (λ open_end. elim open_end [
+              | inl may ↦ surely (inr (
+                unended len,
+                inr (inr (refl, (λ fields last rest reads. none (fields, last, rest, reads), may), few)),
+              ))
+              | inr unable ↦ surely (inr (
+                Field,
+                inl (
+                  refl,
+                  never_section text (λ fields last rest reads. none (fields, last, rest, reads)) unable,
+                  few,
+                ),
+              ))
+            ])
+          ])
     ])
   where
     whole : (HasTooMany text → ⊥) → (fields : List Line) (last : LineEnd) (rest : List ℕ) → ReadsSection text fields last rest
@@ -111,7 +126,8 @@ some_fields len text =
 
 -- a head with a line of the form, or why there is none
 pub some_head : (Form : List ℕ → List ℕ → Type 0) (text : List ℕ)
-    → NotNot (((line : List ℕ) × (fields : FieldList) × (size : ℕ) × Form (codes "ICAP/1.0") line × HasHead (λ l. l ≡ line) text fields size)
+    → NotNot (((line : List ℕ) × (fields : FieldList) × (size : ℕ) × Form (codes "ICAP/1.0") line
+    × HasHead (λ l. l ≡ line) text fields size)
     ⊎ ((fault : HeadFault) × RefusesIcapHead Form fault text))
 some_head Form text = elim (first_line (take 16384 text)) [
   | inr none ↦ surely (inr (unended (length text), inl (refl, none)))
@@ -119,41 +135,70 @@ some_head Form text = elim (first_line (take 16384 text)) [
 ]
   where
     with : (line behind : List ℕ) → IsFirstLine (take 16384 text) line behind
-        → NotNot (((line : List ℕ) × (fields : FieldList) × (size : ℕ) × Form (codes "ICAP/1.0") line × HasHead (λ l. l ≡ line) text fields size)
+        → NotNot (((line : List ℕ) × (fields : FieldList) × (size : ℕ) × Form (codes "ICAP/1.0") line
+        × HasHead (λ l. l ≡ line) text fields size)
         ⊎ ((fault : HeadFault) × RefusesIcapHead Form fault text))
     with line behind first = and_so (decided (Form (codes "ICAP/1.0") line)) (λ formed. elim formed [
       | inl form ↦ and_so (some_fields (length text) behind) (λ fields. elim fields [
-        | inl h ↦ let n = has_some_head (λ l. l ≡ line) text line behind h.0 h.1 first refl h.2 h.3 in surely (inl (line, h.0, n.0, form, n.1))
+        | inl h ↦ let n = has_some_head (λ l. l ≡ line) text line behind h.0 h.1 first refl h.2 h.3 in
+            surely (inl (line, h.0, n.0, form, n.1))
         | inr s ↦ surely (inr (s.0, inr (line, behind, first, inr (form, s.1))))
       ])
       | inr other ↦ and_so (decided ((version : List ℕ) × Form version line)) (λ some. elim some [
-        | inl v ↦ surely (inr (Version, inr (line, behind, first, inl (inr (refl, (v.0, v.1, λ same. other (subst (λ w. Form w line) same v.1)))))))
+        | inl v ↦ surely (inr (
+          Version,
+          inr (
+            line,
+            behind,
+            first,
+            inl (inr (refl, (v.0, v.1, λ same. other (subst (λ w. Form w line) same v.1)))),
+          ),
+        ))
         | inr none ↦ surely (inr (StartLine, inr (line, behind, first, inl (inl (refl, λ version form. none (version, form))))))
       ])
     ])
 
-started : (S T : List ℕ → Type 0) (text : List ℕ) (fields : FieldList) (size : ℕ) → ((line : List ℕ) → S line → T line) → HasHead S text fields size → HasHead T text fields size
+started : (S T : List ℕ → Type 0) (text : List ℕ) (fields : FieldList) (size : ℕ) → ((line : List ℕ) → S line → T line)
+    → HasHead S text fields size → HasHead T text fields size
 started S T text fields size all h = record {
   inside = h.inside;
   within = h.within;
   few = h.few;
-  head = record { line = h.head.line; behind = h.head.behind; first = h.head.first; start = all h.head.line h.head.start; section = h.head.section };
+  head = record {
+    line = h.head.line;
+    behind = h.head.behind;
+    first = h.head.first;
+    start = all h.head.line h.head.start;
+    section = h.head.section;
+  };
 }
 
 -- a request's head, or why there is none
-pub some_request : (text : List ℕ) → NotNot (((value : Request) × (size : ℕ) × HasRequest text value size) ⊎ ((fault : HeadFault) × RefusesIcapHead RequestForm fault text))
+pub some_request : (text : List ℕ) → NotNot (((value : Request) × (size : ℕ) × HasRequest text value size)
+    ⊎ ((fault : HeadFault) × RefusesIcapHead RequestForm fault text))
 some_request text = and_so (some_head RequestForm text) (λ found. elim found [
   | inl (line, fields, size, (method, uri, is), has) ↦
       let value : Request = record { method = method; uri = uri; fields = fields } in
-      surely (inl (value, size, started (λ l. l ≡ line) (StartsRequest value) text fields size (λ l e. subst (StartsRequest value) (sym e) is) has))
+      surely (inl (
+        value,
+        size,
+        started (λ l. l ≡ line) (StartsRequest value) text fields size
+            (λ l e. subst (StartsRequest value) (sym e) is) has,
+      ))
   | inr stands ↦ surely (inr stands)
 ])
 
 -- a response's head, or why there is none
-pub some_response : (text : List ℕ) → NotNot (((value : Response) × (size : ℕ) × HasPlainResponse text value size) ⊎ ((fault : HeadFault) × RefusesIcapHead StatusForm fault text))
+pub some_response : (text : List ℕ) → NotNot (((value : Response) × (size : ℕ) × HasPlainResponse text value size)
+    ⊎ ((fault : HeadFault) × RefusesIcapHead StatusForm fault text))
 some_response text = and_so (some_head StatusForm text) (λ found. elim found [
   | inl (line, fields, size, (status, phrase, is), has) ↦
       let value : Response = record { status = status; phrase = phrase; fields = fields } in
-      surely (inl (value, size, started (λ l. l ≡ line) (StartsResponse value) text fields size (λ l e. subst (StartsResponse value) (sym e) is) has))
+      surely (inl (
+        value,
+        size,
+        started (λ l. l ≡ line) (StartsResponse value) text fields size
+            (λ l e. subst (StartsResponse value) (sym e) is) has,
+      ))
   | inr stands ↦ surely (inr stands)
 ])

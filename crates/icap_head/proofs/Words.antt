@@ -1,5 +1,6 @@
 -- A start line is cut into its words in one way.
-use Rattle.std.proofs.Common.{◌≡◌, ℕ, Bool, true, false, IsTrue, List, [], ◌∷◌, ◌++◌, length, get_or, take, refl, sym, ap, ◌∙◌, subst, arith, append_assoc, codes, min, inl, inr, take_all}
+use Rattle.std.proofs.Common.{◌≡◌, ℕ, Bool, true, false, IsTrue, List, [], ◌∷◌, ◌++◌, length, get_or, take, refl, sym, ap, ◌∙◌, subst}
+use Rattle.std.proofs.Common.{arith, append_assoc, codes, min, inl, inr, take_all}
 use Rattle.std.proofs.lemmas.Bool.{cases_lt}
 use Rattle.adapt_bytes.specs.Text.{IsToken, Lacks}
 use Rattle.adapt_bytes.proofs.Cuts.{first_cut}
@@ -13,8 +14,10 @@ line_words line m u v h = h.line_is ∙ append_assoc m (32 ∷ u) (32 ∷ v)
 pub no_first : (line m u v : List ℕ) → Lacks 32 line → IsRequestLine line m u v → ⊥
 no_first line m u v lacks h = lacks_cut 32 line m (u ++ 32 ∷ v) lacks (line_words line m u v h)
 
-pub first_word : (line a rest m u v : List ℕ) → line ≡ a ++ 32 ∷ rest → Lacks 32 a → IsRequestLine line m u v → (a ≡ m) × (rest ≡ u ++ 32 ∷ v)
-first_word line a rest m u v cut lacks h = first_cut 32 a m rest (u ++ 32 ∷ v) lacks (no_space m h.method_is) (sym cut ∙ line_words line m u v h)
+pub first_word : (line a rest m u v : List ℕ) → line ≡ a ++ 32 ∷ rest → Lacks 32 a → IsRequestLine line m u v
+    → (a ≡ m) × (rest ≡ u ++ 32 ∷ v)
+first_word line a rest m u v cut lacks h = first_cut 32 a m rest (u ++ 32 ∷ v) lacks (no_space m h.method_is)
+    (sym cut ∙ line_words line m u v h)
 
 pub no_second : (line a rest m u v : List ℕ) → line ≡ a ++ 32 ∷ rest → Lacks 32 a → Lacks 32 rest → IsRequestLine line m u v → ⊥
 no_second line a rest m u v cut lacks none h =
@@ -22,7 +25,8 @@ no_second line a rest m u v cut lacks none h =
     lacks_cut 32 rest u v none first.1
 
 -- the words are those that were cut off
-pub all_words : (line a rest b w m u v : List ℕ) → line ≡ a ++ 32 ∷ rest → Lacks 32 a → rest ≡ b ++ 32 ∷ w → Lacks 32 b → IsRequestLine line m u v
+pub all_words : (line a rest b w m u v : List ℕ) → line ≡ a ++ 32 ∷ rest → Lacks 32 a → rest ≡ b ++ 32 ∷ w → Lacks 32 b
+    → IsRequestLine line m u v
     → (a ≡ m) × (b ≡ u) × (w ≡ v)
 all_words line a rest b w m u v cut lacks cut2 lacks2 h =
     let first = first_word line a rest m u v cut lacks h in
@@ -32,7 +36,8 @@ all_words line a rest b w m u v cut lacks cut2 lacks2 h =
 pub words_joined : (line a rest b w : List ℕ) → line ≡ a ++ 32 ∷ rest → rest ≡ b ++ 32 ∷ w → line ≡ a ++ 32 ∷ b ++ 32 ∷ w
 words_joined line a rest b w cut cut2 = cut ∙ ap (λ t. a ++ 32 ∷ t) cut2 ∙ sym (append_assoc a (32 ∷ b) (32 ∷ w))
 
-pub line_from : (line a rest b w : List ℕ) → line ≡ a ++ 32 ∷ rest → rest ≡ b ++ 32 ∷ w → Lacks 32 b → IsToken a → IsIcapUri b → IsVersion w → IsRequestLine line a b w
+pub line_from : (line a rest b w : List ℕ) → line ≡ a ++ 32 ∷ rest → rest ≡ b ++ 32 ∷ w → Lacks 32 b → IsToken a → IsIcapUri b → IsVersion w
+    → IsRequestLine line a b w
 line_from line a rest b w cut cut2 lacks2 token uri version = record {
   line_is = words_joined line a rest b w cut cut2;
   method_is = token;
@@ -42,7 +47,8 @@ line_from line a rest b w cut cut2 lacks2 token uri version = record {
 }
 
 pub line_unique : (line m u v m₂ u₂ v₂ : List ℕ) → IsRequestLine line m u v → IsRequestLine line m₂ u₂ v₂ → (m ≡ m₂) × (u ≡ u₂) × (v ≡ v₂)
-line_unique line m u v m₂ u₂ v₂ h g = all_words line m (u ++ 32 ∷ v) u v m₂ u₂ v₂ (line_words line m u v h) (no_space m h.method_is) refl h.one_word g
+line_unique line m u v m₂ u₂ v₂ h g = all_words line m (u ++ 32 ∷ v) u v m₂ u₂ v₂ (line_words line m u v h) (no_space m h.method_is) refl
+    h.one_word g
 
 pub first_unique : (text l r l₂ r₂ : List ℕ) → IsFirstLine text l r → IsFirstLine text l₂ r₂ → (l ≡ l₂) × (r ≡ r₂)
 first_unique text l r l₂ r₂ h g =
@@ -54,11 +60,13 @@ is_true_unless true h = refl
 is_true_unless false h = absurd (h refl)
 
 -- a list of eight, by its places
-pub eight : (t : List ℕ) → length t ≡ 8 → t ≡ get_or t 0 0 ∷ get_or t 1 0 ∷ get_or t 2 0 ∷ get_or t 3 0 ∷ get_or t 4 0 ∷ get_or t 5 0 ∷ get_or t 6 0 ∷ get_or t 7 0 ∷ []
+pub eight : (t : List ℕ) → length t ≡ 8 → t ≡ get_or t 0 0 ∷ get_or t 1 0 ∷ get_or t 2 0 ∷ get_or t 3 0 ∷ get_or t 4 0 ∷ get_or t 5 0 ∷
+    get_or t 6 0 ∷ get_or t 7 0 ∷ []
 eight (a ∷ b ∷ c ∷ d ∷ e ∷ f ∷ g ∷ h ∷ []) l = refl
 eight t l = absurd (omega arith)
 
-pub version_from : (t : List ℕ) → length t ≡ 8 → get_or t 0 0 ≡ 73 → get_or t 1 0 ≡ 67 → get_or t 2 0 ≡ 65 → get_or t 3 0 ≡ 80 → get_or t 4 0 ≡ 47 → get_or t 6 0 ≡ 46
+pub version_from : (t : List ℕ) → length t ≡ 8 → get_or t 0 0 ≡ 73 → get_or t 1 0 ≡ 67 → get_or t 2 0 ≡ 65 → get_or t 3 0 ≡ 80
+    → get_or t 4 0 ≡ 47 → get_or t 6 0 ≡ 46
     → t ≡ 73 ∷ 67 ∷ 65 ∷ 80 ∷ 47 ∷ get_or t 5 0 ∷ 46 ∷ get_or t 7 0 ∷ []
 version_from t l a b c d e g = eight t l ∙ (λ i. a i ∷ b i ∷ c i ∷ d i ∷ e i ∷ get_or t 5 0 ∷ g i ∷ get_or t 7 0 ∷ [])
 
@@ -66,7 +74,8 @@ pub take_min : (n : ℕ) (t : List ℕ) → take (min (length t) n) t ≡ take n
 take_min n t =
     elim (cases_lt n (length t)) [
       | inl less ↦ let e : min (length t) n ≡ n = omega arith in ap (λ k. take k t) e
-      | inr more ↦ let e : min (length t) n ≡ length t = omega arith in ap (λ k. take k t) e ∙ take_all (length t) t (omega arith) ∙ sym (take_all n t more)
+      | inr more ↦ let e : min (length t) n ≡ length t = omega arith in
+          ap (λ k. take k t) e ∙ take_all (length t) t (omega arith) ∙ sym (take_all n t more)
     ]
 
 digit_no_space : (d : ℕ) → IsTrue (is_ascii_digit d) → d ≡ 32 → ⊥

@@ -6,7 +6,8 @@ use Rattle.icap_head.specs.Fields.{field_list}
 use Rattle.icap_head.specs.FieldLines.{ReadsFields, HasFields, RefusesFields, unended}
 use Rattle.icap_head.specs.Folds.{unfolded}
 use Rattle.icap_head.specs.Methods.{request_method_name}
-use Rattle.icap_head.specs.StartLines.{IsFirstLine, HasNoLine, IsRequestLine, IsStatusLine, RequestForm, StatusForm, RefusesStartLine, MayBeRequestLine}
+use Rattle.icap_head.specs.StartLines.{IsFirstLine, HasNoLine, IsRequestLine, IsStatusLine, RequestForm, StatusForm, RefusesStartLine}
+use Rattle.icap_head.specs.StartLines.{MayBeRequestLine}
 use Rattle.icap_head.specs.declared.reading.HeadFault.{HeadFault}
 use Rattle.icap_head.specs.declared.reading.HeadFault.TheVariants as Faults
 use Rattle.icap_head.specs.declared.requests.IcapRequest.{IcapRequest}

@@ -1,5 +1,6 @@
 -- The first line of an ICAP message (RFC 3507, sections 4.3.2 and 4.3.3).
-use Rattle.std.specs.Prelude.{◌≡◌, ◌≢◌, ℕ, ◌-◌, ◌⊎◌, ◌++◌, List, [], ◌∷◌, length, take, codes, slice_index, if◌then◌else◌, ◌==◌, Some, IsTrue, All}
+use Rattle.std.specs.Prelude.{◌≡◌, ◌≢◌, ℕ, ◌-◌, ◌⊎◌, ◌++◌, List, [], ◌∷◌, length, take, codes, slice_index, if◌then◌else◌, ◌==◌, Some}
+use Rattle.std.specs.Prelude.{IsTrue, All}
 use Rattle.std.specs.Char.{is_ascii_digit}
 use Rattle.std.specs.Str.Parse.{digits_value}
 use Rattle.adapt_bytes.specs.Text.{IsToken, SameAscii, Lacks}

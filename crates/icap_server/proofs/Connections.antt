@@ -1,5 +1,6 @@
 -- A connection, read by read.
-use Rattle.std.proofs.Common.{◌≡◌, ℕ, ◌++◌, List, [], take, refl, sym, ap, ◌∙◌, subst, append-nil, Bool, true, false, inl, inr, ◌⊎◌, Option, Some, None}
+use Rattle.std.proofs.Common.{◌≡◌, ℕ, ◌++◌, List, [], take, refl, sym, ap, ◌∙◌, subst, append-nil, Bool, true, false, inl, inr, ◌⊎◌, Option}
+use Rattle.std.proofs.Common.{Some, None}
 use Rattle.std.specs.Io.KnownBytes.{Consumes, IsAtEnd, Keeps}
 use Rattle.std.proofs.KnownBytes.{Consumes-nil, Consumes-trans, Appends-nil, Appends-trans}
 use Rattle.icap_services.specs.Texts.{Shown, shown}
@@ -26,7 +27,8 @@ unfolding rest_of
 nothing_left None h = refl
 nothing_left (Some bytes) h = h
 
-pub begins : (s : Shown) (reader old : Option (List ℕ)) (side : ServerSide) → HasServed [] [] side → is_closed side.stage ≡ false → shown side.settings ≡ s → ServesOn s reader reader old old side
+pub begins : (s : Shown) (reader old : Option (List ℕ)) (side : ServerSide) → HasServed [] [] side → is_closed side.stage ≡ false
+    → shown side.settings ≡ s → ServesOn s reader reader old old side
 begins s reader old side served opened same = record {
   come = [];
   text = [];
@@ -38,8 +40,10 @@ begins s reader old side served opened same = record {
 }
 
 -- a piece came, and the side is still open
-pub goes_on : (s : Shown) (reader left left' old new new' : Option (List ℕ)) (side side' : ServerSide) (piece : List ℕ) → ServesOn s reader left old new side → Consumes left left' piece
-    → WritesOn side piece side' new new' → is_closed side'.stage ≡ false → shown side'.settings ≡ shown side.settings → ServesOn s reader left' old new' side'
+pub goes_on : (s : Shown) (reader left left' old new new' : Option (List ℕ)) (side side' : ServerSide) (piece : List ℕ)
+    → ServesOn s reader left old new side → Consumes left left' piece
+    → WritesOn side piece side' new new' → is_closed side'.stage ≡ false → shown side'.settings ≡ shown side.settings
+    → ServesOn s reader left' old new' side'
 goes_on s reader left left' old new new' side side' piece h cut writes opened same = record {
   come = h.come ++ piece;
   text = h.text ++ writes.text;
@@ -51,7 +55,8 @@ goes_on s reader left left' old new new' side side' piece h cut writes opened sa
 }
 
 -- a read that failed gave nothing
-pub stays : (s : Shown) (reader left left' old new : Option (List ℕ)) (side : ServerSide) → ServesOn s reader left old new side → Consumes left left' [] → ServesOn s reader left' old new side
+pub stays : (s : Shown) (reader left left' old new : Option (List ℕ)) (side : ServerSide) → ServesOn s reader left old new side
+    → Consumes left left' [] → ServesOn s reader left' old new side
 stays s reader left left' old new side h cut = record {
   come = h.come;
   text = h.text;
@@ -62,13 +67,16 @@ stays s reader left left' old new side h cut = record {
   settings = h.settings;
 }
 
-answers_so_far : (s : Shown) (reader left old new : Option (List ℕ)) (side : ServerSide) (h : ServesOn s reader left old new side) → Answers s h.come h.text
+answers_so_far : (s : Shown) (reader left old new : Option (List ℕ)) (side : ServerSide) (h : ServesOn s reader left old new side)
+    → Answers s h.come h.text
 answers_so_far s reader left old new side h =
     let P : Shown → Type 0 = λ x. Answers x h.come h.text in
-    subst P h.settings (answers_of (shown side.settings) h.come h.text side.stage side.input.items side.body.items h.served (open_has_memory side.stage h.open_side))
+    subst P h.settings (answers_of (shown side.settings) h.come h.text side.stage side.input.items side.body.items h.served
+    (open_has_memory side.stage h.open_side))
 
 -- the answers so far are those to what was read
-pub read : (s : Shown) (reader left old new : Option (List ℕ)) (side : ServerSide) → ServesOn s reader left old new side → AnswersRead s reader left old new
+pub read : (s : Shown) (reader left old new : Option (List ℕ)) (side : ServerSide) → ServesOn s reader left old new side
+    → AnswersRead s reader left old new
 read s reader left old new side h = record {
   read = h.come;
   text = h.text;
@@ -83,17 +91,21 @@ kept_cut (Some bytes) None same = absurd same
 kept_cut (Some bytes) (Some more) same = sym same
 
 -- so they are after a read that failed
-pub read_kept : (s : Shown) (reader left left' old new : Option (List ℕ)) (side : ServerSide) → ServesOn s reader left old new side → Keeps left left' → AnswersRead s reader left' old new
-read_kept s reader left left' old new side h same = read s reader left' old new side (stays s reader left left' old new side h (kept_cut left left' same))
+pub read_kept : (s : Shown) (reader left left' old new : Option (List ℕ)) (side : ServerSide) → ServesOn s reader left old new side
+    → Keeps left left' → AnswersRead s reader left' old new
+read_kept s reader left left' old new side h same =
+    read s reader left' old new side (stays s reader left left' old new side h (kept_cut left left' same))
 
 -- and where nothing was written since, they are those to a prefix
-pub front_kept : (s : Shown) (reader left old new new' : Option (List ℕ)) (side : ServerSide) → ServesOn s reader left old new side → new' ≡ new → AnswersFront s reader old new'
+pub front_kept : (s : Shown) (reader left old new new' : Option (List ℕ)) (side : ServerSide) → ServesOn s reader left old new side
+    → new' ≡ new → AnswersFront s reader old new'
 front_kept s reader left old new new' side h same =
     let P : Option (List ℕ) → Type 0 = λ x. AnswersRead s reader left old x in
     (left, subst P (sym same) (read s reader left old new side h))
 
 -- nothing more comes
-ends : (s : Shown) (reader left old new : Option (List ℕ)) (side : ServerSide) → ServesOn s reader left old new side → IsAtEnd left → AnswersAll s reader old new
+ends : (s : Shown) (reader left old new : Option (List ℕ)) (side : ServerSide) → ServesOn s reader left old new side → IsAtEnd left
+    → AnswersAll s reader old new
 ends s reader left old new side h end = record {
   bytes = h.come;
   text = h.text;
@@ -103,19 +115,23 @@ ends s reader left old new side h end = record {
 }
 
 -- nothing more came
-pub ends_at : (s : Shown) (reader left left' old new : Option (List ℕ)) (side : ServerSide) (n : ℕ) (buffer : List ℕ) → ServesOn s reader left old new side → n ≡ 0 → Consumes left left' (take n buffer) → IsAtEnd left' → AnswersAll s reader old new
+pub ends_at : (s : Shown) (reader left left' old new : Option (List ℕ)) (side : ServerSide) (n : ℕ) (buffer : List ℕ)
+    → ServesOn s reader left old new side → n ≡ 0 → Consumes left left' (take n buffer) → IsAtEnd left' → AnswersAll s reader old new
 ends_at s reader left left' old new side n buffer h none cut end =
     let P : ℕ → Type 0 = λ k. Consumes left left' (take k buffer) in
     ends s reader left' old new side (stays s reader left left' old new side h (subst P none cut)) end
 
 -- the side is closed: nothing that follows changes its answers
-pub closes : (s : Shown) (reader left left' old new new' : Option (List ℕ)) (side side' : ServerSide) (piece : List ℕ) → ServesOn s reader left old new side → Consumes left left' piece
-    → WritesOn side piece side' new new' → is_closed side'.stage ≡ true → shown side'.settings ≡ shown side.settings → AnswersAll s reader old new'
+pub closes : (s : Shown) (reader left left' old new new' : Option (List ℕ)) (side side' : ServerSide) (piece : List ℕ)
+    → ServesOn s reader left old new side → Consumes left left' piece
+    → WritesOn side piece side' new new' → is_closed side'.stage ≡ true → shown side'.settings ≡ shown side.settings
+    → AnswersAll s reader old new'
 closes s reader left left' old new new' side side' piece h cut writes closed same =
     let come = h.come ++ piece in
     let text = h.text ++ writes.text in
     let x = shown side'.settings in
-    let more = closed_more x come text side'.stage side'.input.items side'.body.items (rest_of left') closed (writes.served h.come h.text h.served) in
+    let more = closed_more x come text side'.stage side'.input.items side'.body.items (rest_of left') closed
+    (writes.served h.come h.text h.served) in
     let P : Shown → Type 0 = λ y. (Answers y (come ++ rest_of left') text) ⊎ (AnswersUntilMemoryRanOut y (come ++ rest_of left') text) in
     record {
       bytes = come ++ rest_of left';
@@ -125,6 +141,7 @@ closes s reader left left' old new new' side side' piece h cut writes closed sam
       written = Appends-trans old new new' h.text writes.text h.written writes.written;
     }
   where
-    either : (x : Shown) (stream text : List ℕ) (side : ServerSide) → Serves x stream text side.stage side.input.items side.body.items → (ran : Bool) → has_run_out side.stage ≡ ran → Answers x stream text ⊎ AnswersUntilMemoryRanOut x stream text
+    either : (x : Shown) (stream text : List ℕ) (side : ServerSide) → Serves x stream text side.stage side.input.items side.body.items
+        → (ran : Bool) → has_run_out side.stage ≡ ran → Answers x stream text ⊎ AnswersUntilMemoryRanOut x stream text
     either x stream text side h false e = inl (answers_of x stream text side.stage side.input.items side.body.items h e)
     either x stream text side h true e = inr (answers_until x stream text side.stage side.input.items side.body.items h e)

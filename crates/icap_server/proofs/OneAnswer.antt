@@ -1,5 +1,7 @@
 -- A stream has one answer.
-use Rattle.std.proofs.Common.{◌≡◌, ℕ, ◌+◌, ◌-◌, ◌≤◌, ◌++◌, List, [], ◌∷◌, length, take, drop, refl, sym, ap, ◌∙◌, subst, arith, append_assoc, append-nil, length-append, slice_index, codes, Bool, true, false, not, ◌||◌, is_some, inl, inr, Some, Option, if◌then◌else◌, ◌==◌}
+use Rattle.std.proofs.Common.{◌≡◌, ℕ, ◌+◌, ◌-◌, ◌≤◌, ◌++◌, List, [], ◌∷◌, length, take, drop, refl, sym, ap, ◌∙◌, subst, arith}
+use Rattle.std.proofs.Common.{append_assoc, append-nil, length-append, slice_index, codes, Bool, true, false, not, ◌||◌, is_some, inl, inr}
+use Rattle.std.proofs.Common.{Some, Option, if◌then◌else◌, ◌==◌}
 use Rattle.std.proofs.lemmas.List.{take-append-drop}
 use Rattle.adapt_bytes.specs.Fields.{FieldList, values_of}
 use Rattle.encapsulated.specs.declared.message.Direction.TheVariants.{Request as OfRequest}
@@ -38,11 +40,13 @@ use Rattle.icap_server.specs.declared.call.Call.{Call}
 use Rattle.icap_server.specs.declared.call.Verdict.{Verdict}
 use Rattle.icap_server.specs.declared.call.Verdict.TheVariants.{Refused, Describes, Offers}
 use Rattle.icap_server.specs.declared.side.body.TheConstants.{MAX_BODY}
-use Rattle.icap_server.specs.Answers.{First, Opens, IsFirst, Follows, ReadsBody, ReadsChunks, EndsBody, EndsFirst, ReadsRest, EndsRest, Leads, Answers, IsOver, due_to}
+use Rattle.icap_server.specs.Answers.{First, Opens, IsFirst, Follows, ReadsBody, ReadsChunks, EndsBody, EndsFirst, ReadsRest, EndsRest}
+use Rattle.icap_server.specs.Answers.{Leads, Answers, IsOver, due_to}
 use Rattle.icap_server.specs.Answers.First.{whole, last}
 use Rattle.icap_server.specs.Answers.Leads.{here, behind}
 use Rattle.icap_server.specs.HeadParts.{IsHead, BreaksHead, OpenHead, HeadsWhole, HeadsBroken, HeadsOpen, middle, has_head_sizes}
-use Rattle.icap_server.specs.Verdicts.{path_text, HasPath, ListIs, ListBad, ValueBad, PreviewIs, PreviewBad, accepted, allows_204, JudgesPreview, JudgesList, JudgesPoint, JudgesPath, JudgesHost, JudgesRequest}
+use Rattle.icap_server.specs.Verdicts.{path_text, HasPath, ListIs, ListBad, ValueBad, PreviewIs, PreviewBad, accepted, allows_204}
+use Rattle.icap_server.specs.Verdicts.{JudgesPreview, JudgesList, JudgesPoint, JudgesPath, JudgesHost, JudgesRequest}
 
 false_true : false ≡ true → ⊥
 false_true e = cc
@@ -63,7 +67,8 @@ reading_body text body (Ended ieof used) h =
     let front = take used text in
     let rest = drop used text in
     let x = chunked_ends front body ieof h.1 in
-    ap (body_of start) (sym (take-append-drop used text)) ∙ body_of-append start front rest ∙ ap (λ t. t ++ body_of (run start front) rest) x.1
+    ap (body_of start) (sym (take-append-drop used text)) ∙ body_of-append start front rest
+    ∙ ap (λ t. t ++ body_of (run start front) rest) x.1
     ∙ ap (λ t. body ++ t) (behind_end (run start front) ieof rest x.0.ended) ∙ append-nil body
 reading_body text body (Faulted fault) h = (breaks_fault text body fault h).1
 reading_body text body Begun h =
@@ -75,50 +80,62 @@ not_over : (room : ℕ) (text body : List ℕ) (outcome : Outcome) → IsReading
 not_over room text body outcome reading fits over =
     let more = body_of (run start over.front) over.rest in
     let found : body_of start over.front ≡ over.body = reading_body over.front over.body over.outcome over.reading in
-    let all : body ≡ body_of start over.front ++ more = sym (reading_body text body outcome reading) ∙ ap (body_of start) over.cut ∙ body_of-append start over.front over.rest in
+    let all : body ≡ body_of start over.front ++ more =
+    sym (reading_body text body outcome reading) ∙ ap (body_of start) over.cut ∙ body_of-append start over.front over.rest in
     let n : length body ≡ length (body_of start over.front) + length more = ap length all ∙ length-append (body_of start over.front) more in
     let m : length (body_of start over.front) ≡ length over.body = ap length found in
     let o = over.over in
     absurd (omega (arith, n, m, fits, o))
 
-ends_rest_one : (s : Shown) (call : Call) (heads preview text body : List ℕ) (outcome : Outcome) (f f' : First) → EndsRest s call heads preview text body outcome f → EndsRest s call heads preview text body outcome f' → f ≡ f'
+ends_rest_one : (s : Shown) (call : Call) (heads preview text body : List ℕ) (outcome : Outcome) (f f' : First)
+    → EndsRest s call heads preview text body outcome f → EndsRest s call heads preview text body outcome f' → f ≡ f'
 ends_rest_one s call heads preview text body Begun f f' e e' = e ∙ sym e'
 ends_rest_one s call heads preview text body (Faulted fault) f f' e e' = e ∙ sym e'
 ends_rest_one s call heads preview text body (Ended ieof used) f f' e e' = e ∙ sym e'
 
-rest_one : (s : Shown) (call : Call) (heads preview text : List ℕ) (f f' : First) → ReadsRest s call heads preview text f → ReadsRest s call heads preview text f' → f ≡ f'
+rest_one : (s : Shown) (call : Call) (heads preview text : List ℕ) (f f' : First) → ReadsRest s call heads preview text f
+    → ReadsRest s call heads preview text f' → f ≡ f'
 rest_one s call heads preview text f f' (inl (over, e)) (inl (over', e')) = e ∙ sym e'
-rest_one s call heads preview text f f' (inl (over, e)) (inr (body, outcome, reading, fits, h)) = absurd (not_over (MAX_BODY - length preview) text body outcome reading (omega (arith, fits)) over)
-rest_one s call heads preview text f f' (inr (body, outcome, reading, fits, h)) (inl (over, e)) = absurd (not_over (MAX_BODY - length preview) text body outcome reading (omega (arith, fits)) over)
+rest_one s call heads preview text f f' (inl (over, e)) (inr (body, outcome, reading, fits, h)) =
+    absurd (not_over (MAX_BODY - length preview) text body outcome reading (omega (arith, fits)) over)
+rest_one s call heads preview text f f' (inr (body, outcome, reading, fits, h)) (inl (over, e)) =
+    absurd (not_over (MAX_BODY - length preview) text body outcome reading (omega (arith, fits)) over)
 rest_one s call heads preview text f f' (inr (body, outcome, reading, fits, h)) (inr (body', outcome', reading', fits', h')) =
     let same = one_outcome text body body' outcome outcome' reading reading' in
     let P : List ℕ → Type 0 = λ b. EndsRest s call heads preview text b outcome' f' in
     let Q : Outcome → Type 0 = λ o. EndsRest s call heads preview text body o f' in
     ends_rest_one s call heads preview text body outcome f f' h (subst Q (sym same.1) (subst P (sym same.0) h'))
 
-ends_first_one : (s : Shown) (call : Call) (heads body : List ℕ) (ieof preview : Bool) (rest : List ℕ) (f f' : First) → EndsFirst s call heads body ieof preview rest f → EndsFirst s call heads body ieof preview rest f' → f ≡ f'
+ends_first_one : (s : Shown) (call : Call) (heads body : List ℕ) (ieof preview : Bool) (rest : List ℕ) (f f' : First)
+    → EndsFirst s call heads body ieof preview rest f → EndsFirst s call heads body ieof preview rest f' → f ≡ f'
 ends_first_one s call heads body ieof false rest f f' e e' = e ∙ sym e'
 ends_first_one s call heads body ieof true rest f f' (inl (w, e)) (inl (w', e')) = e ∙ sym e'
 ends_first_one s call heads body ieof true rest f f' (inl (w, e)) (inr (w', h)) = absurd (false_true (sym w ∙ w'))
 ends_first_one s call heads body ieof true rest f f' (inr (w, h)) (inl (w', e)) = absurd (false_true (sym w' ∙ w))
 ends_first_one s call heads body ieof true rest f f' (inr (w, h)) (inr (w', h')) = rest_one s call heads body rest f f' h h'
 
-ends_body_one : (s : Shown) (call : Call) (heads text body : List ℕ) (outcome : Outcome) (f f' : First) → EndsBody s call heads text body outcome f → EndsBody s call heads text body outcome f' → f ≡ f'
+ends_body_one : (s : Shown) (call : Call) (heads text body : List ℕ) (outcome : Outcome) (f f' : First)
+    → EndsBody s call heads text body outcome f → EndsBody s call heads text body outcome f' → f ≡ f'
 ends_body_one s call heads text body Begun f f' e e' = e ∙ sym e'
 ends_body_one s call heads text body (Faulted fault) f f' e e' = e ∙ sym e'
-ends_body_one s call heads text body (Ended ieof used) f f' h h' = ends_first_one s call heads body ieof call.preview (drop used text) f f' h h'
+ends_body_one s call heads text body (Ended ieof used) f f' h h' =
+    ends_first_one s call heads body ieof call.preview (drop used text) f f' h h'
 
-chunks_one : (s : Shown) (call : Call) (heads text : List ℕ) (f f' : First) → ReadsChunks s call heads text f → ReadsChunks s call heads text f' → f ≡ f'
+chunks_one : (s : Shown) (call : Call) (heads text : List ℕ) (f f' : First) → ReadsChunks s call heads text f
+    → ReadsChunks s call heads text f' → f ≡ f'
 chunks_one s call heads text f f' (inl (over, e)) (inl (over', e')) = e ∙ sym e'
-chunks_one s call heads text f f' (inl (over, e)) (inr (body, outcome, reading, fits, h)) = absurd (not_over MAX_BODY text body outcome reading fits over)
-chunks_one s call heads text f f' (inr (body, outcome, reading, fits, h)) (inl (over, e)) = absurd (not_over MAX_BODY text body outcome reading fits over)
+chunks_one s call heads text f f' (inl (over, e)) (inr (body, outcome, reading, fits, h)) =
+    absurd (not_over MAX_BODY text body outcome reading fits over)
+chunks_one s call heads text f f' (inr (body, outcome, reading, fits, h)) (inl (over, e)) =
+    absurd (not_over MAX_BODY text body outcome reading fits over)
 chunks_one s call heads text f f' (inr (body, outcome, reading, fits, h)) (inr (body', outcome', reading', fits', h')) =
     let same = one_outcome text body body' outcome outcome' reading reading' in
     let P : List ℕ → Type 0 = λ b. EndsBody s call heads text b outcome' f' in
     let Q : Outcome → Type 0 = λ o. EndsBody s call heads text body o f' in
     ends_body_one s call heads text body outcome f f' h (subst Q (sym same.1) (subst P (sym same.0) h'))
 
-body_one : (s : Shown) (call : Call) (part : BodyPart) (heads text : List ℕ) (f f' : First) → ReadsBody s call part heads text f → ReadsBody s call part heads text f' → f ≡ f'
+body_one : (s : Shown) (call : Call) (part : BodyPart) (heads text : List ℕ) (f f' : First) → ReadsBody s call part heads text f
+    → ReadsBody s call part heads text f' → f ≡ f'
 body_one s call NullBody heads text f f' e e' = e ∙ sym e'
 body_one s call ReqBody heads text f f' h h' = chunks_one s call heads text f f' h h'
 body_one s call ResBody heads text f f' h h' = chunks_one s call heads text f f' h h'
@@ -162,7 +179,8 @@ follows_one s (Offers call) text f f' (inr (inl (b, e))) (inr (inl (b', e'))) = 
 follows_one s (Offers call) text f f' (inr (inl (b, e))) (inr (inr (w, h))) = absurd (broken_not_whole call.layout text b w)
 follows_one s (Offers call) text f f' (inr (inr (w, h))) (inl (o, e')) = absurd (open_not_whole call.layout text o w)
 follows_one s (Offers call) text f f' (inr (inr (w, h))) (inr (inl (b, e'))) = absurd (broken_not_whole call.layout text b w)
-follows_one s (Offers call) text f f' (inr (inr (w, h))) (inr (inr (w', h'))) = body_one s call call.layout.body (take call.layout.offset text) (drop call.layout.offset text) f f' h h'
+follows_one s (Offers call) text f f' (inr (inr (w, h))) (inr (inr (w', h'))) =
+    body_one s call call.layout.body (take call.layout.offset text) (drop call.layout.offset text) f f' h h'
 
 -- ---- what a head asks for
 
@@ -174,10 +192,13 @@ preview_not_bad : (values : List (List ℕ)) (p : Bool) → PreviewIs values p �
 preview_not_bad [] p h bad = bad
 preview_not_bad (v ∷ values) p h bad = bad h.1
 
-judged_preview : (m : Method) (point : Point) (service : Service) (l : Layout) (fields : FieldList) (v w : Verdict) → JudgesPreview m point service l fields v → JudgesPreview m point service l fields w → v ≡ w
+judged_preview : (m : Method) (point : Point) (service : Service) (l : Layout) (fields : FieldList) (v w : Verdict)
+    → JudgesPreview m point service l fields v → JudgesPreview m point service l fields w → v ≡ w
 judged_preview m point service l fields v w (inl (bad, e)) (inl (bad', e')) = e ∙ sym e'
-judged_preview m point service l fields v w (inl (bad, e)) (inr (p, is, e')) = absurd (preview_not_bad (values_of (codes "Preview") fields) p is bad)
-judged_preview m point service l fields v w (inr (p, is, e)) (inl (bad, e')) = absurd (preview_not_bad (values_of (codes "Preview") fields) p is bad)
+judged_preview m point service l fields v w (inl (bad, e)) (inr (p, is, e')) =
+    absurd (preview_not_bad (values_of (codes "Preview") fields) p is bad)
+judged_preview m point service l fields v w (inr (p, is, e)) (inl (bad, e')) =
+    absurd (preview_not_bad (values_of (codes "Preview") fields) p is bad)
 judged_preview m point service l fields v w (inr (p, is, e)) (inr (q, is', e')) =
     let same = preview_one (values_of (codes "Preview") fields) p q is is' in
     e ∙ ap (λ x. accepted m point service l x (allows_204 (values_of (codes "Allow") fields))) same ∙ sym e'
@@ -211,15 +232,19 @@ list_not_bad Options (v ∷ other ∷ more) l x bad = x
 list_not_bad Reqmod (v ∷ other ∷ more) l x bad = x
 list_not_bad Respmod (v ∷ other ∷ more) l x bad = x
 
-judged_list : (m : Method) (point : Point) (service : Service) (fields : FieldList) (v w : Verdict) → JudgesList m point service fields v → JudgesList m point service fields w → v ≡ w
+judged_list : (m : Method) (point : Point) (service : Service) (fields : FieldList) (v w : Verdict) → JudgesList m point service fields v
+    → JudgesList m point service fields w → v ≡ w
 judged_list m point service fields v w (inl (bad, e)) (inl (bad', e')) = e ∙ sym e'
-judged_list m point service fields v w (inl (bad, e)) (inr (l, is, h)) = absurd (list_not_bad m (values_of (codes "Encapsulated") fields) l is bad)
-judged_list m point service fields v w (inr (l, is, h)) (inl (bad, e)) = absurd (list_not_bad m (values_of (codes "Encapsulated") fields) l is bad)
+judged_list m point service fields v w (inl (bad, e)) (inr (l, is, h)) =
+    absurd (list_not_bad m (values_of (codes "Encapsulated") fields) l is bad)
+judged_list m point service fields v w (inr (l, is, h)) (inl (bad, e)) =
+    absurd (list_not_bad m (values_of (codes "Encapsulated") fields) l is bad)
 judged_list m point service fields v w (inr (l, is, h)) (inr (k, is', h')) =
     let P : Layout → Type 0 = λ x. JudgesPreview m point service x fields w in
     judged_preview m point service l fields v w h (subst P (sym (list_one m (values_of (codes "Encapsulated") fields) l k is is')) h')
 
-judged_point : (m : Method) (point : Point) (service : Service) (fields : FieldList) (v w : Verdict) → JudgesPoint m point service fields v → JudgesPoint m point service fields w → v ≡ w
+judged_point : (m : Method) (point : Point) (service : Service) (fields : FieldList) (v w : Verdict) → JudgesPoint m point service fields v
+    → JudgesPoint m point service fields w → v ≡ w
 judged_point m point service fields v w (inl (never, e)) (inl (never', e')) = e ∙ sym e'
 judged_point m point service fields v w (inl (never, e)) (inr (served, h)) = absurd (false_true (sym never ∙ served))
 judged_point m point service fields v w (inr (served, h)) (inl (never, e)) = absurd (false_true (sym never ∙ served))
@@ -269,7 +294,8 @@ named_service AtResponse Block = refl
 service_one : (p : Point) (x y : Service) → path_text p x ≡ path_text p y → x ≡ y
 service_one p x y e = sym (named_service p x) ∙ ap service_of (letter _ _ (at_letter p) e) ∙ named_service p y
 
-judged_path : (m : Method) (path : List ℕ) (fields : FieldList) (v w : Verdict) → JudgesPath m path fields v → JudgesPath m path fields w → v ≡ w
+judged_path : (m : Method) (path : List ℕ) (fields : FieldList) (v w : Verdict) → JudgesPath m path fields v → JudgesPath m path fields w
+    → v ≡ w
 judged_path m path fields v w (inl (none, e)) (inl (none', e')) = e ∙ sym e'
 judged_path m path fields v w (inl (none, e)) (inr (p, x, is, h)) = absurd (none p x is)
 judged_path m path fields v w (inr (p, x, is, h)) (inl (none, e)) = absurd (none p x is)
@@ -333,9 +359,12 @@ opens_one text a b v w (value, size, has, judges, e) (value', size', has', judge
 
 -- the first request of a text is answered in one way
 pub first_one : (s : Shown) (text : List ℕ) (f f' : First) → IsFirst s text f → IsFirst s text f' → f ≡ f'
-first_one s text f f' (inl (fault, stands, e)) (inl (fault', stands', e')) = e ∙ ap (λ x. last (due_to s x)) (one_fault RequestForm request_version fault fault' text stands stands') ∙ sym e'
-first_one s text f f' (inl (fault, stands, e)) (inr (v, a, (value, size, has, judges, at), h)) = absurd (no_request_fault fault text value size has stands)
-first_one s text f f' (inr (v, a, (value, size, has, judges, at), h)) (inl (fault, stands, e)) = absurd (no_request_fault fault text value size has stands)
+first_one s text f f' (inl (fault, stands, e)) (inl (fault', stands', e')) =
+    e ∙ ap (λ x. last (due_to s x)) (one_fault RequestForm request_version fault fault' text stands stands') ∙ sym e'
+first_one s text f f' (inl (fault, stands, e)) (inr (v, a, (value, size, has, judges, at), h)) =
+    absurd (no_request_fault fault text value size has stands)
+first_one s text f f' (inr (v, a, (value, size, has, judges, at), h)) (inl (fault, stands, e)) =
+    absurd (no_request_fault fault text value size has stands)
 first_one s text f f' (inr (v, a, opens, h)) (inr (w, b, opens', h')) =
     let same = opens_one text a b v w opens opens' in
     let P : Verdict → Type 0 = λ x. Follows s x b f' in
@@ -361,11 +390,15 @@ whole_one a b r t e = (ap said e, ap left e)
 not_last : (a r d : List ℕ) → whole a r ≡ last d → ⊥
 not_last a r d e = cc
 
-leads_one : {s : Shown} {stream a rest a' rest' : List ℕ} (d d' : List ℕ) → Leads s stream a rest → Leads s stream a' rest' → IsFirst s rest (last d) → IsFirst s rest' (last d') → a ++ d ≡ a' ++ d'
+leads_one : {s : Shown} {stream a rest a' rest' : List ℕ} (d d' : List ℕ) → Leads s stream a rest → Leads s stream a' rest'
+    → IsFirst s rest (last d) → IsFirst s rest' (last d') → a ++ d ≡ a' ++ d'
 leads_one {s} {stream} d d' here here f g = last_one d d' (first_one s stream (last d) (last d') f g)
-leads_one {s} d d' here (behind {text = text} {answer = answer} {rest = next} one lead) f g = absurd (not_last answer next d (sym (first_one s text (last d) (whole answer next) f one)))
-leads_one {s} d d' (behind {text = text} {answer = answer} {rest = next} one lead) here f g = absurd (not_last answer next d' (first_one s text (whole answer next) (last d') one g))
-leads_one {s} d d' (behind {text = text} {answer = answer} {rest = next} {answers = answers} {text' = end} one lead) (behind {text = again} {answer = answer'} {rest = next'} {answers = answers'} {text' = end'} one' lead') f g =
+leads_one {s} d d' here (behind {text = text} {answer = answer} {rest = next} one lead) f g =
+    absurd (not_last answer next d (sym (first_one s text (last d) (whole answer next) f one)))
+leads_one {s} d d' (behind {text = text} {answer = answer} {rest = next} one lead) here f g =
+    absurd (not_last answer next d' (first_one s text (whole answer next) (last d') one g))
+leads_one {s} d d' (behind {text = text} {answer = answer} {rest = next} {answers = answers} {text' = end} one lead)
+    (behind {text = again} {answer = answer'} {rest = next'} {answers = answers'} {text' = end'} one' lead') f g =
     let same = whole_one answer answer' next next' (first_one s text (whole answer next) (whole answer' next') one one') in
     let P : List ℕ → Type 0 = λ t. Leads s t answers' end' in
     append_assoc answer answers d ∙ ap (λ t. answer ++ t) (leads_one d d' lead (subst P (sym same.1) lead') f g)

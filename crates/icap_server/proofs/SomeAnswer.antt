@@ -1,5 +1,7 @@
 -- No stream is without an answer.
-use Rattle.std.proofs.Common.{◌≡◌, ℕ, zero, suc, ◌+◌, ◌-◌, ◌<◌, ◌≤◌, ◌⊎◌, ◌++◌, List, [], ◌∷◌, length, take, drop, refl, sym, ap, ◌∙◌, subst, arith, append_assoc, append-nil, length-append, length-drop, length-take-le, codes, Bool, true, false, Some, None, inl, inr}
+use Rattle.std.proofs.Common.{◌≡◌, ℕ, zero, suc, ◌+◌, ◌-◌, ◌<◌, ◌≤◌, ◌⊎◌, ◌++◌, List, [], ◌∷◌, length, take, drop, refl, sym, ap, ◌∙◌}
+use Rattle.std.proofs.Common.{subst, arith, append_assoc, append-nil, length-append, length-drop, length-take-le, codes, Bool, true, false}
+use Rattle.std.proofs.Common.{Some, None, inl, inr}
 use Rattle.std.proofs.lemmas.Bool.{cases_lt, cases_Bool}
 use Rattle.adapt_bytes.specs.Fields.{FieldList, values_of}
 use Rattle.encapsulated.specs.declared.message.Direction.TheVariants.{Request as OfRequest}
@@ -28,11 +30,14 @@ use Rattle.icap_server.specs.declared.call.Call.{Call}
 use Rattle.icap_server.specs.declared.call.Verdict.{Verdict}
 use Rattle.icap_server.specs.declared.call.Verdict.TheVariants.{Refused, Describes, Offers}
 use Rattle.icap_server.specs.declared.side.body.TheConstants.{MAX_BODY}
-use Rattle.icap_server.specs.Answers.{First, IsFirst, Follows, ReadsBody, ReadsChunks, EndsBody, EndsFirst, ReadsRest, EndsRest, Answers, IsOver, due_to, answered, null_preview}
+use Rattle.icap_server.specs.Answers.{First, IsFirst, Follows, ReadsBody, ReadsChunks, EndsBody, EndsFirst, ReadsRest, EndsRest, Answers}
+use Rattle.icap_server.specs.Answers.{IsOver, due_to, answered, null_preview}
 use Rattle.icap_server.specs.Answers.First.{whole, last}
 use Rattle.icap_server.specs.Answers.Leads.{here, behind}
-use Rattle.icap_server.specs.HeadParts.{IsHead, BreaksHead, OpenHead, HeadsWhole, HeadsBroken, HeadsOpen, middle, ends_blank, has_head_sizes}
-use Rattle.icap_server.specs.Verdicts.{path_text, serves, ListIs, ListBad, ValueBad, PreviewIs, PreviewBad, WriteOne, no_parts, accepted, allows_204, JudgesPreview, JudgesList, JudgesPoint, JudgesPath, JudgesHost, JudgesRequest}
+use Rattle.icap_server.specs.HeadParts.{IsHead, BreaksHead, OpenHead, HeadsWhole, HeadsBroken, HeadsOpen, middle, ends_blank}
+use Rattle.icap_server.specs.HeadParts.{has_head_sizes}
+use Rattle.icap_server.specs.Verdicts.{path_text, serves, ListIs, ListBad, ValueBad, PreviewIs, PreviewBad, WriteOne, no_parts, accepted}
+use Rattle.icap_server.specs.Verdicts.{allows_204, JudgesPreview, JudgesList, JudgesPoint, JudgesPath, JudgesHost, JudgesRequest}
 
 -- ---- what is left of a text
 
@@ -55,18 +60,32 @@ less n m (last due) le h = tt
 -- ---- bodies in chunks
 
 all_over : (room : ℕ) (text body : List ℕ) (outcome : Outcome) → IsReading text body outcome → room < length body → IsOver room text
-all_over room text body outcome reading over = record { front = text; rest = []; body = body; outcome = outcome; cut = sym (append-nil text); reading = reading; over = over }
+all_over room text body outcome reading over = record {
+  front = text;
+  rest = [];
+  body = body;
+  outcome = outcome;
+  cut = sym (append-nil text);
+  reading = reading;
+  over = over;
+}
 
-some_rest_end : (s : Shown) (call : Call) (heads preview text body : List ℕ) (outcome : Outcome) → Some_first (EndsRest s call heads preview text body outcome) (length text)
+some_rest_end : (s : Shown) (call : Call) (heads preview text body : List ℕ) (outcome : Outcome)
+    → Some_first (EndsRest s call heads preview text body outcome) (length text)
 some_rest_end s call heads preview text body Begun = (_, refl, tt)
 some_rest_end s call heads preview text body (Faulted fault) = (_, refl, tt)
 some_rest_end s call heads preview text body (Ended ieof used) = (_, refl, dropped used text)
 
-some_rest : (s : Shown) (call : Call) (heads preview text : List ℕ) → length preview ≤ MAX_BODY → Some_first (ReadsRest s call heads preview text) (length text)
+some_rest : (s : Shown) (call : Call) (heads preview text : List ℕ) → length preview ≤ MAX_BODY
+    → Some_first (ReadsRest s call heads preview text) (length text)
 some_rest s call heads preview text short =
     let read = some_reading text in
     elim (cases_lt (MAX_BODY - length preview) (length read.0)) [
-      | inl over ↦ (last (continue_text ++ error_text s ServerError), inl (all_over (MAX_BODY - length preview) text read.0 read.1 read.2 over, refl), tt)
+      | inl over ↦ (
+        last (continue_text ++ error_text s ServerError),
+        inl (all_over (MAX_BODY - length preview) text read.0 read.1 read.2 over, refl),
+        tt,
+      )
       | inr fits ↦
           let end = some_rest_end s call heads preview text read.0 read.1 in
           (end.0, inr (read.0, read.1, read.2, omega (arith, short, fits), end.1), end.2)
@@ -80,7 +99,8 @@ some_first_end s call heads body ieof true rest short = elim (cases_Bool (wants_
   | inr enough ↦ (whole (answered s call heads (Some body) (Some ieof)) rest, inl (enough, refl), omega arith)
 ]
 
-some_body_end : (s : Shown) (call : Call) (heads text body : List ℕ) (outcome : Outcome) → length body ≤ MAX_BODY → Some_first (EndsBody s call heads text body outcome) (length text)
+some_body_end : (s : Shown) (call : Call) (heads text body : List ℕ) (outcome : Outcome) → length body ≤ MAX_BODY
+    → Some_first (EndsBody s call heads text body outcome) (length text)
 some_body_end s call heads text body Begun short = (_, refl, tt)
 some_body_end s call heads text body (Faulted fault) short = (_, refl, tt)
 some_body_end s call heads text body (Ended ieof used) short =
@@ -116,7 +136,8 @@ first_blank text (suc n) = elim (first_blank text n) [
   ]
 ]
   where
-    at : (k : ℕ) → k < suc n → ((j : ℕ) → j < n → ends_blank (take j text) ≡ false) → ends_blank (take n text) ≡ false → ends_blank (take k text) ≡ false
+    at : (k : ℕ) → k < suc n → ((j : ℕ) → j < n → ends_blank (take j text) ≡ false) → ends_blank (take n text) ≡ false
+        → ends_blank (take k text) ≡ false
     at k l none other = elim (cases_lt k n) [
       | inl before ↦ none k before
       | inr more ↦ let same : k ≡ n = omega arith in ap (λ j. ends_blank (take j text)) same ∙ other
@@ -165,16 +186,20 @@ some_follow s (Offers call) text = elim (some_heads call.layout text) [
 
 -- ---- what a head asks for
 
-some_preview : (method : Method) (point : Point) (service : Service) (layout : Layout) (fields : FieldList) → NotNot ((verdict : Verdict) × JudgesPreview method point service layout fields verdict)
+some_preview : (method : Method) (point : Point) (service : Service) (layout : Layout) (fields : FieldList)
+    → NotNot ((verdict : Verdict) × JudgesPreview method point service layout fields verdict)
 some_preview method point service layout fields = with (values_of (codes "Preview") fields) refl
   where
     accept : (preview : Bool) → Verdict
     accept preview = accepted method point service layout preview (allows_204 (values_of (codes "Allow") fields))
 
-    is_one : (values : List (List ℕ)) (preview : Bool) → values_of (codes "Preview") fields ≡ values → PreviewIs values preview → NotNot ((verdict : Verdict) × JudgesPreview method point service layout fields verdict)
-    is_one values preview e is = let P : List (List ℕ) → Type 0 = λ v. PreviewIs v preview in surely (_, inr (preview, subst P (sym e) is, refl))
+    is_one : (values : List (List ℕ)) (preview : Bool) → values_of (codes "Preview") fields ≡ values → PreviewIs values preview
+        → NotNot ((verdict : Verdict) × JudgesPreview method point service layout fields verdict)
+    is_one values preview e is = let P : List (List ℕ) → Type 0 = λ v. PreviewIs v preview in
+        surely (_, inr (preview, subst P (sym e) is, refl))
 
-    with : (values : List (List ℕ)) → values_of (codes "Preview") fields ≡ values → NotNot ((verdict : Verdict) × JudgesPreview method point service layout fields verdict)
+    with : (values : List (List ℕ)) → values_of (codes "Preview") fields ≡ values
+        → NotNot ((verdict : Verdict) × JudgesPreview method point service layout fields verdict)
     with [] e = is_one [] false e refl
     with (value ∷ values) e = and_so (decided (WriteOne (value ∷ values))) (λ one. elim one [
       | inl writes ↦ is_one (value ∷ values) true e (refl, writes)
@@ -201,28 +226,33 @@ some_list Options (value ∷ other ∷ more) = inr tt
 some_list Reqmod (value ∷ other ∷ more) = inr tt
 some_list Respmod (value ∷ other ∷ more) = inr tt
 
-judged_list : (method : Method) (point : Point) (service : Service) (fields : FieldList) → NotNot ((verdict : Verdict) × JudgesList method point service fields verdict)
+judged_list : (method : Method) (point : Point) (service : Service) (fields : FieldList)
+    → NotNot ((verdict : Verdict) × JudgesList method point service fields verdict)
 judged_list method point service fields = elim (some_list method (values_of (codes "Encapsulated") fields)) [
   | inl is ↦ and_so (some_preview method point service is.0 fields) (λ found. surely (found.0, inr (is.0, is.1, found.1)))
   | inr bad ↦ surely (Refused BadRequest, inl (bad, refl))
 ]
 
-judged_point : (method : Method) (point : Point) (service : Service) (fields : FieldList) → NotNot ((verdict : Verdict) × JudgesPoint method point service fields verdict)
+judged_point : (method : Method) (point : Point) (service : Service) (fields : FieldList)
+    → NotNot ((verdict : Verdict) × JudgesPoint method point service fields verdict)
 judged_point method point service fields = elim (cases_Bool (serves point method)) [
   | inl served ↦ and_so (judged_list method point service fields) (λ found. surely (found.0, inr (served, found.1)))
   | inr never ↦ surely (Refused MethodNotAllowed, inl (never, refl))
 ]
 
 judged_path : (method : Method) (path : List ℕ) (fields : FieldList) → NotNot ((verdict : Verdict) × JudgesPath method path fields verdict)
-judged_path method path fields = and_so (decided ((point : Point) × (service : Service) × (path ≡ path_text point service))) (λ found. elim found [
-  | inl (point, service, is) ↦ and_so (judged_point method point service fields) (λ verdict. surely (verdict.0, inr (point, service, is, verdict.1)))
-  | inr none ↦ surely (Refused NotFound, inl (λ point service is. none (point, service, is), refl))
-])
+judged_path method path fields = and_so (decided ((point : Point) × (service : Service) × (path ≡ path_text point service)))
+    (λ found. elim found [
+      | inl (point, service, is) ↦ and_so (judged_point method point service fields)
+          (λ verdict. surely (verdict.0, inr (point, service, is, verdict.1)))
+      | inr none ↦ surely (Refused NotFound, inl (λ point service is. none (point, service, is), refl))
+    ])
 
 judged_host : (method : Method) (r : Request) → IsIcapUri r.uri → NotNot ((verdict : Verdict) × JudgesHost method r verdict)
 judged_host method r uri = and_so (decided (values_of (codes "Host") r.fields ≡ [])) (λ found. elim found [
   | inl none ↦ surely (Refused BadRequest, inl (none, refl))
-  | inr some ↦ and_so (judged_path method (uri_path uri.uri) r.fields) (λ verdict. surely (verdict.0, inr (some, (uri_path uri.uri, (uri.uri, uri.spells, refl), verdict.1))))
+  | inr some ↦ and_so (judged_path method (uri_path uri.uri) r.fields) (λ verdict.
+      surely (verdict.0, inr (some, (uri_path uri.uri, (uri.uri, uri.spells, refl), verdict.1))))
 ])
 
 judged : (r : Request) → IsIcapUri r.uri → NotNot ((verdict : Verdict) × JudgesRequest r verdict)
@@ -257,15 +287,21 @@ some_request_answer : (s : Shown) (text : List ℕ) → NotNot ((f : First) × I
 some_request_answer s text = and_so (some_request text) (λ found. elim found [
   | inl (value, size, has) ↦ and_so (judged value has.head.start.uri_is) (λ verdict.
       let follow = some_follow s verdict.0 (drop size text) in
-      surely (follow.0, (inr (verdict.0, drop size text, (value, size, has, verdict.1, refl), follow.1)), shorter (length (drop size text)) (length text) follow.0 (behind_head text value size has) follow.2))
+      surely (
+        follow.0,
+        (inr (verdict.0, drop size text, (value, size, has, verdict.1, refl), follow.1)),
+        shorter (length (drop size text)) (length text) follow.0 (behind_head text value size has) follow.2,
+      ))
   | inr (fault, stands) ↦ surely (last (due_to s fault), inl (fault, stands, refl), tt)
 ])
 
 some_stream : (s : Shown) (n : ℕ) (text : List ℕ) → length text < n → NotNot ((answer : List ℕ) × Answers s text answer)
 some_stream s zero text short = absurd (omega (arith, short))
-some_stream s (suc n) text short = and_so (some_request_answer s text) (λ found. on (λ rest less. some_stream s n rest (omega (arith, short, less))) found.0 found.1 found.2)
+some_stream s (suc n) text short = and_so (some_request_answer s text) (λ found.
+    on (λ rest less. some_stream s n rest (omega (arith, short, less))) found.0 found.1 found.2)
   where
-    on : ((rest : List ℕ) → length rest < length text → NotNot ((answer : List ℕ) × Answers s rest answer)) → (f : First) → IsFirst s text f → Shorter (length text) f
+    on : ((rest : List ℕ) → length rest < length text → NotNot ((answer : List ℕ) × Answers s rest answer)) → (f : First) → IsFirst s text f
+        → Shorter (length text) f
         → NotNot ((answer : List ℕ) × Answers s text answer)
     on later (last due) is h = surely (due, record { answers = []; rest = text; due = due; lead = here; first = is; text_is = refl })
     on later (whole answer rest) is h = and_so (later rest h) (λ found.

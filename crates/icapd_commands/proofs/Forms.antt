@@ -13,11 +13,14 @@ some_kept f None = refl
 some_kept f (Some x) = refl
 
 -- the text at `listen` writes no address
-pub no_address : (table : Members) (text : List ℕ) → text_at (codes "listen") table ≡ Some text → ((a : SocketAddrV4) → IsSocketV4Text text a → ⊥) → (a : SocketAddrV4) → ListenIs table a → ⊥
+pub no_address : (table : Members) (text : List ℕ) → text_at (codes "listen") table ≡ Some text
+    → ((a : SocketAddrV4) → IsSocketV4Text text a → ⊥) → (a : SocketAddrV4) → ListenIs table a → ⊥
 no_address table text found none a (other, is, spells, port) =
     none a (subst (λ t. IsSocketV4Text t a) (same_Some other text (sym is ∙ found)) spells)
 
 -- it writes one whose port is 0
-pub no_port : (table : Members) (text : List ℕ) (address : SocketAddrV4) → text_at (codes "listen") table ≡ Some text → IsSocketV4Text text address → v4_port address ≡ 0 → (a : SocketAddrV4) → ListenIs table a → ⊥
+pub no_port : (table : Members) (text : List ℕ) (address : SocketAddrV4) → text_at (codes "listen") table ≡ Some text
+    → IsSocketV4Text text address → v4_port address ≡ 0 → (a : SocketAddrV4) → ListenIs table a → ⊥
 no_port table text address found writes nought a (other, is, spells, port) =
-    port (ap v4_port (IsSocketV4Text_unique text a address (subst (λ t. IsSocketV4Text t a) (same_Some other text (sym is ∙ found)) spells) writes) ∙ nought)
+    port (ap v4_port (IsSocketV4Text_unique text a address (subst (λ t. IsSocketV4Text t a) (same_Some other text (sym is ∙ found)) spells)
+    writes) ∙ nought)

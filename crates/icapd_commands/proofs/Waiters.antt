@@ -50,13 +50,15 @@ least_after seats first n least turn here le below = λ key since less waits.
     elim (cases_order key n) as (λ _. least ≤ since) [
       | inl same ↦
           let there : WaitsAt seats first n since = subst (λ k. WaitsAt seats first k since) same waits in
-          let turns : turn ≡ since = same_since turn since first (same_Some (Waiting turn first) (Waiting since first) (sym here ∙ there)) in
+          let turns : turn ≡ since = same_since turn since first (same_Some (Waiting turn first) (Waiting since first)
+          (sym here ∙ there)) in
           subst (λ s. least ≤ s) turns le
       | inr (inl under) ↦ below key since under waits
       | inr (inr above) ↦ absurd (omega (arith, less, above))
     ]
 
-pub taken : (seats : List Doing) (first : Bool) (n : ℕ) (found : Option Waiter) (next which : Waiter) → next.key ≡ n → WaitsAt seats first n next.since
+pub taken : (seats : List Doing) (first : Bool) (n : ℕ) (found : Option Waiter) (next which : Waiter) → next.key ≡ n
+    → WaitsAt seats first n next.since
     → IsLonger found next which → LongestBelow seats first n found → LongestBelow seats first (n + 1) (Some which)
 taken seats first n None next which at here longer h =
     subst (λ (w : Waiter). LongestBelow seats first (n + 1) (Some w)) (sym longer) (

@@ -1,5 +1,6 @@
 -- The configuration of `icapd serve`: what each key may hold, and which fault is answered.
-use Rattle.std.specs.Prelude.{◌≡◌, ◌≢◌, ℕ, ◌≤◌, ◌<◌, ◌⊎◌, Bool, true, false, ℤ, pos, List, length, codes, Option, Some, None, is_some, option_and_then, IsUtf8, string_bytes}
+use Rattle.std.specs.Prelude.{◌≡◌, ◌≢◌, ℕ, ◌≤◌, ◌<◌, ◌⊎◌, Bool, true, false, ℤ, pos, List, length, codes, Option, Some, None, is_some}
+use Rattle.std.specs.Prelude.{option_and_then, IsUtf8, string_bytes}
 use Rattle.std.specs.Net.Grammar.{IsSocketV4Text}
 use Rattle.std.specs.Net.Socket.{v4_port}
 use Rattle.std.specs.declared.net.socket_addr.SocketAddrV4.{SocketAddrV4}

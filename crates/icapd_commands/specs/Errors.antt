@@ -1,7 +1,8 @@
 -- What the program says where it ends without an answer, and its exit status.
 use Rattle.std.specs.Prelude.{ℕ, ◌++◌, List, [], codes, string_bytes}
 use Rattle.icapd_commands.specs.declared.error.Error.{Error}
-use Rattle.icapd_commands.specs.declared.error.Error.TheVariants.{Usage, ReadFailed, WriteFailed, InputTooLong, Config, CannotListen, NoMemory, Key as OfKey}
+use Rattle.icapd_commands.specs.declared.error.Error.TheVariants.{Usage, ReadFailed, WriteFailed, InputTooLong, Config, CannotListen}
+use Rattle.icapd_commands.specs.declared.error.Error.TheVariants.{NoMemory, Key as OfKey}
 use Rattle.icapd_commands.specs.declared.error.Key.{Key}
 use Rattle.icapd_commands.specs.declared.error.Key.TheVariants.{Listen, Istag, Max, Ttl, Preview, Deadline, Unknown}
 

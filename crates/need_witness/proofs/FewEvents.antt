@@ -1,5 +1,6 @@
 -- The script of the table has at most seven events.
-use Rattle.std.proofs.Common.{◌≡◌, ℕ, ◌+◌, ◌-◌, ◌≤◌, Bool, true, false, if◌then◌else◌, not, ◌&&◌, List, [], ◌∷◌, ◌++◌, length, Option, Some, None, arith, subst, sym}
+use Rattle.std.proofs.Common.{◌≡◌, ℕ, ◌+◌, ◌-◌, ◌≤◌, Bool, true, false, if◌then◌else◌, not, ◌&&◌, List, [], ◌∷◌, ◌++◌, length, Option, Some}
+use Rattle.std.proofs.Common.{None, arith, subst, sym}
 use Rattle.std.specs.Prelude.{nat_lt, min}
 use Rattle.std.proofs.lemmas.List.{length-append}
 use Rattle.trace_core.specs.declared.tape.Tape.{Tape}
@@ -10,7 +11,8 @@ use Rattle.trace_core.specs.declared.history.Seen.{Seen}
 use Rattle.trace_core.specs.History.{is_preview}
 use Rattle.trace_core.specs.Legal.{open_preview}
 use Rattle.trace_core.specs.Faults.{chooses_original, is_final, is_sending_over}
-use Rattle.need_witness.specs.Table.{script_of, original_script, early_script, preview_script, fill_preview, more_in, end_body, close_preview, sends_all, answer_and_send}
+use Rattle.need_witness.specs.Table.{script_of, original_script, early_script, preview_script, fill_preview, more_in, end_body}
+use Rattle.need_witness.specs.Table.{close_preview, sends_all, answer_and_send}
 
 -- either has no more
 few_if : (b : Bool) (n : ℕ) (xs ys : List Event) → length xs ≤ n → length ys ≤ n → length (if b then xs else ys) ≤ n
@@ -26,14 +28,16 @@ few_answer true place = omega arith
 few_answer false place = omega arith
 
 few_close : (size received sent : ℕ) → length (close_preview size received sent) ≤ 2
-few_close size received sent = few_then 1 1 (if nat_lt sent (min size received) then Svc (min size received - sent) ∷ [] else []) (Stop ∷ [])
+few_close size received sent = few_then 1 1 (if nat_lt sent (min size received) then Svc (min size received - sent) ∷ [] else [])
+    (Stop ∷ [])
     (few_if (nat_lt sent (min size received)) 1 (Svc (min size received - sent) ∷ []) [] (omega arith) (omega arith)) (omega arith)
 
 few_early : (size : Option ℕ) (x : Seen) (place : ℕ) → length (early_script size x place) ≤ 7
 few_early None x place = omega arith
 few_early (Some size) x place =
     let full = fill_preview size x.plan.len x.received x.ended in
-    few_then 1 6 (more_in x.received full) _ (few_if (nat_lt x.received full) 1 (In (full - x.received) ∷ []) [] (omega arith) (omega arith))
+    few_then 1 6 (more_in x.received full) _ (few_if (nat_lt x.received full) 1 (In (full - x.received) ∷ []) [] (omega arith)
+    (omega arith))
     (few_then 1 5 (end_body size full x.ended) _ (few_if (nat_lt full size && not x.ended) 1 (End ∷ []) [] (omega arith) (omega arith))
     (few_then 2 3 (close_preview size full x.sent) _ (few_close size full x.sent) (few_answer x.heard place)))
 

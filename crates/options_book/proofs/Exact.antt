@@ -8,7 +8,8 @@ use Rattle.options_book.specs.declared.judged.Verified.{Verified}
 use Rattle.options_book.specs.declared.faults.OptFault.{OptFault}
 use Rattle.options_book.specs.declared.faults.OptFault.TheVariants as Faults
 
-pub not_both : (fault : OptFault) (point : Point) (r : Response) (moment : ℕ) (options : Options) → IsRecordOf point moment r options → RefusesOptions fault point r → ⊥
+pub not_both : (fault : OptFault) (point : Point) (r : Response) (moment : ℕ) (options : Options) → IsRecordOf point moment r options
+    → RefusesOptions fault point r → ⊥
 not_both Faults.Status point r moment options says stands = stands says.success
 not_both Faults.NoMethods point r moment options says stands = stands.1 says.method
 not_both Faults.NoTag point r moment options says stands = stands.2 options.tag says.tag
@@ -48,7 +49,8 @@ one_fault f Faults.NoMemory point r a b = absurd b
 -- where a fault stands, it is what is answered
 pub only_fault : (point : Point) (r : Response) (moment : ℕ) (result : Result Options OptFault)
     → IfOk result (IsRecordOf point moment r)
-    → IfErr result (λ fault. RefusesOptions fault point r ⊎ ((fault ≡ Faults.NoMemory) × ((options : Options) × IsRecordOf point moment r options)))
+    → IfErr result (λ fault. RefusesOptions fault point r ⊎ ((fault ≡ Faults.NoMemory)
+    × ((options : Options) × IsRecordOf point moment r options)))
     → (fault : OptFault) → RefusesOptions fault point r → result ≡ Err fault
 only_fault point r moment (Ok options) says only fault stands = absurd (not_both fault point r moment options says stands)
 only_fault point r moment (Err found) says only fault stands = elim only [

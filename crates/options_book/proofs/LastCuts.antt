@@ -1,5 +1,6 @@
 -- A text is cut at its last byte of a value in one way.
-use Rattle.std.proofs.Common.{◌≡◌, ◌≢◌, ℕ, ◌+◌, ◌<◌, ◌≤◌, List, [], ◌∷◌, ◌++◌, length, get_or, take, drop, refl, sym, ◌∙◌, arith, inl, inr, subst, ◌-◌, get_or-take}
+use Rattle.std.proofs.Common.{◌≡◌, ◌≢◌, ℕ, ◌+◌, ◌<◌, ◌≤◌, List, [], ◌∷◌, ◌++◌, length, get_or, take, drop, refl, sym, ◌∙◌, arith, inl, inr}
+use Rattle.std.proofs.Common.{subst, ◌-◌, get_or-take}
 use Rattle.std.proofs.lemmas.Grind.{common_steps}
 use Rattle.adapt_bytes.proofs.Cuts.{cut_here}
 use Rattle.adapt_bytes.specs.Text.{Lacks}
@@ -52,5 +53,9 @@ cut_behind text front byte within same some here none =
     let at : get_or text (length front - 1) 0 ≡ byte = grind (arith, common_steps, get_or-take) in
     let cut = cut_here text (length front - 1) byte (omega arith) at in
     let next : length front - 1 + 1 ≡ length front = omega arith in
-    let cut2 : text ≡ take (length front - 1) text ++ byte ∷ drop (length front) text = rw next at cut in
-    (take (length front - 1) text, rw whole cut2, rw whole (λ k inside is. none (length front + k) (omega arith) (grind (arith, common_steps)) (grind (arith, common_steps))))
+    let cut2 : text ≡ take (length front - 1) text ++ byte ∷ drop (length front) text = rw next at cut in (
+      take (length front - 1) text,
+      rw whole cut2,
+      rw whole (λ k inside is.
+          none (length front + k) (omega arith) (grind (arith, common_steps)) (grind (arith, common_steps))),
+    )

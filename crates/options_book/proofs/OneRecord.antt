@@ -21,7 +21,8 @@ some_same v w e = cc
 one_tag : (fields : FieldList) (a b : List ℕ) → HasTag fields a → HasTag fields b → a ≡ b
 one_tag fields a b s t = s.tag_is ∙ ap unquoted (some_same s.value t.value (sym s.first ∙ t.first)) ∙ sym t.tag_is
 
-of_parts : (a b : Options) → a.tag ≡ b.tag → a.preview ≡ b.preview → a.connections ≡ b.connections → a.ttl ≡ b.ttl → a.lists ≡ b.lists → a.read_at ≡ b.read_at → a ≡ b
+of_parts : (a b : Options) → a.tag ≡ b.tag → a.preview ≡ b.preview → a.connections ≡ b.connections → a.ttl ≡ b.ttl → a.lists ≡ b.lists
+    → a.read_at ≡ b.read_at → a ≡ b
 of_parts a b t p c l ls r =
     ap (λ (x : List ℕ). made x a.preview a.connections a.ttl a.lists a.read_at) t
     ∙ ap (λ (x : Option ℕ). made b.tag x a.connections a.ttl a.lists a.read_at) p
@@ -34,11 +35,13 @@ of_parts a b t p c l ls r =
     made tag preview connections ttl lists read_at =
         record { tag = tag; preview = preview; connections = connections; ttl = ttl; lists = lists; read_at = read_at }
 
-pub one_record : (point : Point) (moment : ℕ) (response : Response) (a b : Options) → IsRecordOf point moment response a → IsRecordOf point moment response b → a ≡ b
+pub one_record : (point : Point) (moment : ℕ) (response : Response) (a b : Options) → IsRecordOf point moment response a
+    → IsRecordOf point moment response b → a ≡ b
 one_record point moment response a b s t = of_parts a b
     (one_tag response.fields a.tag b.tag s.tag t.tag)
     (one_number (values_of (codes "Preview") response.fields) a.preview b.preview s.numbers.preview_is t.numbers.preview_is)
-    (one_number (values_of (codes "Max-Connections") response.fields) a.connections b.connections s.numbers.connections_is t.numbers.connections_is)
+    (one_number (values_of (codes "Max-Connections") response.fields) a.connections b.connections s.numbers.connections_is
+    t.numbers.connections_is)
     (one_number (values_of (codes "Options-TTL") response.fields) a.ttl b.ttl s.numbers.ttl_is t.numbers.ttl_is)
     (s.lists ∙ sym t.lists)
     (s.read_at ∙ sym t.read_at)

@@ -1,5 +1,6 @@
 -- What an OPTIONS response says of a service (RFC 3507, section 4.10.2), by its fields.
-use Rattle.std.specs.Prelude.{◌≡◌, ◌≢◌, ℕ, ◌-◌, ◌<◌, ◌≤◌, Bool, true, ◌&&◌, nat_le, ◌==◌, ◌⊎◌, List, [], ◌∷◌, length, take, drop, slice_index, codes, Option, Some, if◌then◌else◌, bytes_eq, IfSome, min, option_map}
+use Rattle.std.specs.Prelude.{◌≡◌, ◌≢◌, ℕ, ◌-◌, ◌<◌, ◌≤◌, Bool, true, ◌&&◌, nat_le, ◌==◌, ◌⊎◌, List, [], ◌∷◌, length, take, drop}
+use Rattle.std.specs.Prelude.{slice_index, codes, Option, Some, if◌then◌else◌, bytes_eq, IfSome, min, option_map}
 use Rattle.std.specs.List.{list_any}
 use Rattle.adapt_bytes.specs.Text.{comma_items}
 use Rattle.adapt_bytes.specs.declared.limits.TheConstants.{MAX_CONNECTIONS}

@@ -12,7 +12,8 @@ one_word f [] a e h = absurd (omega arith)
 one_word f (x ∷ []) a e h = ap (λ y. f y ∷ []) (sym h)
 one_word f (x ∷ y ∷ ys) a e h = absurd (omega arith)
 
-pub two_words : {X : Type 0} (f : X → List ℕ) (xs : List X) (a b : X) → length xs ≡ 2 → a ≡ get_or xs 0 a → b ≡ get_or xs 1 b → map f xs ≡ f a ∷ f b ∷ []
+pub two_words : {X : Type 0} (f : X → List ℕ) (xs : List X) (a b : X) → length xs ≡ 2 → a ≡ get_or xs 0 a → b ≡ get_or xs 1 b
+    → map f xs ≡ f a ∷ f b ∷ []
 two_words f [] a b e h i = absurd (omega arith)
 two_words f (x ∷ []) a b e h i = absurd (omega arith)
 two_words f (x ∷ y ∷ []) a b e h i = ap (λ z. f z ∷ f y ∷ []) (sym h) ∙ ap (λ z. f a ∷ f z ∷ []) (sym i)
@@ -29,7 +30,8 @@ no_size words word digits e none (Chunks size) h =
 pub size_is : (digits : List ℕ) (size : ℕ) → decimal_of digits ≡ Some size → 1 ≤ size → size ≤ MAX_PIECE → IsPieceSize digits size
 size_is digits size e some bound = record { number = number-decimal_of digits size e; some = some; bound = bound }
 
-pub not_a_size : (digits : List ℕ) (read : ℕ) → decimal_of digits ≡ Some read → ((1 ≤ read) → (read ≤ MAX_PIECE) → ⊥) → (size : ℕ) → IsPieceSize digits size → ⊥
+pub not_a_size : (digits : List ℕ) (read : ℕ) → decimal_of digits ≡ Some read → ((1 ≤ read) → (read ≤ MAX_PIECE) → ⊥) → (size : ℕ)
+    → IsPieceSize digits size → ⊥
 not_a_size digits read e outside size h =
     let f = decimal_of-number digits size h.number in
     let same : size ≡ read = cc in

@@ -1,7 +1,8 @@
 -- Comments are passed over, and no line of a script is one.
 use Rattle.std.proofs.Common.{◌≡◌, ℕ, true, false, List, ◌∷◌, Option, Some, None, if◌then◌else◌, codes, ap, ◌∙◌, refl}
 use Rattle.trace_core.specs.declared.history.Plan.{Plan}
-use Rattle.trace_core.specs.declared.history.Event.TheVariants.{In, End, Svc, Stop, Heard, Continue, NoMod, Mod, Ad, AdEnd, Usr, Done, Fail, Retry}
+use Rattle.trace_core.specs.declared.history.Event.TheVariants.{In, End, Svc, Stop, Heard, Continue, NoMod, Mod, Ad, AdEnd, Usr, Done, Fail}
+use Rattle.trace_core.specs.declared.history.Event.TheVariants.{Retry}
 use Rattle.trace_core.specs.declared.history.Payload.TheVariants.{Body, NullBody}
 use Rattle.trace_core.specs.declared.tape.Tape.TheVariants.{Original, Adapted}
 use Rattle.exchange_report.specs.Script.{event_number}

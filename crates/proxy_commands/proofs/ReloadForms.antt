@@ -13,7 +13,8 @@ use Rattle.proxy_commands.specs.declared.source.Source.TheVariants.{Path, Text}
 use Rattle.proxy_commands.specs.declared.whole.WholeFault.{WholeFault}
 
 -- what a source can't be read for is a fault of it
-pub unread : (source : Source) (error : ServeError) (fault : WholeFault) → IsUnread source error → IsReadFault error fault → IsSourceFault source fault
+pub unread : (source : Source) (error : ServeError) (fault : WholeFault) → IsUnread source error → IsReadFault error fault
+    → IsSourceFault source fault
 unread (Path path) (ends.CannotRead named) fault is read = inl (tt, read)
 unread (Path path) (ends.Ended errors.NoMemory) fault is read = inr (inl read)
 unread (Path path) (ends.Ended errors.Usage) fault is read = absurd is
@@ -31,7 +32,8 @@ unread (Path path) ends.AuditMissing fault is read = absurd is
 unread (Text said) error fault is read = inr (inl (subst (λ it. IsReadFault it fault) is read))
 
 -- a fault of a source is answered so
-pub not_taken : (source : Source) (old : Configuration) (fault : WholeFault) (line : List ℕ) → IsSourceFault source fault → (line ≡ []) ⊎ Answers fault line
+pub not_taken : (source : Source) (old : Configuration) (fault : WholeFault) (line : List ℕ) → IsSourceFault source fault
+    → (line ≡ []) ⊎ Answers fault line
     → IsNotTaken source old line
 not_taken source old fault line is (inl none) = inl none
 not_taken source old fault line is (inr answers) = inr (inl (fault, is, answers))

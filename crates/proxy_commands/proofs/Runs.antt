@@ -1,5 +1,6 @@
 -- What a run answers, by the bytes that were read.
-use Rattle.std.proofs.Common.{◌≡◌, ℕ, ◌+◌, zero, suc, ◌≤◌, ◌<◌, List, [], ◌∷◌, refl, length, take, Option, Some, None, IfSome, Result, Ok, Err, OnOk, arith, sym, ap, ◌∙◌, subst}
+use Rattle.std.proofs.Common.{◌≡◌, ℕ, ◌+◌, zero, suc, ◌≤◌, ◌<◌, List, [], ◌∷◌, refl, length, take, Option, Some, None, IfSome, Result, Ok}
+use Rattle.std.proofs.Common.{Err, OnOk, arith, sym, ap, ◌∙◌, subst}
 use Rattle.std.proofs.lemmas.List.{length-take}
 use Rattle.adapt_bytes.specs.declared.limits.TheConstants.{MAX_INPUT}
 use Rattle.proxy_commands.specs.declared.command.Command.{Command}
@@ -36,8 +37,10 @@ short : (command : Command) (input output : List ℕ) → IsCommandOutput comman
 short Trace input output h = h.0
 short (Chunks piece_size) input output h = h.0
 
-pub answered : (words : List (List ℕ)) (known : Option (List ℕ)) (command : Command) (input output : List ℕ) (before behind : Option (List ℕ))
-    → IsCommand words command → IfSome known (λ bytes. input ≡ take (MAX_INPUT + 1) bytes) → IsCommandOutput command input output → Appends before behind output
+pub answered : (words : List (List ℕ)) (known : Option (List ℕ)) (command : Command) (input output : List ℕ)
+    (before behind : Option (List ℕ))
+    → IsCommand words command → IfSome known (λ bytes. input ≡ take (MAX_INPUT + 1) bytes) → IsCommandOutput command input output
+    → Appends before behind output
     → PrintsOutput words known before behind
 answered words None command input output before behind named read answer added = tt
 answered words (Some bytes) command input output before behind named read answer added =
@@ -49,7 +52,8 @@ on_ok P Q (Ok x) f h = f h
 on_ok P Q (Err e) f h = tt
 
 pub failed : (words : List (List ℕ)) (known : Option (List ℕ)) (command : Command) (input : List ℕ) (error : Error)
-    → IsCommand words command → IfSome known (λ bytes. input ≡ take (MAX_INPUT + 1) bytes) → RefusesInput command input error → Fails words known error
+    → IsCommand words command → IfSome known (λ bytes. input ≡ take (MAX_INPUT + 1) bytes) → RefusesInput command input error
+    → Fails words known error
 failed words None Trace input InputTooLong named read refused = ((Trace, named), tt)
 failed words (Some bytes) Trace input InputTooLong named read refused = ((Trace, named), more bytes input read refused)
 failed words None (Chunks size) input InputTooLong named read refused = ((Chunks size, named), tt)

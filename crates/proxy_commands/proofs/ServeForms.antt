@@ -1,5 +1,6 @@
 -- What `serve` reads and says.
-use Rattle.std.proofs.Common.{◌≡◌, ℕ, ◌+◌, ◌≤◌, List, ◌++◌, length, take, Option, Some, None, IfSome, Result, Ok, Err, IfOk, IfErr, sym, ap, ◌∙◌, subst}
+use Rattle.std.proofs.Common.{◌≡◌, ℕ, ◌+◌, ◌≤◌, List, ◌++◌, length, take, Option, Some, None, IfSome, Result, Ok, Err, IfOk, IfErr, sym, ap}
+use Rattle.std.proofs.Common.{◌∙◌, subst}
 use Rattle.std.proofs.lemmas.List.{append_assoc}
 use Rattle.std.specs.Io.KnownBytes.{Appends}
 use Rattle.proxy_config.specs.Config.{Refuses}
@@ -9,12 +10,14 @@ use Rattle.proxy_config.specs.declared.fault.ConfigFault.TheVariants.{Text as No
 use Rattle.adapt_bytes.specs.declared.limits.TheConstants.{MAX_INPUT}
 use Rattle.proxy_commands.specs.declared.error.Error.TheVariants.{Usage, ReadFailed, WriteFailed, InputTooLong, Line, NoMemory}
 use Rattle.proxy_commands.specs.declared.serve_error.ServeError.{ServeError}
-use Rattle.proxy_commands.specs.declared.serve_error.ServeError.TheVariants.{Ended, CannotRead, Config, Key, KeyLine, CannotListen, CannotListenOn, NoAnswer, AuditMissing}
+use Rattle.proxy_commands.specs.declared.serve_error.ServeError.TheVariants.{Ended, CannotRead, Config, Key, KeyLine, CannotListen}
+use Rattle.proxy_commands.specs.declared.serve_error.ServeError.TheVariants.{CannotListenOn, NoAnswer, AuditMissing}
 use Rattle.proxy_commands.specs.Serve.{IsConfigured, IsRefusedAs, IsUnconfigured}
 use Rattle.proxy_commands.proofs.Runs.{whole, more}
 
 -- three writes behind one another
-pub chain : (a b c d : Option (List ℕ)) (x y z text : List ℕ) → text ≡ (x ++ y) ++ z → Appends a b x → Appends b c y → Appends c d z → Appends a d text
+pub chain : (a b c d : Option (List ℕ)) (x y z text : List ℕ) → text ≡ (x ++ y) ++ z → Appends a b x → Appends b c y → Appends c d z
+    → Appends a d text
 chain None b c d x y z text e h i j = tt
 chain (Some xs) None c d x y z text e h i j = absurd h
 chain (Some xs) (Some ys) None d x y z text e h i j = absurd i
@@ -26,19 +29,24 @@ chain (Some xs) (Some ys) (Some zs) (Some ws) x y z text e h i j =
     ∙ ap (λ t. xs ++ t) (sym (append_assoc x y z) ∙ sym e)
 
 -- a configuration of the input is one of all that was there to read
-pub configured : (known : Option (List ℕ)) (input : List ℕ) (r : Result Configuration ServeError) → IfSome known (λ bytes. input ≡ take (MAX_INPUT + 1) bytes)
+pub configured : (known : Option (List ℕ)) (input : List ℕ) (r : Result Configuration ServeError)
+    → IfSome known (λ bytes. input ≡ take (MAX_INPUT + 1) bytes)
     → IfOk r (IsConfigured input) → IfOk r (λ config. IfSome known (λ bytes. IsConfigured bytes config))
 configured known input (Err error) read h = tt
 configured None input (Ok config) read h = tt
 configured (Some bytes) input (Ok config) read h = subst (λ (x : List ℕ). IsConfigured x config) (sym (whole bytes input read h.short)) h
 
 -- the fault of a text that isn't too long is why it is refused
-pub refused_so : (text : List ℕ) (fault : ConfigFault) (error : ServeError) → length text ≤ MAX_INPUT → Refuses text fault → IsRefusedAs fault error → IsUnconfigured text error
-refused_so text NoDocument error short refuses is = let P : ServeError → Type 0 = λ e. IsUnconfigured text e in subst P (sym is) (short, refuses)
-refused_so text (AtKey key) error short refuses is = let P : ServeError → Type 0 = λ e. IsUnconfigured text e in subst P (sym is) (short, refuses)
+pub refused_so : (text : List ℕ) (fault : ConfigFault) (error : ServeError) → length text ≤ MAX_INPUT → Refuses text fault
+    → IsRefusedAs fault error → IsUnconfigured text error
+refused_so text NoDocument error short refuses is = let P : ServeError → Type 0 = λ e. IsUnconfigured text e in
+    subst P (sym is) (short, refuses)
+refused_so text (AtKey key) error short refuses is = let P : ServeError → Type 0 = λ e. IsUnconfigured text e in
+    subst P (sym is) (short, refuses)
 refused_so text WithoutMemory error short refuses is = let P : ServeError → Type 0 = λ e. IsUnconfigured text e in subst P (sym is) tt
 
-refused : (bytes input : List ℕ) (error : ServeError) → input ≡ take (MAX_INPUT + 1) bytes → IsUnconfigured input error → IsUnconfigured bytes error
+refused : (bytes input : List ℕ) (error : ServeError) → input ≡ take (MAX_INPUT + 1) bytes → IsUnconfigured input error
+    → IsUnconfigured bytes error
 refused bytes input (Ended InputTooLong) read h = more bytes input read h
 refused bytes input (Ended NoMemory) read h = tt
 refused bytes input (Ended ReadFailed) read h = tt
@@ -56,7 +64,8 @@ refused bytes input NoAnswer read h = absurd h
 refused bytes input (CannotRead path) read h = absurd h
 refused bytes input AuditMissing read h = absurd h
 
-pub unconfigured : (known : Option (List ℕ)) (input : List ℕ) (r : Result Configuration ServeError) → IfSome known (λ bytes. input ≡ take (MAX_INPUT + 1) bytes)
+pub unconfigured : (known : Option (List ℕ)) (input : List ℕ) (r : Result Configuration ServeError)
+    → IfSome known (λ bytes. input ≡ take (MAX_INPUT + 1) bytes)
     → IfErr r (IsUnconfigured input) → IfErr r (λ error. IfSome known (λ bytes. IsUnconfigured bytes error))
 unconfigured known input (Ok config) read h = tt
 unconfigured None input (Err error) read h = tt

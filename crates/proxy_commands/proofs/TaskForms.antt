@@ -1,5 +1,6 @@
 -- Which task words give, by their number.
-use Rattle.std.proofs.Common.{◌≡◌, ◌≢◌, ◌⊎◌, ℕ, ◌≤◌, ◌<◌, List, [], ◌∷◌, length, map, get_or, Bool, true, false, Option, Some, None, IfSome, IfNone, String, Global, string_bytes, codes, bytes_eq, inl, inr, arith, rules, refl, sym, ap, ◌∙◌}
+use Rattle.std.proofs.Common.{◌≡◌, ◌≢◌, ◌⊎◌, ℕ, ◌≤◌, ◌<◌, List, [], ◌∷◌, length, map, get_or, Bool, true, false, Option, Some, None, IfSome}
+use Rattle.std.proofs.Common.{IfNone, String, Global, string_bytes, codes, bytes_eq, inl, inr, arith, rules, refl, sym, ap, ◌∙◌}
 use Rattle.std.proofs.lemmas.Bool.{false≢true}
 use Rattle.std.proofs.lemmas.Slice.Eq.{bytes_eq-Decides}
 use Rattle.proxy_commands.specs.declared.task.Task.{Task}
@@ -16,7 +17,8 @@ longer : (x y z : List ℕ) (rest : List (List ℕ)) → x ∷ [] ≡ y ∷ z �
 longer x y z rest e = search (rules, e)
 
 -- one word
-lone_or_path : (words : List (List ℕ)) (word task : List ℕ) → words ≡ word ∷ [] → (words ≡ task ∷ []) ⊎ HasPathAlone words task → word ≡ task
+lone_or_path : (words : List (List ℕ)) (word task : List ℕ) → words ≡ word ∷ [] → (words ≡ task ∷ []) ⊎ HasPathAlone words task
+    → word ≡ task
 lone_or_path words word task e (inl alone) = same_head word task [] [] (sym e ∙ alone)
 lone_or_path words word task e (inr (path, is)) = absurd (longer word task (codes "--config") (path ∷ []) (sym e ∙ is))
 
@@ -34,16 +36,24 @@ none_alone words word e (Some task) h = tt
 none_alone words word e None h = λ task is. h task (lone words word e task is)
 
 -- three words
-with_path : (words : List (List ℕ)) (word option path : List ℕ) → words ≡ word ∷ option ∷ path ∷ [] → option ≡ codes "--config" → (task : Task) → IsTaskWithPath word task → IsTask words task
-with_path words word option path e is Serve at = inr (path, e ∙ ap (λ (w : List ℕ). w ∷ option ∷ path ∷ []) at ∙ ap (λ (o : List ℕ). codes "serve" ∷ o ∷ path ∷ []) is)
-with_path words word option path e is Check at = inr (path, e ∙ ap (λ (w : List ℕ). w ∷ option ∷ path ∷ []) at ∙ ap (λ (o : List ℕ). codes "check" ∷ o ∷ path ∷ []) is)
+with_path : (words : List (List ℕ)) (word option path : List ℕ) → words ≡ word ∷ option ∷ path ∷ [] → option ≡ codes "--config"
+    → (task : Task) → IsTaskWithPath word task → IsTask words task
+with_path words word option path e is Serve at = inr (
+  path,
+  e ∙ ap (λ (w : List ℕ). w ∷ option ∷ path ∷ []) at ∙ ap (λ (o : List ℕ). codes "serve" ∷ o ∷ path ∷ []) is,
+)
+with_path words word option path e is Check at = inr (
+  path,
+  e ∙ ap (λ (w : List ℕ). w ∷ option ∷ path ∷ []) at ∙ ap (λ (o : List ℕ). codes "check" ∷ o ∷ path ∷ []) is,
+)
 with_path words word option path e is Probe at = (option ∷ path ∷ [], e ∙ ap (λ (w : List ℕ). w ∷ option ∷ path ∷ []) at)
 with_path words word option path e is Tell at = absurd at
 with_path words word option path e is Help at = absurd at
 with_path words word option path e is Version at = absurd at
 
 -- of two words and more, the first says the task, where they are no word, `--config` and a path
-before_all : (words : List (List ℕ)) (word next : List ℕ) (rest : List (List ℕ)) → words ≡ word ∷ next ∷ rest → ((task : List ℕ) → HasPathAlone words task → ⊥)
+before_all : (words : List (List ℕ)) (word next : List ℕ) (rest : List (List ℕ)) → words ≡ word ∷ next ∷ rest
+    → ((task : List ℕ) → HasPathAlone words task → ⊥)
     → (task : Task) → IsTaskBefore word task → IsTask words task
 before_all words word next rest e none Tell at = (next, rest, e ∙ ap (λ (w : List ℕ). w ∷ next ∷ rest) at, none (codes "tell"))
 before_all words word next rest e none Probe at = (next ∷ rest, e ∙ ap (λ (w : List ℕ). w ∷ next ∷ rest) at)
@@ -52,27 +62,34 @@ before_all words word next rest e none Check at = absurd at
 before_all words word next rest e none Help at = absurd at
 before_all words word next rest e none Version at = absurd at
 
-no_path : (words : List (List ℕ)) (word option path : List ℕ) → words ≡ word ∷ option ∷ path ∷ [] → option ≢ codes "--config" → (task : List ℕ) → HasPathAlone words task → ⊥
+no_path : (words : List (List ℕ)) (word option path : List ℕ) → words ≡ word ∷ option ∷ path ∷ [] → option ≢ codes "--config"
+    → (task : List ℕ) → HasPathAlone words task → ⊥
 no_path words word option path e other task (at, is) =
     other (same_second word option task (codes "--config") (path ∷ []) (at ∷ []) (sym e ∙ is))
 
-of_three : (words : List (List ℕ)) (word option path : List ℕ) → words ≡ word ∷ option ∷ path ∷ [] → (task : Task) → IsTaskOfThree word option task → IsTask words task
+of_three : (words : List (List ℕ)) (word option path : List ℕ) → words ≡ word ∷ option ∷ path ∷ [] → (task : Task)
+    → IsTaskOfThree word option task → IsTask words task
 of_three words word option path e task (inl (is, at)) = with_path words word option path e is task at
-of_three words word option path e task (inr (other, at)) = before_all words word option (path ∷ []) e (no_path words word option path e other) task at
+of_three words word option path e task (inr (other, at)) =
+    before_all words word option (path ∷ []) e (no_path words word option path e other) task at
 
 pub some_of_three : (words : List (List ℕ)) (word option path : List ℕ) → words ≡ word ∷ option ∷ path ∷ [] → (found : Option Task)
     → IfSome found (IsTaskOfThree word option) → IfSome found (IsTask words)
 some_of_three words word option path e (Some task) h = of_three words word option path e task h
 some_of_three words word option path e None h = tt
 
-path_or_lone : (words : List (List ℕ)) (word option path task : List ℕ) → words ≡ word ∷ option ∷ path ∷ [] → (words ≡ task ∷ []) ⊎ HasPathAlone words task
+path_or_lone : (words : List (List ℕ)) (word option path task : List ℕ) → words ≡ word ∷ option ∷ path ∷ []
+    → (words ≡ task ∷ []) ⊎ HasPathAlone words task
     → (option ≡ codes "--config") × (word ≡ task)
 path_or_lone words word option path task e (inl alone) = absurd (longer task word option (path ∷ []) (sym alone ∙ e))
-path_or_lone words word option path task e (inr (at, is)) =
-    (same_second word option task (codes "--config") (path ∷ []) (at ∷ []) (sym e ∙ is), same_head word task (option ∷ path ∷ []) (codes "--config" ∷ at ∷ []) (sym e ∙ is))
+path_or_lone words word option path task e (inr (at, is)) = (
+  same_second word option task (codes "--config") (path ∷ []) (at ∷ []) (sym e ∙ is),
+  same_head word task (option ∷ path ∷ []) (codes "--config" ∷ at ∷ []) (sym e ∙ is),
+)
 
 -- `tell` with or without the option
-tells : (words : List (List ℕ)) (word option path : List ℕ) (same : Bool) → words ≡ word ∷ option ∷ path ∷ [] → bytes_eq option (codes "--config") ≡ same
+tells : (words : List (List ℕ)) (word option path : List ℕ) (same : Bool) → words ≡ word ∷ option ∷ path ∷ []
+    → bytes_eq option (codes "--config") ≡ same
     → word ≡ codes "tell" → (HasPathAlone words (codes "tell") → ⊥) → IsTaskOfThree word option Tell
 tells words word option path true e same is none =
     let config : option ≡ codes "--config" = (bytes_eq-Decides option (codes "--config")).0 same in
@@ -80,15 +97,18 @@ tells words word option path true e same is none =
 tells words word option path false e same is none =
     inr (λ config. false≢true (sym same ∙ (bytes_eq-Decides option (codes "--config")).1 config), is)
 
-probes : (word option : List ℕ) (same : Bool) → bytes_eq option (codes "--config") ≡ same → word ≡ codes "probe" → IsTaskOfThree word option Probe
+probes : (word option : List ℕ) (same : Bool) → bytes_eq option (codes "--config") ≡ same → word ≡ codes "probe"
+    → IsTaskOfThree word option Probe
 probes word option true same is = inl ((bytes_eq-Decides option (codes "--config")).0 same, is)
 probes word option false same is = inr (λ config. false≢true (sym same ∙ (bytes_eq-Decides option (codes "--config")).1 config), is)
 
-from_three : (words : List (List ℕ)) (word option path : List ℕ) → words ≡ word ∷ option ∷ path ∷ [] → (task : Task) → IsTask words task → IsTaskOfThree word option task
+from_three : (words : List (List ℕ)) (word option path : List ℕ) → words ≡ word ∷ option ∷ path ∷ [] → (task : Task) → IsTask words task
+    → IsTaskOfThree word option task
 from_three words word option path e Serve is = inl (path_or_lone words word option path (codes "serve") e is)
 from_three words word option path e Check is = inl (path_or_lone words word option path (codes "check") e is)
 from_three words word option path e Tell (first, rest, is, none) =
-    tells words word option path (bytes_eq option (codes "--config")) e refl (same_head word (codes "tell") (option ∷ path ∷ []) (first ∷ rest) (sym e ∙ is)) none
+    tells words word option path (bytes_eq option (codes "--config")) e refl
+    (same_head word (codes "tell") (option ∷ path ∷ []) (first ∷ rest) (sym e ∙ is)) none
 from_three words word option path e Probe (choice, is) =
     probes word option (bytes_eq option (codes "--config")) refl (same_head word (codes "probe") (option ∷ path ∷ []) choice (sym e ∙ is))
 from_three words word option path e Help is = absurd (longer is.0 word option (path ∷ []) (sym is.1 ∙ e))
@@ -100,17 +120,20 @@ none_of_three words word option path e (Some task) h = tt
 none_of_three words word option path e None h = λ task is. h task (from_three words word option path e task is)
 
 -- another number of words
-pub some_before : (words : List (List ℕ)) (word next : List ℕ) (rest : List (List ℕ)) → words ≡ word ∷ next ∷ rest → ((task : List ℕ) → HasPathAlone words task → ⊥)
+pub some_before : (words : List (List ℕ)) (word next : List ℕ) (rest : List (List ℕ)) → words ≡ word ∷ next ∷ rest
+    → ((task : List ℕ) → HasPathAlone words task → ⊥)
     → (found : Option Task) → IfSome found (IsTaskBefore word) → IfSome found (IsTask words)
 some_before words word next rest e none (Some task) h = before_all words word next rest e none task h
 some_before words word next rest e none None h = tt
 
-lone_none : (words : List (List ℕ)) (word next : List ℕ) (rest : List (List ℕ)) (task : List ℕ) → words ≡ word ∷ next ∷ rest → ((task : List ℕ) → HasPathAlone words task → ⊥)
+lone_none : (words : List (List ℕ)) (word next : List ℕ) (rest : List (List ℕ)) (task : List ℕ) → words ≡ word ∷ next ∷ rest
+    → ((task : List ℕ) → HasPathAlone words task → ⊥)
     → (words ≡ task ∷ []) ⊎ HasPathAlone words task → ⊥
 lone_none words word next rest task e none (inl alone) = longer task word next rest (sym alone ∙ e)
 lone_none words word next rest task e none (inr path) = none task path
 
-from_all : (words : List (List ℕ)) (word next : List ℕ) (rest : List (List ℕ)) → words ≡ word ∷ next ∷ rest → ((task : List ℕ) → HasPathAlone words task → ⊥)
+from_all : (words : List (List ℕ)) (word next : List ℕ) (rest : List (List ℕ)) → words ≡ word ∷ next ∷ rest
+    → ((task : List ℕ) → HasPathAlone words task → ⊥)
     → (task : Task) → IsTask words task → IsTaskBefore word task
 from_all words word next rest e none Tell (first, more, is, other) = same_head word (codes "tell") (next ∷ rest) (first ∷ more) (sym e ∙ is)
 from_all words word next rest e none Probe is = same_head word (codes "probe") (next ∷ rest) is.0 (sym e ∙ is.1)
@@ -119,8 +142,10 @@ from_all words word next rest e none Check is = absurd (lone_none words word nex
 from_all words word next rest e none Help is = absurd (longer is.0 word next rest (sym is.1 ∙ e))
 from_all words word next rest e none Version is = absurd (longer is.0 word next rest (sym is.1 ∙ e))
 
-pub none_before : (words : List (List ℕ)) (word next : List ℕ) (rest : List (List ℕ)) → words ≡ word ∷ next ∷ rest → ((task : List ℕ) → HasPathAlone words task → ⊥)
-    → (found : Option Task) → IfNone found ((task : Task) → IsTaskBefore word task → ⊥) → IfNone found ((task : Task) → IsTask words task → ⊥)
+pub none_before : (words : List (List ℕ)) (word next : List ℕ) (rest : List (List ℕ)) → words ≡ word ∷ next ∷ rest
+    → ((task : List ℕ) → HasPathAlone words task → ⊥)
+    → (found : Option Task) → IfNone found ((task : Task) → IsTaskBefore word task → ⊥)
+    → IfNone found ((task : Task) → IsTask words task → ⊥)
 none_before words word next rest e none (Some task) h = tt
 none_before words word next rest e none None h = λ task is. h task (from_all words word next rest e none task is)
 
@@ -134,13 +159,17 @@ one_word (x ∷ y ∷ rest) word some few is = absurd (omega (arith, few))
 abbrev pub ThreeWords : List (List ℕ) → List ℕ → List ℕ → Type 0
 ThreeWords words word option = (path : List ℕ) × (words ≡ word ∷ option ∷ path ∷ [])
 
-pub three_words : (args : List (String Global)) (word option : String Global) → 3 ≤ length args → length args < 4 → word ≡ get_or args 0 word → option ≡ get_or args 1 option
+pub three_words : (args : List (String Global)) (word option : String Global) → 3 ≤ length args → length args < 4
+    → word ≡ get_or args 0 word → option ≡ get_or args 1 option
     → ThreeWords (map string_bytes args) (string_bytes word) (string_bytes option)
 three_words [] word option some few is at = absurd (omega (arith, some))
 three_words (x ∷ []) word option some few is at = absurd (omega (arith, some))
 three_words (x ∷ y ∷ []) word option some few is at = absurd (omega (arith, some))
-three_words (x ∷ y ∷ z ∷ []) word option some few is at =
-    (string_bytes z, ap (λ (w : String Global). string_bytes w ∷ string_bytes y ∷ string_bytes z ∷ []) (sym is) ∙ ap (λ (o : String Global). string_bytes word ∷ string_bytes o ∷ string_bytes z ∷ []) (sym at))
+three_words (x ∷ y ∷ z ∷ []) word option some few is at = (
+  string_bytes z,
+  ap (λ (w : String Global). string_bytes w ∷ string_bytes y ∷ string_bytes z ∷ []) (sym is)
+      ∙ ap (λ (o : String Global). string_bytes word ∷ string_bytes o ∷ string_bytes z ∷ []) (sym at),
+)
 three_words (x ∷ y ∷ z ∷ u ∷ rest) word option some few is at = absurd (omega (arith, few))
 
 -- two words and more, which are not three
@@ -178,5 +207,6 @@ four_words (x ∷ y ∷ z ∷ u ∷ rest) word some is = record {
   next = string_bytes y;
   rest = string_bytes z ∷ string_bytes u ∷ map string_bytes rest;
   are = ap (λ (w : String Global). string_bytes w ∷ string_bytes y ∷ string_bytes z ∷ string_bytes u ∷ map string_bytes rest) (sym is);
-  no_path = λ task has. four_none (string_bytes x) (string_bytes y) (string_bytes z) (string_bytes u) task (codes "--config") has.0 (map string_bytes rest) has.1;
+  no_path = λ task has. four_none (string_bytes x) (string_bytes y) (string_bytes z) (string_bytes u) task (codes "--config") has.0
+      (map string_bytes rest) has.1;
 }

@@ -7,12 +7,14 @@ use Rattle.proxy_commands.specs.declared.whole.WholeFault.{WholeFault}
 use Rattle.proxy_commands.specs.declared.whole.WholeFault.TheVariants.{Refused, Hosts, HostsLine, Page, NoMemory}
 
 -- the names of a hosts file change no folder of pages
-pub same_folder : {X : Type 0} (file : Option X) (old new : Configuration) (count : ℕ) → HasNames file old new count → new.refusal_pages ≡ old.refusal_pages
+pub same_folder : {X : Type 0} (file : Option X) (old new : Configuration) (count : ℕ) → HasNames file old new count
+    → new.refusal_pages ≡ old.refusal_pages
 same_folder None old new count has = ap (λ (c : Configuration). c.refusal_pages) has.0
 same_folder (Some path) old new count has = ap (λ (c : Configuration). c.refusal_pages) has.1.others
 
 -- a file that is lacking is a fault of a text that is a configuration
-pub lacks_file : (text : List ℕ) (plain : Configuration) (fault : WholeFault) → IsConfigured text plain → Lacks plain fault → IsWholeFault text fault
+pub lacks_file : (text : List ℕ) (plain : Configuration) (fault : WholeFault) → IsConfigured text plain → Lacks plain fault
+    → IsWholeFault text fault
 lacks_file text plain (Refused error) says (inl lacks) = absurd lacks
 lacks_file text plain (Refused error) says (inr lacks) = absurd lacks
 lacks_file text plain Hosts says lacks = (plain, says, lacks)

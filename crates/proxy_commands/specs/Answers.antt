@@ -72,8 +72,10 @@ needed_script tape x place = if is_held tape x place then Some (script_of tape x
 -- what is printed for lines after these events
 abbrev pub output_after : Plan → List Event → List Line → List ℕ
 output_after plan before [] = []
-output_after plan before (Step event ∷ lines) = answer_text (answer_of plan before event) ++ output_after plan (accepted_with plan before event) lines
-output_after plan before (Need tape place ∷ lines) = script_text (needed_script tape (seen plan before) place) ++ output_after plan before lines
+output_after plan before (Step event ∷ lines) = answer_text (answer_of plan before event)
+    ++ output_after plan (accepted_with plan before event) lines
+output_after plan before (Need tape place ∷ lines) =
+    script_text (needed_script tape (seen plan before) place) ++ output_after plan before lines
 
 -- what is printed for a script
 abbrev pub output_of : Plan → List Line → List ℕ

@@ -10,7 +10,8 @@ use Rattle.proxy_commands.specs.declared.serve_error.ServeError.TheVariants.{End
 
 -- the line that is printed at the end
 abbrev pub audit_text : StopAudit → List ℕ
-audit_text a = (((((codes "audit rows " ++ numeral 10 a.rows) ++ codes " held ") ++ numeral 10 a.held) ++ codes " leased ") ++ numeral 10 a.leased) ++ codes "\n"
+audit_text a = (((((codes "audit rows " ++ numeral 10 a.rows) ++ codes " held ") ++ numeral 10 a.held) ++ codes " leased ")
+    ++ numeral 10 a.leased) ++ codes "\n"
 
 -- the error that a fault of the proxy's ends the program with
 abbrev pub serve_error_of : ProxyFault → ServeError

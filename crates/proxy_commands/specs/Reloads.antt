@@ -38,7 +38,8 @@ IsFile (Text said) = ⊥
 
 -- why a source says no configuration: its file can't be read, memory is lacking, or what it says is none
 abbrev pub IsSourceFault : Source → WholeFault → Type 0
-IsSourceFault source fault = (IsFile source × (fault ≡ Hosts)) ⊎ (fault ≡ NoMemory) ⊎ ((text : List ℕ) × Says source text × IsWholeFault text fault)
+IsSourceFault source fault = (IsFile source × (fault ≡ Hosts)) ⊎ (fault ≡ NoMemory)
+    ⊎ ((text : List ℕ) × Says source text × IsWholeFault text fault)
 
 -- what a source says is a configuration, with so many names, that may take the place of the old one
 pub record IsTaken (source : Source) (old new : Configuration) (count : ℕ) : Type 0 where
@@ -60,4 +61,5 @@ pub record IsRestart (source : Source) (old : Configuration) (line : List ℕ) :
 
 -- the answer where a source isn't taken over: none where no memory was found for it
 abbrev pub IsNotTaken : Source → (old : Configuration) → (line : List ℕ) → Type 0
-IsNotTaken source old line = (line ≡ []) ⊎ ((fault : WholeFault) × IsSourceFault source fault × Answers fault line) ⊎ IsRestart source old line
+IsNotTaken source old line = (line ≡ []) ⊎ ((fault : WholeFault) × IsSourceFault source fault × Answers fault line)
+    ⊎ IsRestart source old line

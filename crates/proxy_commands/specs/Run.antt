@@ -31,7 +31,8 @@ IsRunnable (Chunks piece_size) = 1 ≤ piece_size
 -- the arguments name a command, and where the input's bytes are known, its output for them has been added to what was printed
 abbrev pub PrintsOutput : List (List ℕ) → Option (List ℕ) → Option (List ℕ) → Option (List ℕ) → Type 0
 PrintsOutput words known before behind =
-    IfSome known (λ input. (command : Command) × (output : List ℕ) × IsCommand words command × IsCommandOutput command input output × Appends before behind output)
+    IfSome known (λ input. (command : Command) × (output : List ℕ) × IsCommand words command × IsCommandOutput command input output
+    × Appends before behind output)
 
 abbrev pub IsNamed : List (List ℕ) → Type 0
 IsNamed words = (command : Command) × IsCommand words command
@@ -40,7 +41,8 @@ IsNamed words = (command : Command) × IsCommand words command
 abbrev pub Fails : List (List ℕ) → Option (List ℕ) → Error → Type 0
 Fails words known Usage = IsNamed words → ⊥
 Fails words known InputTooLong = IsNamed words × IfSome known (λ input. MAX_INPUT < length input)
-Fails words known (Line number) = IsCommand words Trace × IfSome known (λ input. (length input ≤ MAX_INPUT) × IsFirstBad (lines_of input) number)
+Fails words known (Line number) = IsCommand words Trace × IfSome known (λ input. (length input ≤ MAX_INPUT)
+    × IsFirstBad (lines_of input) number)
 Fails words known _ = IsNamed words
 
 -- some error with this status

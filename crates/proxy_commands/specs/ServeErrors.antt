@@ -2,7 +2,8 @@
 use Rattle.std.specs.Prelude.{ℕ, List, ◌++◌, codes, string_bytes}
 use Rattle.adapt_bytes.specs.Numeral.{numeral}
 use Rattle.proxy_commands.specs.declared.serve_error.ServeError.{ServeError}
-use Rattle.proxy_commands.specs.declared.serve_error.ServeError.TheVariants.{Ended, CannotRead, Config, Key, KeyLine, CannotListen, CannotListenOn, NoAnswer, AuditMissing}
+use Rattle.proxy_commands.specs.declared.serve_error.ServeError.TheVariants.{Ended, CannotRead, Config, Key, KeyLine, CannotListen}
+use Rattle.proxy_commands.specs.declared.serve_error.ServeError.TheVariants.{CannotListenOn, NoAnswer, AuditMissing}
 use Rattle.proxy_commands.specs.Errors.{error_text, status_of}
 
 -- the end of a line that names another one

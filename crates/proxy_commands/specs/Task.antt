@@ -27,7 +27,8 @@ IsTaskWithPath word _ = ⊥
 
 -- the word is that of a task before two words, of which this is the first
 abbrev pub IsTaskOfThree : List ℕ → List ℕ → Task → Type 0
-IsTaskOfThree word option task = ((option ≡ codes "--config") × IsTaskWithPath word task) ⊎ ((option ≢ codes "--config") × IsTaskBefore word task)
+IsTaskOfThree word option task = ((option ≡ codes "--config") × IsTaskWithPath word task)
+    ⊎ ((option ≢ codes "--config") × IsTaskBefore word task)
 
 -- the arguments are a word, `--config` and a path
 abbrev pub HasPathAlone : List (List ℕ) → List ℕ → Type 0
@@ -39,7 +40,8 @@ IsAlone words word = (words ≡ word ∷ []) ⊎ HasPathAlone words word
 
 -- the arguments are `tell` and one word or more, beside `--config` and a path
 abbrev pub IsTelling : List (List ℕ) → Type 0
-IsTelling words = (first : List ℕ) × (rest : List (List ℕ)) × (words ≡ codes "tell" ∷ first ∷ rest) × (HasPathAlone words (codes "tell") → ⊥)
+IsTelling words = (first : List ℕ) × (rest : List (List ℕ)) × (words ≡ codes "tell" ∷ first ∷ rest)
+    × (HasPathAlone words (codes "tell") → ⊥)
 
 -- the arguments are `probe`, and its choice
 abbrev pub IsProbing : List (List ℕ) → Type 0

@@ -26,7 +26,8 @@ is_refused answer =
 abbrev pub is_kept : List ℕ → Bool
 is_kept answer =
     starts_with nat_eq answer (codes "bad line ")
-    || (starts_with nat_eq answer (codes "restart ") || (starts_with nat_eq answer (codes "config") || starts_with nat_eq answer (codes "input too long")))
+    || (starts_with nat_eq answer (codes "restart ") || (starts_with nat_eq answer (codes "config") || starts_with nat_eq answer
+    (codes "input too long")))
 
 -- the status that an answer gives: 2 where the line is none that the port takes, 1 where nothing was done, else 0
 abbrev pub told_status : List ℕ → ℕ

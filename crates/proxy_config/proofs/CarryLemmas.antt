@@ -1,5 +1,7 @@
 -- Names of fields, one after the other.
-use Rattle.std.proofs.Common.{◌≡◌, ◌<◌, ◌+◌, ℕ, Bool, true, false, ◌||◌, ◌&&◌, List, [], ◌∷◌, ◌++◌, length, drop, get_or, map, nat_lt, ltb-true, lt-ltb, String, Global, Option, Some, None, option_map, option_and_then, IfSome, IfNone, IsTrue, string_bytes, refl, sym, ap, ◌∙◌}
+use Rattle.std.proofs.Common.{◌≡◌, ◌<◌, ◌+◌, ℕ, Bool, true, false, ◌||◌, ◌&&◌, List, [], ◌∷◌, ◌++◌, length, drop, get_or, map, nat_lt}
+use Rattle.std.proofs.Common.{ltb-true, lt-ltb, String, Global, Option, Some, None, option_map, option_and_then, IfSome, IfNone, IsTrue}
+use Rattle.std.proofs.Common.{string_bytes, refl, sym, ap, ◌∙◌}
 use Rattle.std.proofs.lemmas.Bool.{false≢true}
 use Rattle.std.proofs.lemmas.List.{drop_more, map-append}
 use Rattle.std.proofs.lemmas.List.Sums.{AllPass-from_list_all, list_all-from_AllPass}
@@ -36,27 +38,32 @@ at_place all i one inside is = drop_more all i one inside ∙ ap (λ a. a ∷ dr
 abbrev pub IsLeft : List (String Global) → List ℕ → ℕ → Type 0
 IsLeft names name i = is_among (map string_bytes names) name ≡ is_among (map string_bytes (drop i names)) name
 
-pub one_name : (names : List (String Global)) (name : List ℕ) (i : ℕ) (other : String Global) (same : Bool) → i < length names → other ≡ get_or names i other
+pub one_name : (names : List (String Global)) (name : List ℕ) (i : ℕ) (other : String Global) (same : Bool) → i < length names
+    → other ≡ get_or names i other
     → same ≡ str_eq_ignore_ascii_case (string_bytes other) name
     → is_among (map string_bytes (drop i names)) name ≡ (same || is_among (map string_bytes (drop (i + 1) names)) name)
 one_name names name i other same inside is e =
     ap (λ all. is_among (map string_bytes all) name) (at_place names i other inside is)
     ∙ ap (λ b. b || is_among (map string_bytes (drop (i + 1) names)) name) (sym e)
 
-pub no_name_left : (names : List (String Global)) (name : List ℕ) (i : ℕ) → drop i names ≡ [] → IsLeft names name i → false ≡ is_among (map string_bytes names) name
+pub no_name_left : (names : List (String Global)) (name : List ℕ) (i : ℕ) → drop i names ≡ [] → IsLeft names name i
+    → false ≡ is_among (map string_bytes names) name
 no_name_left names name i past left = sym (left ∙ ap (λ all. is_among (map string_bytes all) name) past)
 
 -- the names of all values are those so far with those of the values from a place on
 abbrev pub AreSoFar : List Value → List (String Global) → ℕ → Type 0
 AreSoFar values names i = names_after [] (items_view values) ≡ names_after (map string_bytes names) (items_view (drop i values))
 
-pub one_value : (values : List Value) (names : List (String Global)) (i : ℕ) (value : Value) → i < length values → value ≡ get_or values i value → AreSoFar values names i
+pub one_value : (values : List Value) (names : List (String Global)) (i : ℕ) (value : Value) → i < length values
+    → value ≡ get_or values i value → AreSoFar values names i
     → names_after [] (items_view values)
-    ≡ option_and_then (λ name. names_after (map string_bytes names ++ name ∷ []) (items_view (drop (i + 1) values))) (name_in (map string_bytes names) (view value))
+    ≡ option_and_then (λ name. names_after (map string_bytes names ++ name ∷ []) (items_view (drop (i + 1) values)))
+    (name_in (map string_bytes names) (view value))
 one_value values names i value inside is so_far =
     so_far ∙ ap (λ all. names_after (map string_bytes names) (items_view all)) (at_place values i value inside is)
 
-pub no_name : (values : List Value) (names : List (String Global)) (i : ℕ) (value : Value) → i < length values → value ≡ get_or values i value → AreSoFar values names i
+pub no_name : (values : List Value) (names : List (String Global)) (i : ℕ) (value : Value) → i < length values
+    → value ≡ get_or values i value → AreSoFar values names i
     → name_in (map string_bytes names) (view value) ≡ None → None ≡ names_after [] (items_view values)
 no_name values names i value inside is so_far none =
     sym (one_value values names i value inside is so_far
@@ -76,10 +83,12 @@ pub all_names : (values : List Value) (names : List (String Global)) (i : ℕ) �
 all_names values names i past so_far = sym (so_far ∙ ap (λ all. names_after (map string_bytes names) (items_view all)) past)
 
 -- what was found is what the document says
-pub said_by : {A B : Type 0} (v : A → B) (found : Option A) (says : Option B) → option_map v found ≡ says → IfSome found (λ value. says ≡ Some (v value))
+pub said_by : {A B : Type 0} (v : A → B) (found : Option A) (says : Option B) → option_map v found ≡ says
+    → IfSome found (λ value. says ≡ Some (v value))
 said_by v None says is = tt
 said_by v (Some value) says is = sym is
 
-pub unsaid_by : {A B : Type 0} (v : A → B) (found : Option A) (says : Option B) → option_map v found ≡ says → IfNone found ((value : B) → says ≡ Some value → ⊥)
+pub unsaid_by : {A B : Type 0} (v : A → B) (found : Option A) (says : Option B) → option_map v found ≡ says
+    → IfNone found ((value : B) → says ≡ Some value → ⊥)
 unsaid_by v None says is = λ value some. cc
 unsaid_by v (Some value) says is = tt

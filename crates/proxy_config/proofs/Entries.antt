@@ -1,5 +1,6 @@
 -- What a table has at the keys of its entries.
-use Rattle.std.proofs.Common.{◌≡◌, ℕ, ◌⊎◌, List, [], ◌∷◌, Option, Some, IsSome, IsTrue, All, Ordering, Less, Equal, Greater, String, Global, nat_cmp, string_cmp, string_bytes, option_map, refl, sym, ap, ◌∙◌, subst, inl, inr}
+use Rattle.std.proofs.Common.{◌≡◌, ℕ, ◌⊎◌, List, [], ◌∷◌, Option, Some, IsSome, IsTrue, All, Ordering, Less, Equal, Greater, String, Global}
+use Rattle.std.proofs.Common.{nat_cmp, string_cmp, string_bytes, option_map, refl, sym, ap, ◌∙◌, subst, inl, inr}
 use Rattle.std.proofs.lemmas.Bool.{false≢true}
 use Rattle.std.proofs.lemmas.List.Elements.{All-weaker}
 use Rattle.std.proofs.lemmas.Map.Lookups.{exact_bytes}
@@ -33,10 +34,12 @@ has_text key (e ∷ es) some =
     has_at (slice_cmp nat_cmp key (string_bytes e.0)) key e es (get_member key (members_view es)) refl some (has_text key es)
 
 -- what the map finds at an entry's key is in the table
-pub held_at : (es : List Entry) (e : Entry) → lookup (is_at (string_cmp e.0)) es ≡ Some e.1 → get_member (string_bytes e.0) (members_view es) ≡ Some (view e.1)
+pub held_at : (es : List Entry) (e : Entry) → lookup (is_at (string_cmp e.0)) es ≡ Some e.1
+    → get_member (string_bytes e.0) (members_view es) ≡ Some (view e.1)
 held_at es e found = sym (view-lookup (string_bytes e.0) es) ∙ ap (option_map view) found
 
-pub held : (es : List Entry) → All (λ (e : Entry). lookup (is_at (string_cmp e.0)) es ≡ Some e.1) es → All (λ (e : Entry). get_member (string_bytes e.0) (members_view es) ≡ Some (view e.1)) es
+pub held : (es : List Entry) → All (λ (e : Entry). lookup (is_at (string_cmp e.0)) es ≡ Some e.1) es
+    → All (λ (e : Entry). get_member (string_bytes e.0) (members_view es) ≡ Some (view e.1)) es
 held es found = All-weaker
     (λ (e : Entry). lookup (is_at (string_cmp e.0)) es ≡ Some e.1)
     (λ (e : Entry). get_member (string_bytes e.0) (members_view es) ≡ Some (view e.1))
@@ -44,7 +47,8 @@ held es found = All-weaker
     es
     found
 
-ahead_of : (key : String Global) (keys : List (String Global)) → AllByRecursion (λ (other : String Global). string_cmp key other ≡ Less) keys
+ahead_of : (key : String Global) (keys : List (String Global))
+    → AllByRecursion (λ (other : String Global). string_cmp key other ≡ Less) keys
     → (later : List ℕ) → HasText keys later → IsTrue (comes_before (string_bytes key) later)
 ahead_of key [] above later has = absurd has
 ahead_of key (other ∷ keys) above later has =
@@ -60,6 +64,7 @@ pub ahead : (key : String Global) (keys : List (String Global)) → IsStrictlySo
 unfolding IsStrictlySortedBy
 ahead key keys ascending = ahead_of key keys ascending.0
 
-pub ascending_rest : (key : String Global) (keys : List (String Global)) → IsStrictlySortedBy string_cmp (key ∷ keys) → IsStrictlySortedBy string_cmp keys
+pub ascending_rest : (key : String Global) (keys : List (String Global)) → IsStrictlySortedBy string_cmp (key ∷ keys)
+    → IsStrictlySortedBy string_cmp keys
 unfolding IsStrictlySortedBy
 ascending_rest key keys ascending = ascending.1

@@ -1,5 +1,6 @@
 -- Comparing the values of keys, one after the other.
-use Rattle.std.proofs.Common.{◌≡◌, ◌↔◌, ◌==◌, ℕ, List, [], ◌∷◌, ◌++◌, Bool, true, false, if◌then◌else◌, Option, Some, None, IsTrue, inl, inr, refl, ap, rules}
+use Rattle.std.proofs.Common.{◌≡◌, ◌↔◌, ◌==◌, ℕ, List, [], ◌∷◌, ◌++◌, Bool, true, false, if◌then◌else◌, Option, Some, None, IsTrue, inl}
+use Rattle.std.proofs.Common.{inr, refl, ap, rules}
 use Rattle.std.proofs.lemmas.Bool.{false≢true}
 use Rattle.std.proofs.lemmas.Bool.Decides.{Decides-eqb}
 use Rattle.std.proofs.Math.Bool.{beq}
@@ -13,7 +14,8 @@ abbrev pub AreChecks : List Row → Config → Config → List (List ℕ × Bool
 AreChecks [] old new [] = Unit {0}
 AreChecks [] old new (check ∷ checks) = ⊥
 AreChecks (row ∷ rows) old new [] = ⊥
-AreChecks (row ∷ rows) old new (check ∷ checks) = (check.0 ≡ row.name) × (IsTrue check.1 ↔ Agrees row old new) × AreChecks rows old new checks
+AreChecks (row ∷ rows) old new (check ∷ checks) = (check.0 ≡ row.name) × (IsTrue check.1 ↔ Agrees row old new)
+    × AreChecks rows old new checks
 
 -- two numbers, and two truth values, are compared
 pub same_number : (a b : ℕ) → IsTrue (a == b) ↔ (a ≡ b)
@@ -22,7 +24,8 @@ same_number a b = ((Decides-eqb a b).0, (Decides-eqb a b).1)
 pub same_truth : (a b : Bool) → IsTrue (beq a b) ↔ (a ≡ b)
 same_truth a b = ((booleans_Decides a b).0, (booleans_Decides a b).1)
 
-first_here : (same : Bool) (row : Row) (rows : List Row) (old new : Config) (name : List ℕ) (later : Option (List ℕ)) → name ≡ row.name → (IsTrue same ↔ Agrees row old new)
+first_here : (same : Bool) (row : Row) (rows : List Row) (old new : Config) (name : List ℕ) (later : Option (List ℕ)) → name ≡ row.name
+    → (IsTrue same ↔ Agrees row old new)
     → IsFirstChange rows old new later → IsFirstChange (row ∷ rows) old new (if same then later else Some name)
 unfolding IsFirstChange
 first_here true row rows old new name later is agrees first = inl (agrees.0 refl, first)
@@ -32,7 +35,8 @@ none_first : (old new : Config) → IsFirstChange [] old new None
 unfolding IsFirstChange
 none_first old new = refl
 
-pub first_is : (rows : List Row) (old new : Config) (checks : List (List ℕ × Bool)) → AreChecks rows old new checks → IsFirstChange rows old new (first_other checks)
+pub first_is : (rows : List Row) (old new : Config) (checks : List (List ℕ × Bool)) → AreChecks rows old new checks
+    → IsFirstChange rows old new (first_other checks)
 first_is [] old new [] are = none_first old new
 first_is [] old new (check ∷ checks) are = absurd are
 first_is (row ∷ rows) old new [] are = absurd are
@@ -40,7 +44,8 @@ first_is (row ∷ rows) old new (check ∷ checks) are =
     first_here check.1 row rows old new check.0 (first_other checks) are.0 are.1 (first_is rows old new checks are.2)
 
 -- keys on which they agree, before others
-pub none_before : (rows more : List Row) (old new : Config) (found : Option (List ℕ)) → IsFirstChange rows old new None → IsFirstChange more old new found
+pub none_before : (rows more : List Row) (old new : Config) (found : Option (List ℕ)) → IsFirstChange rows old new None
+    → IsFirstChange more old new found
     → IsFirstChange (rows ++ more) old new found
 unfolding IsFirstChange
 none_before [] more old new found none first = first
@@ -50,7 +55,8 @@ none_before (row ∷ rows) more old new found none first = elim none as (λ _. I
 ]
 
 -- the first of some keys is that of more
-pub some_before : (rows more : List Row) (old new : Config) (key : List ℕ) → IsFirstChange rows old new (Some key) → IsFirstChange (rows ++ more) old new (Some key)
+pub some_before : (rows more : List Row) (old new : Config) (key : List ℕ) → IsFirstChange rows old new (Some key)
+    → IsFirstChange (rows ++ more) old new (Some key)
 unfolding IsFirstChange
 some_before [] more old new key first = search (rules, first)
 some_before (row ∷ rows) more old new key first = elim first as (λ _. IsFirstChange (row ∷ rows ++ more) old new (Some key)) [

@@ -14,14 +14,16 @@ both_literal : (host : List ℕ) (port : Option ℕ) (a b : SocketAddrV4) → Is
 both_literal host port a b h k =
     same_address a b (IsIpv4Text_unique host (v4_ip a) (v4_ip b) h.ip k.ip) (h.of_port ∙ sym k.of_port)
 
-both_named : (hosts : Hosts) (host : List ℕ) (port : Option ℕ) (a b : SocketAddrV4) → IsNamed hosts host port a → IsNamed hosts host port b → a ≡ b
+both_named : (hosts : Hosts) (host : List ℕ) (port : Option ℕ) (a b : SocketAddrV4) → IsNamed hosts host port a → IsNamed hosts host port b
+    → a ≡ b
 both_named hosts host port a b h k =
     let same : h.entry ≡ k.entry = same_Some h.entry k.entry (sym h.found ∙ k.found) in
     same_address a b
     (h.ip ∙ ap v4_ip same ∙ sym k.ip)
     (h.of_port ∙ ap (λ e. port_or (v4_port e) port) same ∙ sym k.of_port)
 
-pub IsAt_unique : (hosts : Hosts) (host : List ℕ) (port : Option ℕ) (a b : SocketAddrV4) → IsAt hosts host port a → IsAt hosts host port b → a ≡ b
+pub IsAt_unique : (hosts : Hosts) (host : List ℕ) (port : Option ℕ) (a b : SocketAddrV4) → IsAt hosts host port a → IsAt hosts host port b
+    → a ≡ b
 IsAt_unique hosts host port a b (inl h) (inl k) = both_literal host port a b h k
 IsAt_unique hosts host port a b (inl h) (inr k) = absurd (k.no_literal (v4_ip a) h.ip)
 IsAt_unique hosts host port a b (inr h) (inl k) = absurd (h.no_literal (v4_ip b) k.ip)

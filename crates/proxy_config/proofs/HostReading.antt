@@ -1,5 +1,6 @@
 -- Reading the host names one after the other.
-use Rattle.std.proofs.Common.{◌≡◌, ℕ, ◌⊎◌, ◌||◌, List, [], ◌∷◌, ◌++◌, Bool, true, false, Some, IsTrue, All, Contains, String, Global, BTreeSet, string_cmp, string_bytes, codes, refl, sym, ap, ◌∙◌, subst, inl, inr, rules}
+use Rattle.std.proofs.Common.{◌≡◌, ℕ, ◌⊎◌, ◌||◌, List, [], ◌∷◌, ◌++◌, Bool, true, false, Some, IsTrue, All, Contains, String, Global}
+use Rattle.std.proofs.Common.{BTreeSet, string_cmp, string_bytes, codes, refl, sym, ap, ◌∙◌, subst, inl, inr, rules}
 use Rattle.std.proofs.lemmas.Bool.{false≢true}
 use Rattle.std.proofs.lemmas.List.Elements.{All-nil, All-head, All-tail, All-push, Contains-push, Contains-append_left}
 use Rattle.std.proofs.lemmas.Slice.Eq.{bytes_eq-Decides}
@@ -75,7 +76,8 @@ or_cases : (a b : Bool) → (a || b) ≡ true → (a ≡ true) ⊎ (b ≡ true)
 or_cases true b h = inl refl
 or_cases false b h = inr h
 
-value_of : (key : List ℕ) (names : Members) (value : Data) → get_member key names ≡ Some value → (address : SocketAddrV4) → HasAddress key names address → IsAddress value address
+value_of : (key : List ℕ) (names : Members) (value : Data) → get_member key names ≡ Some value → (address : SocketAddrV4)
+    → HasAddress key names address → IsAddress value address
 value_of key names value at address has =
     let same : has.0 ≡ value = search (rules, has.1, at) in
     let P : Data → Type 0 = λ d. IsAddress d address in
@@ -84,12 +86,15 @@ value_of key names value at address has =
 has_key : (key : List ℕ) (names : Members) (value : Data) → get_member key names ≡ Some value → HasKey names key
 has_key key names value at = search (rules, at)
 
-at_head : (names : Members) (seen : BTreeSet (String Global)) (hosts : List Host) (e : Entry) (more : List Entry) → IsReading names seen hosts (e ∷ more)
+at_head : (names : Members) (seen : BTreeSet (String Global)) (hosts : List Host) (e : Entry) (more : List Entry)
+    → IsReading names seen hosts (e ∷ more)
     → get_member (string_bytes e.0) names ≡ Some (view e.1)
-at_head names seen hosts e more reading = All-head (λ (d : Entry). get_member (string_bytes d.0) names ≡ Some (view d.1)) e more reading.held
+at_head names seen hosts e more reading = All-head (λ (d : Entry). get_member (string_bytes d.0) names ≡ Some (view d.1)) e more
+    reading.held
 
 -- no name of the rest, and none that was read, is before the first of the rest and bad
-pub first_bad : (names : Members) (seen : BTreeSet (String Global)) (hosts : List Host) (e : Entry) (more : List Entry) → IsReading names seen hosts (e ∷ more)
+pub first_bad : (names : Members) (seen : BTreeSet (String Global)) (hosts : List Host) (e : Entry) (more : List Entry)
+    → IsReading names seen hosts (e ∷ more)
     → IsTrue (is_seen seen (string_bytes e.0)) ⊎ ((address : SocketAddrV4) → IsAddress (view e.1) address → ⊥)
     → IsFirst (IsBadName names) (string_bytes e.0)
 first_bad names seen hosts e more reading bad =
@@ -108,7 +113,8 @@ first_bad names seen hosts e more reading bad =
     record { has = (has_key (string_bytes e.0) names (view e.1) at, why); none_before = none_bad }
 
 -- a new name with an address is read
-pub continues : (names : Members) (seen after : BTreeSet (String Global)) (hosts : List Host) (host : Host) (e : Entry) (more : List Entry) → IsReading names seen hosts (e ∷ more)
+pub continues : (names : Members) (seen after : BTreeSet (String Global)) (hosts : List Host) (host : Host) (e : Entry) (more : List Entry)
+    → IsReading names seen hosts (e ∷ more)
     → is_seen seen (string_bytes e.0) ≡ false → Marks (string_bytes e.0) seen after
     → string_bytes host.name ≡ string_bytes e.0 → IsAddress (view e.1) host.address → IsReading names after (hosts ++ host ∷ []) more
 continues names seen after hosts host e more reading new marks named address =
@@ -137,15 +143,22 @@ continues names seen after hosts host e more reading new marks named address =
     record {
       ascending = ascending_rest e.0 (keys_of more) reading.ascending;
       held = All-tail (λ (d : Entry). get_member (string_bytes d.0) names ≡ Some (view d.1)) e more reading.held;
-      done = λ other has_other. elim (reading.done other has_other) as (λ _. IsDone names after (hosts ++ host ∷ []) other ⊎ HasText (keys_of more) other) [
-        | inl done ↦ inl (still other done)
-        | inr (inl same) ↦ inl (subst D (sym same) now)
-        | inr (inr later) ↦ inr later
-      ];
-      seen_before = λ other marked. elim (or_cases (str_eq_ignore_ascii_case (string_bytes e.0) other) (is_seen seen other) (sym (marks other) ∙ marked)) as (λ _. SeenBefore names more other) [
-        | inl same ↦ (string_bytes e.0, has_key (string_bytes e.0) names (view e.1) at, same, λ later has_later. ahead e.0 (keys_of more) reading.ascending later has_later)
-        | inr before ↦ (let b = reading.seen_before other before in (b.0, b.1, b.2, λ later has_later. b.3 later (inr has_later)))
-      ];
+      done = λ other has_other. elim (reading.done other has_other) as (λ _. IsDone names after (hosts ++ host ∷ []) other
+          ⊎ HasText (keys_of more) other) [
+            | inl done ↦ inl (still other done)
+            | inr (inl same) ↦ inl (subst D (sym same) now)
+            | inr (inr later) ↦ inr later
+          ];
+      seen_before = λ other marked. elim (or_cases (str_eq_ignore_ascii_case (string_bytes e.0) other) (is_seen seen other)
+          (sym (marks other) ∙ marked)) as (λ _. SeenBefore names more other) [
+            | inl same ↦ (
+              string_bytes e.0,
+              has_key (string_bytes e.0) names (view e.1) at,
+              same,
+              λ later has_later. ahead e.0 (keys_of more) reading.ascending later has_later,
+            )
+            | inr before ↦ (let b = reading.seen_before other before in (b.0, b.1, b.2, λ later has_later. b.3 later (inr has_later)))
+          ];
       only = All-push (λ (h : Host). HasAddress (string_bytes h.name) names h.address) hosts host reading.only (subst Q (sym named) has);
     }
 
@@ -153,13 +166,16 @@ continues names seen after hosts host e more reading new marks named address =
 pub finishes : (names : Members) (seen : BTreeSet (String Global)) (hosts : List Host) → IsReading names seen hosts [] → HasEach names hosts
 finishes names seen hosts reading = record {
   none_bad = λ name bad. elim (reading.done name bad.0) as (λ _. ⊥) [ inl done ↦ done.good bad | inr none ↦ none ];
-  each = λ name has. elim (reading.done name has) as (λ _. (host : Host) × Contains hosts host × (string_bytes host.name ≡ name)) [ inl done ↦ done.has_host | inr none ↦ absurd none ];
+  each = λ name has. elim (reading.done name has) as (λ _. (host : Host) × Contains hosts host × (string_bytes host.name ≡ name))
+      [ inl done ↦ done.has_host | inr none ↦ absurd none ];
   only = reading.only;
 }
 
 -- the same by the text that stands for the name
-pub continues_at : (names : Members) (seen after : BTreeSet (String Global)) (hosts : List Host) (host : Host) (e : Entry) (more : List Entry) (text : List ℕ) → IsReading names seen hosts (e ∷ more)
-    → text ≡ string_bytes e.0 → is_seen seen text ≡ false → Marks text seen after → string_bytes host.name ≡ text → IsAddress (view e.1) host.address
+pub continues_at : (names : Members) (seen after : BTreeSet (String Global)) (hosts : List Host) (host : Host) (e : Entry)
+    (more : List Entry) (text : List ℕ) → IsReading names seen hosts (e ∷ more)
+    → text ≡ string_bytes e.0 → is_seen seen text ≡ false → Marks text seen after → string_bytes host.name ≡ text
+    → IsAddress (view e.1) host.address
     → IsReading names after (hosts ++ host ∷ []) more
 continues_at names seen after hosts host e more text reading is new marks named address =
     let F : List ℕ → Type 0 = λ t. (is_seen seen t ≡ false) × (Marks t seen after × (string_bytes host.name ≡ t)) in
@@ -167,12 +183,15 @@ continues_at names seen after hosts host e more text reading is new marks named 
     continues names seen after hosts host e more reading new_name marks_name named_so address
 
 -- the fault of the first of the rest names it
-pub bad_name : (names : Members) (seen : BTreeSet (String Global)) (hosts : List Host) (e : Entry) (more : List Entry) (text : List ℕ) → IsReading names seen hosts (e ∷ more)
+pub bad_name : (names : Members) (seen : BTreeSet (String Global)) (hosts : List Host) (e : Entry) (more : List Entry) (text : List ℕ)
+    → IsReading names seen hosts (e ∷ more)
     → text ≡ string_bytes e.0 → (fault : ConfigFault) → IsFaultAt (nested (codes "hosts") text) fault
-    → Names (λ _. IsTrue (is_seen seen text) ⊎ ((address : SocketAddrV4) → IsAddress (view e.1) address → ⊥)) fault → Names (IsInHosts names) fault
+    → Names (λ _. IsTrue (is_seen seen text) ⊎ ((address : SocketAddrV4) → IsAddress (view e.1) address → ⊥)) fault
+    → Names (IsInHosts names) fault
 bad_name names seen hosts e more text reading is Text named bad = absurd named
 bad_name names seen hosts e more text reading is (Key key) named bad =
-    let F : List ℕ → Type 0 = λ t. (string_bytes key ≡ nested (codes "hosts") t) × (IsTrue (is_seen seen t) ⊎ ((address : SocketAddrV4) → IsAddress (view e.1) address → ⊥)) in
+    let F : List ℕ → Type 0 = λ t. (string_bytes key ≡ nested (codes "hosts") t)
+    × (IsTrue (is_seen seen t) ⊎ ((address : SocketAddrV4) → IsAddress (view e.1) address → ⊥)) in
     let (named_so, bad_so) = subst F is (named, bad) in
     (string_bytes e.0, first_bad names seen hosts e more reading bad_so, named_so)
 bad_name names seen hosts e more text reading is NoMemory named bad = tt

@@ -1,5 +1,6 @@
 -- A name is looked for only among the hosts that have its number.
-use Rattle.std.proofs.Common.{◌≡◌, ◌≢◌, ◌<◌, ◌≤◌, ℕ, zero, suc, length, List, [], ◌∷◌, Bool, true, false, Some, None, drop, get_or, if◌then◌else◌, string_bytes, refl, sym, ap, subst, ◌+◌, ◌∙◌, arith}
+use Rattle.std.proofs.Common.{◌≡◌, ◌≢◌, ◌<◌, ◌≤◌, ℕ, zero, suc, length, List, [], ◌∷◌, Bool, true, false, Some, None, drop, get_or}
+use Rattle.std.proofs.Common.{if◌then◌else◌, string_bytes, refl, sym, ap, subst, ◌+◌, ◌∙◌, arith}
 use Rattle.std.proofs.lemmas.List.{drop_more}
 use Rattle.std.proofs.lemmas.List.Sorted.{IsNonDecreasingBy-drop}
 use Rattle.std.proofs.lemmas.Slice.Eq.{bytes_eq-Decides}

@@ -1,5 +1,6 @@
 -- What a key that is next says of those after it, and of the document's first fault.
-use Rattle.std.proofs.Common.{◌≡◌, ℕ, List, [], ◌∷◌, Option, Some, None, IfSome, IfNone, Result, Ok, Err, IfOk, IfErr, codes, inl, inr, sym, subst}
+use Rattle.std.proofs.Common.{◌≡◌, ℕ, List, [], ◌∷◌, Option, Some, None, IfSome, IfNone, Result, Ok, Err, IfOk, IfErr, codes, inl, inr, sym}
+use Rattle.std.proofs.Common.{subst}
 use Rattle.toml.specs.Data.{Members}
 use Rattle.proxy_config.specs.declared.fault.ConfigFault.{ConfigFault}
 use Rattle.proxy_config.specs.Config.{IsFirstFault, IsFirstIn}
@@ -12,13 +13,15 @@ use Rattle.proxy_config.proofs.Found.{some_at, at_none}
 use Rattle.proxy_config.proofs.Refusals.{names_so}
 
 -- what is said of a row's kind and name, where these are its kind and its name
-of_row : (P : Kind → List ℕ → Type 0) (row : Row) (name : List ℕ) (kind : Kind) → row.name ≡ name → row.kind ≡ kind → P kind name → P row.kind row.name
+of_row : (P : Kind → List ℕ → Type 0) (row : Row) (name : List ℕ) (kind : Kind) → row.name ≡ name → row.kind ≡ kind → P kind name
+    → P row.kind row.name
 of_row P row name kind same_name same_kind p =
     let Q : List ℕ → Type 0 = λ n. P row.kind n in
     let R : Kind → Type 0 = λ k. P k name in
     subst Q (sym same_name) (subst R (sym same_kind) p)
 
-goes_on : (rows : List Row) (name : List ℕ) (kind : Kind) (document : Members) → Begins rows name kind → Reaches rows document → IsGood kind name document
+goes_on : (rows : List Row) (name : List ℕ) (kind : Kind) (document : Members) → Begins rows name kind → Reaches rows document
+    → IsGood kind name document
     → Reaches (rest rows) document
 unfolding IsFirstIn
 goes_on [] name kind document begins reached good = absurd begins
@@ -38,7 +41,8 @@ pub past : (name : List ℕ) (kind : Kind) (document : Members) → IsNext name 
 past name kind document next good = goes_on (rows_from name table) name kind document next.is_row next.reached good
 
 -- the fault of a key that is next is the document's first
-pub first_fault : (name : List ℕ) (kind : Kind) (document : Members) → IsNext name kind document → (found : List ℕ) → IsFaultOf kind name document found
+pub first_fault : (name : List ℕ) (kind : Kind) (document : Members) → IsNext name kind document → (found : List ℕ)
+    → IsFaultOf kind name document found
     → IsFirstFault document found
 first_fault name kind document next = stops (rows_from name table) name kind document next.is_row next.reached
 
@@ -55,27 +59,34 @@ names_first name kind document next =
     names_so (IsFaultOf kind name document) (IsFirstFault document) (first_fault name kind document next)
 
 -- what was found for a key that needs a value: where there is one the key is good
-pub past_found : {A : Type 0} (P : A → Type 0) (found : Option A) (r : Result A ConfigFault) (name : List ℕ) (kind : Kind) (document : Members)
-    → IsNext name kind document → ((value : A) → P value → IsGood kind name document) → IfSome found P → IfOk r (λ value. found ≡ Some value)
+pub past_found : {A : Type 0} (P : A → Type 0) (found : Option A) (r : Result A ConfigFault) (name : List ℕ) (kind : Kind)
+    (document : Members)
+    → IsNext name kind document → ((value : A) → P value → IsGood kind name document) → IfSome found P
+    → IfOk r (λ value. found ≡ Some value)
     → IfOk r (λ _. IsPast name document)
 past_found P found (Ok value) name kind document next good some is = past name kind document next (good value (some_at P is some))
 past_found P found (Err fault) name kind document next good some is = tt
 
 -- and where there is none it is the first at fault
-pub fault_found : {A : Type 0} (P : A → Type 0) (found : Option A) (r : Result A ConfigFault) (name : List ℕ) (kind : Kind) (document : Members)
+pub fault_found : {A : Type 0} (P : A → Type 0) (found : Option A) (r : Result A ConfigFault) (name : List ℕ) (kind : Kind)
+    (document : Members)
     → IsNext name kind document → ((key : List ℕ) → ((value : A) → P value → ⊥) → key ≡ name → IsFaultOf kind name document key)
-    → IfNone found ((value : A) → P value → ⊥) → IfErr r (λ _. found ≡ None) → IfErr r (IsFaultAt name) → IfErr r (Names (IsFirstFault document))
+    → IfNone found ((value : A) → P value → ⊥) → IfErr r (λ _. found ≡ None) → IfErr r (IsFaultAt name)
+    → IfErr r (Names (IsFirstFault document))
 fault_found P found (Ok value) name kind document next bad none is named = tt
 fault_found P found (Err fault) name kind document next bad none is named =
-    names_so (λ key. key ≡ name) (IsFirstFault document) (λ key same. first_fault name kind document next key (bad key (at_none is none) same)) fault named
+    names_so (λ key. key ≡ name) (IsFirstFault document) (λ key same. first_fault name kind document next key
+    (bad key (at_none is none) same)) fault named
 
 -- the same by whatever the want of a value means
-pub fault_without : {A : Type 0} {Q : Type 0} (found : Option A) (r : Result A ConfigFault) (name : List ℕ) (kind : Kind) (document : Members)
+pub fault_without : {A : Type 0} {Q : Type 0} (found : Option A) (r : Result A ConfigFault) (name : List ℕ) (kind : Kind)
+    (document : Members)
     → IsNext name kind document → ((key : List ℕ) → Q → key ≡ name → IsFaultOf kind name document key)
     → IfNone found Q → IfErr r (λ _. found ≡ None) → IfErr r (IsFaultAt name) → IfErr r (Names (IsFirstFault document))
 fault_without found (Ok value) name kind document next bad none is named = tt
 fault_without found (Err fault) name kind document next bad none is named =
-    names_so (λ key. key ≡ name) (IsFirstFault document) (λ key same. first_fault name kind document next key (bad key (at_none is none) same)) fault named
+    names_so (λ key. key ≡ name) (IsFirstFault document) (λ key same. first_fault name kind document next key
+    (bad key (at_none is none) same)) fault named
 
 -- what was found is what the document says
 pub said : {A : Type 0} (found says : Option A) → found ≡ says → IfSome found (λ value. says ≡ Some value)

@@ -1,5 +1,6 @@
 -- Hosts are added for the words of a line, and for the lines of a text.
-use Rattle.std.proofs.Common.{◌≡◌, ℕ, List, [], ◌∷◌, ◌++◌, length, map, Bool, true, nat_lt, All, IsUtf8, string_bytes, inl, inr, sym, ap, ◌∙◌, subst, arith, rules}
+use Rattle.std.proofs.Common.{◌≡◌, ℕ, List, [], ◌∷◌, ◌++◌, length, map, Bool, true, nat_lt, All, IsUtf8, string_bytes, inl, inr, sym, ap}
+use Rattle.std.proofs.Common.{◌∙◌, subst, arith, rules}
 use Rattle.std.proofs.lemmas.Bool.{lt-ltb}
 use Rattle.std.proofs.lemmas.List.{append_assoc, length-append, map-append}
 use Rattle.std.proofs.lemmas.List.Elements.{All-push}
@@ -16,7 +17,8 @@ abbrev pub names_of : List Host → List (List ℕ)
 names_of hosts = map (λ host. string_bytes host.name) hosts
 
 -- of these words the rest is still to be read; for each before it a host was added
-pub record Adding (address : SocketAddrV4) (words : List (List ℕ)) (old : List Host) (rest : List (List ℕ)) (hosts : List Host) (is_named : Bool) : Type 0 where
+pub record Adding (address : SocketAddrV4) (words : List (List ℕ)) (old : List Host) (rest : List (List ℕ)) (hosts : List Host)
+    (is_named : Bool) : Type 0 where
   pub added : List Host
   pub now : hosts ≡ old ++ added
   pub are : words ≡ names_of added ++ rest
@@ -36,14 +38,17 @@ no_name (name ∷ front) word rest (host ∷ hosts) bad is =
     no_name front word rest hosts bad more
 
 -- one more host was added for the next word
-pub adds_one : (address : SocketAddrV4) (words : List (List ℕ)) (old : List Host) (word : List ℕ) (before rest : List (List ℕ)) (hosts new : List Host) (is_named : Bool)
-    → Adding address words old before hosts is_named → before ≡ word ∷ rest → (host : Host) → string_bytes host.name ≡ word → host.address ≡ address
+pub adds_one : (address : SocketAddrV4) (words : List (List ℕ)) (old : List Host) (word : List ℕ) (before rest : List (List ℕ))
+    (hosts new : List Host) (is_named : Bool)
+    → Adding address words old before hosts is_named → before ≡ word ∷ rest → (host : Host) → string_bytes host.name ≡ word
+    → host.address ≡ address
     → new ≡ hosts ++ host ∷ [] → Adding address words old rest new true
 adds_one address words old word before rest hosts new is_named adding split host name at pushed = record {
   added = adding.added ++ host ∷ [];
   now = pushed ∙ ap (λ (hs : List Host). hs ++ host ∷ []) adding.now ∙ append_assoc old adding.added (host ∷ []);
   are = adding.are ∙ ap (λ ws. names_of adding.added ++ ws) (split ∙ ap (λ w. w ∷ rest) (sym name))
-      ∙ sym (ap (λ ns. ns ++ rest) (map-append (λ (h : Host). string_bytes h.name) adding.added (host ∷ [])) ∙ append_assoc (names_of adding.added) (string_bytes host.name ∷ []) rest);
+      ∙ sym (ap (λ ns. ns ++ rest) (map-append (λ (h : Host). string_bytes h.name) adding.added (host ∷ []))
+      ∙ append_assoc (names_of adding.added) (string_bytes host.name ∷ []) rest);
   at = All-push (λ (h : Host). h.address ≡ address) adding.added host adding.at at;
   some = sym (lt-ltb 0 (length (adding.added ++ host ∷ [])) (omega (arith, length-append adding.added (host ∷ []))));
 }

@@ -1,5 +1,6 @@
 -- Lists of networks, one after the other.
-use Rattle.std.proofs.Common.{◌≡◌, ◌<◌, ◌≤◌, ◌+◌, ℕ, List, [], ◌∷◌, ◌++◌, length, drop, get_or, Option, Some, None, option_and_then, sym, ap, ◌∙◌, subst, append_assoc, inl, inr, arith, rules}
+use Rattle.std.proofs.Common.{◌≡◌, ◌<◌, ◌≤◌, ◌+◌, ℕ, List, [], ◌∷◌, ◌++◌, length, drop, get_or, Option, Some, None, option_and_then, sym}
+use Rattle.std.proofs.Common.{ap, ◌∙◌, subst, append_assoc, inl, inr, arith, rules}
 use Rattle.std.proofs.lemmas.List.{drop_more}
 use Rattle.std.specs.List.{after_first, before_first, position_or_len}
 use Rattle.std.specs.Net.Grammar.{IsIpv4Text}
@@ -9,7 +10,8 @@ use Rattle.toml.specs.Data.{Data, Items, Members, get_member, as_array, as_str}
 use Rattle.toml.specs.View.{view, items_view}
 use Rattle.toml.specs.declared.value.Value.{Value}
 use Rattle.proxy_config.specs.declared.network.Network.{Network}
-use Rattle.proxy_config.specs.Networks.{AreNetworks, HasNetworks, IsIn, IsInOne, IsNetwork, IsNetworkText, SaysNetworks, SaysNetworksOrNone, is_slash}
+use Rattle.proxy_config.specs.Networks.{AreNetworks, HasNetworks, IsIn, IsInOne, IsNetwork, IsNetworkText, SaysNetworks, SaysNetworksOrNone}
+use Rattle.proxy_config.specs.Networks.{is_slash}
 
 -- those from a place on are the one there and those after it
 at_place : {A : Type 0} (all : List A) (i : ℕ) (one : A) → i < length all → one ≡ get_or all i one → drop i all ≡ one ∷ drop (i + 1) all
@@ -23,13 +25,15 @@ pub record IsLeft (networks : List Network) (address : Ipv4Addr) (i : ℕ) : Typ
 pub left_at_first : (networks : List Network) (address : Ipv4Addr) → IsLeft networks address 0
 left_at_first networks address = record { still = λ is. is; there = λ is. is }
 
-pub is_there : (networks : List Network) (address : Ipv4Addr) (i : ℕ) (network : Network) → i < length networks → network ≡ get_or networks i network
+pub is_there : (networks : List Network) (address : Ipv4Addr) (i : ℕ) (network : Network) → i < length networks
+    → network ≡ get_or networks i network
     → IsLeft networks address i → IsIn network address → IsInOne networks address
 is_there networks address i network inside is left in_it =
     let P : List Network → Type 0 = λ rest. IsInOne rest address in
     left.there (subst P (sym (at_place networks i network inside is)) (inl in_it))
 
-pub left_after : (networks : List Network) (address : Ipv4Addr) (i : ℕ) (network : Network) → i < length networks → network ≡ get_or networks i network
+pub left_after : (networks : List Network) (address : Ipv4Addr) (i : ℕ) (network : Network) → i < length networks
+    → network ≡ get_or networks i network
     → IsLeft networks address i → (IsIn network address → ⊥) → IsLeft networks address (i + 1)
 left_after networks address i network inside is left not_in =
     let P : List Network → Type 0 = λ rest. IsInOne rest address in
@@ -41,10 +45,12 @@ left_after networks address i network inside is left not_in =
       there = λ one. left.there (subst P (sym split) (inr one));
     }
 
--- the values before a place are the networks so far: with those of the rest they are those of all, and there are none of all where there are none of the rest
+-- the values before a place are the networks so far: with those of the rest they are those of all, and there are none of all
+-- where there are none of the rest
 pub record AreSoFar (values : List Value) (networks : List Network) (i : ℕ) : Type 0 where
   pub joined : (rest : List Network) → AreNetworks (items_view (drop i values)) rest → AreNetworks (items_view values) (networks ++ rest)
-  pub none : ((rest : List Network) → AreNetworks (items_view (drop i values)) rest → ⊥) → (all : List Network) → AreNetworks (items_view values) all → ⊥
+  pub none : ((rest : List Network) → AreNetworks (items_view (drop i values)) rest → ⊥) → (all : List Network)
+      → AreNetworks (items_view values) all → ⊥
 
 pub none_so_far : (values : List Value) (networks : List Network) → networks ≡ [] → AreSoFar values networks 0
 none_so_far values networks empty =
@@ -58,30 +64,36 @@ no_rest : (value : Value) (values : List Value) → ((network : Network) → IsN
 no_rest value values bad [] are = are
 no_rest value values bad (network ∷ rest) are = bad network are.0
 
-pub no_networks : (values : List Value) (networks : List Network) (i : ℕ) (value : Value) → i < length values → value ≡ get_or values i value
-    → AreSoFar values networks i → ((network : Network) → IsNetwork (view value) network → ⊥) → (all : List Network) → AreNetworks (items_view values) all → ⊥
+pub no_networks : (values : List Value) (networks : List Network) (i : ℕ) (value : Value) → i < length values
+    → value ≡ get_or values i value
+    → AreSoFar values networks i → ((network : Network) → IsNetwork (view value) network → ⊥) → (all : List Network)
+    → AreNetworks (items_view values) all → ⊥
 no_networks values networks i value inside is so_far bad =
     let P : List Value → Type 0 = λ vs. (rest : List Network) → AreNetworks (items_view vs) rest → ⊥ in
     so_far.none (subst P (sym (at_place values i value inside is)) (no_rest value (drop (i + 1) values) bad))
 
 -- a further network
-later_none : (value : Value) (values : List Value) → ((rest : List Network) → AreNetworks (items_view values) rest → ⊥) → (rest : List Network)
+later_none : (value : Value) (values : List Value) → ((rest : List Network) → AreNetworks (items_view values) rest → ⊥)
+    → (rest : List Network)
     → AreNetworks (items_view (value ∷ values)) rest → ⊥
 later_none value values none [] are = are
 later_none value values none (network ∷ rest) are = none rest are.1
 
-pub one_more : (values : List Value) (networks after : List Network) (i : ℕ) (value : Value) (network : Network) → i < length values → value ≡ get_or values i value
+pub one_more : (values : List Value) (networks after : List Network) (i : ℕ) (value : Value) (network : Network) → i < length values
+    → value ≡ get_or values i value
     → AreSoFar values networks i → IsNetwork (view value) network → after ≡ networks ++ network ∷ [] → AreSoFar values after (i + 1)
 one_more values networks after i value network inside is so_far good pushed =
     let split = at_place values i value inside is in
-    let joins : (rest : List Network) → AreNetworks (items_view (drop (i + 1) values)) rest → AreNetworks (items_view values) (networks ++ network ∷ rest)
+    let joins : (rest : List Network) → AreNetworks (items_view (drop (i + 1) values)) rest
+    → AreNetworks (items_view values) (networks ++ network ∷ rest)
     = λ rest are.
     let P : List Value → Type 0 = λ vs. AreNetworks (items_view vs) (network ∷ rest) in
     so_far.joined (network ∷ rest) (subst P (sym split) (good, are)) in
     let Q : List Value → Type 0 = λ vs. (rest : List Network) → AreNetworks (items_view vs) rest → ⊥ in
     record {
       joined = λ rest are.
-          let same : after ++ rest ≡ networks ++ network ∷ rest = ap (λ all. all ++ rest) pushed ∙ append_assoc networks (network ∷ []) rest in
+          let same : after ++ rest ≡ networks ++ network ∷ rest =
+          ap (λ all. all ++ rest) pushed ∙ append_assoc networks (network ∷ []) rest in
           let R : List Network → Type 0 = λ all. AreNetworks (items_view values) all in
           subst R (sym same) (joins rest are);
       none = λ none. so_far.none (subst Q (sym split) (later_none value (drop (i + 1) values) none));
@@ -121,7 +133,8 @@ no_network_in value text at none network is =
     none network (subst P (same_some is.0 text (sym is.1 ∙ at)) is.2)
 
 -- where no value is left, each is a network
-pub all_networks : (values : List Value) (networks : List Network) (i : ℕ) → drop i values ≡ [] → AreSoFar values networks i → AreNetworks (items_view values) networks
+pub all_networks : (values : List Value) (networks : List Network) (i : ℕ) → drop i values ≡ [] → AreSoFar values networks i
+    → AreNetworks (items_view values) networks
 all_networks values networks i past so_far =
     let P : List Value → Type 0 = λ vs. AreNetworks (items_view vs) [] in
     let Q : List Network → Type 0 = λ all. AreNetworks (items_view values) all in
@@ -142,7 +155,8 @@ no_list key document value at none (Some networks) says =
     let both : Some says.0 ≡ None = sym says.1 ∙ (ap (option_and_then as_array) at ∙ none) in
     no_value says.0 both
 
-pub no_list_of : (key : List ℕ) (document : Members) (value : Data) (items : Items) → get_member key document ≡ Some value → as_array value ≡ Some items
+pub no_list_of : (key : List ℕ) (document : Members) (value : Data) (items : Items) → get_member key document ≡ Some value
+    → as_array value ≡ Some items
     → ((networks : List Network) → AreNetworks items networks → ⊥) → (found : Option (List Network)) → SaysNetworks key document found → ⊥
 no_list_of key document value items at is none None says = no_value value (sym at ∙ says)
 no_list_of key document value items at is none (Some networks) says =
@@ -150,7 +164,8 @@ no_list_of key document value items at is none (Some networks) says =
     let P : Items → Type 0 = λ list. AreNetworks list networks in
     none networks (subst P (same_items says.0 items both) says.2)
 
-pub says_list : (key : List ℕ) (document : Members) (value : Data) (items : Items) (networks : List Network) → get_member key document ≡ Some value
+pub says_list : (key : List ℕ) (document : Members) (value : Data) (items : Items) (networks : List Network)
+    → get_member key document ≡ Some value
     → as_array value ≡ Some items → AreNetworks items networks → HasNetworks key document networks
 says_list key document value items networks at is are = (items, ap (option_and_then as_array) at ∙ is, are)
 

@@ -11,14 +11,16 @@ use Rattle.proxy_config.proofs.Addresses.{one_address, some_is_none}
 use Rattle.proxy_config.proofs.Refusals.{names_so}
 
 -- the listener of a key is the one at its address
-pub at_its_address : (key : List ℕ) (document : Members) (to listener : SocketAddrV4) → HasAddress key document listener → ReachesKey key document to
+pub at_its_address : (key : List ℕ) (document : Members) (to listener : SocketAddrV4) → HasAddress key document listener
+    → ReachesKey key document to
     → Reaches to listener
 at_its_address key document to listener has reaches =
     let P : SocketAddrV4 → Type 0 = λ own. Reaches to own in
     subst P (one_address key document reaches.0 listener reaches.1 has) reaches.2
 
 -- what is said of the table that a value is
-pub of_table : (value : Option Data) (table : Members) (Missing Other : Type 0) (P : Members → Type 0) → option_and_then as_table value ≡ Some table → P table
+pub of_table : (value : Option Data) (table : Members) (Missing Other : Type 0) (P : Members → Type 0)
+    → option_and_then as_table value ≡ Some table → P table
     → MatchOption value Missing (λ d. MatchOption (as_table d) Other P)
 of_table None table Missing Other P at p = absurd (some_is_none table (sym at))
 of_table (Some value) table Missing Other P at p =
@@ -34,7 +36,8 @@ fault_in_table document table at =
     (λ t. IsInParent t key ⊎ (IsItsOwnParent document t × (key ≡ codes "parent"))) at (inl is))
 
 -- the key itself is at fault where the table says the proxy itself
-pub own_fault : (document table : Members) → option_and_then as_table (get_member (codes "parent") document) ≡ Some table → IsItsOwnParent document table
+pub own_fault : (document table : Members) → option_and_then as_table (get_member (codes "parent") document) ≡ Some table
+    → IsItsOwnParent document table
     → IsParentFault document (codes "parent")
 own_fault document table at own =
     of_table (get_member (codes "parent") document) table ⊥ (codes "parent" ≡ codes "parent")

@@ -12,7 +12,8 @@ shares_none key document has address at none other other_at shares =
     let P : SocketAddrV4 → Type 0 = λ a. SharesPort a address in
     none (subst P (one_address key document other has other_at at) shares)
 
-pub not_apart : (key own : List ℕ) (document : Members) (has address : SocketAddrV4) → HasAddress key document has → HasAddress own document address
+pub not_apart : (key own : List ℕ) (document : Members) (has address : SocketAddrV4) → HasAddress key document has
+    → HasAddress own document address
     → SharesPort has address → (found : SocketAddrV4) → HasAddress own document found → IsApart key document found → ⊥
 not_apart key own document has address at own_at shares found found_at is_apart =
     let P : SocketAddrV4 → Type 0 = λ a. SharesPort has a in
@@ -29,19 +30,22 @@ no_admin document listen admin at own shares found is =
     not_apart (codes "listen") (codes "admin") document listen admin at own shares found is.0 is.1
 
 pub no_metrics : (document : Members) (listen metrics : SocketAddrV4) → HasAddress (codes "listen") document listen
-    → HasAddress (codes "metrics") document metrics → SharesPort listen metrics → (found : Option SocketAddrV4) → IsMetrics document found → ⊥
+    → HasAddress (codes "metrics") document metrics → SharesPort listen metrics → (found : Option SocketAddrV4) → IsMetrics document found
+    → ⊥
 no_metrics document listen metrics at own shares None is = some_is_none own.0 (sym own.1 ∙ is)
 no_metrics document listen metrics at own shares (Some found) is =
     not_apart (codes "listen") (codes "metrics") document listen metrics at own shares found is.0 is.1
 
 pub no_metrics_beside : (document : Members) (admin metrics : SocketAddrV4) → HasAddress (codes "admin") document admin
-    → HasAddress (codes "metrics") document metrics → SharesPort admin metrics → (found : Option SocketAddrV4) → IsMetrics document found → ⊥
+    → HasAddress (codes "metrics") document metrics → SharesPort admin metrics → (found : Option SocketAddrV4) → IsMetrics document found
+    → ⊥
 no_metrics_beside document admin metrics at own shares None is = some_is_none own.0 (sym own.1 ∙ is)
 no_metrics_beside document admin metrics at own shares (Some found) is =
     not_apart (codes "admin") (codes "metrics") document admin metrics at own shares found is.0 is.2
 
 -- nor where the key is there and no address
 pub no_metrics_at : (document : Members) → IsSome (get_member (codes "metrics") document)
-    → ((address : SocketAddrV4) → HasAddress (codes "metrics") document address → ⊥) → (found : Option SocketAddrV4) → IsMetrics document found → ⊥
+    → ((address : SocketAddrV4) → HasAddress (codes "metrics") document address → ⊥) → (found : Option SocketAddrV4)
+    → IsMetrics document found → ⊥
 no_metrics_at document there none None is = search (rules, there, is)
 no_metrics_at document there none (Some found) is = none found is.0

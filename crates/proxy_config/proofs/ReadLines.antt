@@ -16,7 +16,8 @@ pub starts : (lines : List (List ℕ)) → Reading lines lines [] 0
 starts lines = record { said = λ later is. is; bad = λ n is. is; count = omega arith }
 
 -- one more line was read
-pub reads_one : (lines before rest : List (List ℕ)) (line : List ℕ) (hosts new : List Host) (number : ℕ) → Reading lines before hosts number → before ≡ line ∷ rest
+pub reads_one : (lines before rest : List (List ℕ)) (line : List ℕ) (hosts new : List Host) (number : ℕ) → Reading lines before hosts number
+    → before ≡ line ∷ rest
     → AddsLine line hosts new → Reading lines rest new (number + 1)
 reads_one lines before rest line hosts new number reading split (added, now, says) =
     let at : Reading lines (line ∷ rest) hosts number = subst (λ ls. Reading lines ls hosts number) split reading in
@@ -29,7 +30,8 @@ reads_one lines before rest line hosts new number reading split (added, now, say
     }
 
 -- the next line can't be read
-pub is_bad_at : (text : List ℕ) (before rest : List (List ℕ)) (line : List ℕ) (hosts : List Host) (number : ℕ) → Reading (lines_of text) before hosts number → before ≡ line ∷ rest
+pub is_bad_at : (text : List ℕ) (before rest : List (List ℕ)) (line : List ℕ) (hosts : List Host) (number : ℕ)
+    → Reading (lines_of text) before hosts number → before ≡ line ∷ rest
     → IsBadLine line → IsBadAt text (number + 1)
 is_bad_at text before rest line hosts number reading split bad =
     let at : Reading (lines_of text) (line ∷ rest) hosts number = subst (λ ls. Reading (lines_of text) ls hosts number) split reading in

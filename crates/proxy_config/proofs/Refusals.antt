@@ -22,12 +22,14 @@ names_it key Says says (Key found) named = subst Says (sym named) says
 names_it key Says says NoMemory named = tt
 
 -- what is said of each key that one thing is said of
-pub names_so : (Says Also : List ℕ → Type 0) → ((key : List ℕ) → Says key → Also key) → (fault : ConfigFault) → Names Says fault → Names Also fault
+pub names_so : (Says Also : List ℕ → Type 0) → ((key : List ℕ) → Says key → Also key) → (fault : ConfigFault) → Names Says fault
+    → Names Also fault
 names_so Says Also so Text named = absurd named
 names_so Says Also so (Key found) named = so _ named
 names_so Says Also so NoMemory named = tt
 
 -- a fault that is passed on names what it names
-pub passed_on : {T : Type 0} (r : Result T ConfigFault) (fault : ConfigFault) (Says : List ℕ → Type 0) → IsErrAnd r (λ passed. passed ≡ fault) → Names Says fault → IfErr r (Names Says)
+pub passed_on : {T : Type 0} (r : Result T ConfigFault) (fault : ConfigFault) (Says : List ℕ → Type 0)
+    → IsErrAnd r (λ passed. passed ≡ fault) → Names Says fault → IfErr r (Names Says)
 passed_on (Ok value) fault Says is named = tt
 passed_on (Err passed) fault Says is named = let P : ConfigFault → Type 0 = λ f. Names Says f in subst P (sym is) named

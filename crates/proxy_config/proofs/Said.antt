@@ -20,17 +20,21 @@ said_then (row ∷ xs) ys document config first then = (first.0, said_then xs ys
 -- a configuration that has what the document says for each group of keys is the document's, where no key is unknown
 pub is_config : (document : Members) (config : Config) (s : Sizes) (e : Entrance) (t : Times) (p : Places)
     → AreSaid port_rows document config → AreSaidOf HasSizes size_rows document s → AreSaid message_rows document config
-    → AreSaidOf HasEntrance entrance_rows document e → AreSaidOf HasTimes time_rows document t → AreSaid page_rows document config → AreSaidOf HasPlaces place_rows document p
+    → AreSaidOf HasEntrance entrance_rows document e → AreSaidOf HasTimes time_rows document t → AreSaid page_rows document config
+    → AreSaidOf HasPlaces place_rows document p
     → ((key : List ℕ) → IsUnknown document key → ⊥) → ((status : ℕ) → page_of config.pages status ≡ None)
     → HasSizes config s → HasEntrance config e → HasTimes config t → HasPlaces config p → IsConfig document config
-is_config document config s e t p ports sizes messages entrance times pages places unknown no_pages has_sizes has_entrance has_times has_places = record {
-  values =
-      said_then port_rows (size_rows ++ (message_rows ++ (entrance_rows ++ (time_rows ++ (page_rows ++ place_rows))))) document config ports
-      (said_then size_rows (message_rows ++ (entrance_rows ++ (time_rows ++ (page_rows ++ place_rows)))) document config (sizes config has_sizes)
-      (said_then message_rows (entrance_rows ++ (time_rows ++ (page_rows ++ place_rows))) document config messages
-      (said_then entrance_rows (time_rows ++ (page_rows ++ place_rows)) document config (entrance config has_entrance)
-      (said_then time_rows (page_rows ++ place_rows) document config (times config has_times)
-      (said_then page_rows place_rows document config pages (places config has_places))))));
-  none_unknown = unknown;
-  no_pages = no_pages;
-}
+is_config document config s e t p ports sizes messages entrance times pages places unknown no_pages has_sizes has_entrance has_times
+    has_places = record {
+      values =
+          said_then port_rows (size_rows ++ (message_rows ++ (entrance_rows ++ (time_rows ++ (page_rows ++ place_rows))))) document config
+          ports
+          (said_then size_rows (message_rows ++ (entrance_rows ++ (time_rows ++ (page_rows ++ place_rows)))) document config
+          (sizes config has_sizes)
+          (said_then message_rows (entrance_rows ++ (time_rows ++ (page_rows ++ place_rows))) document config messages
+          (said_then entrance_rows (time_rows ++ (page_rows ++ place_rows)) document config (entrance config has_entrance)
+          (said_then time_rows (page_rows ++ place_rows) document config (times config has_times)
+          (said_then page_rows place_rows document config pages (places config has_places))))));
+      none_unknown = unknown;
+      no_pages = no_pages;
+    }

@@ -32,4 +32,5 @@ same_texts (x ∷ xs) [] is = search (rules, is)
 same_texts (x ∷ xs) (y ∷ ys) is =
     let first : string_bytes x ≡ string_bytes y = search (rules, is) in
     let rest : map string_bytes xs ≡ map string_bytes ys = search (rules, is) in
-    and_true (bytes_eq (string_bytes x) (string_bytes y)) (pointwise string_eq xs ys) ((bytes_eq-Decides (string_bytes x) (string_bytes y)).1 first) (same_texts xs ys rest)
+    and_true (bytes_eq (string_bytes x) (string_bytes y)) (pointwise string_eq xs ys)
+    ((bytes_eq-Decides (string_bytes x) (string_bytes y)).1 first) (same_texts xs ys rest)

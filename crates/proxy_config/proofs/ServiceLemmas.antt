@@ -8,7 +8,8 @@ use Rattle.proxy_config.specs.Services.{text_at, HasHost}
 same_some : {A : Type 0} (x y : A) → Some x ≡ Some y → x ≡ y
 same_some x y e = search (rules, e)
 
-pub no_host : (table : Members) (text : List ℕ) → text_at (codes "host") table ≡ Some text → ((ip : Ipv4Addr) → IsIpv4Text text ip → ⊥) → HasHost table → ⊥
+pub no_host : (table : Members) (text : List ℕ) → text_at (codes "host") table ≡ Some text → ((ip : Ipv4Addr) → IsIpv4Text text ip → ⊥)
+    → HasHost table → ⊥
 no_host table text at none has =
     let P : List ℕ → Type 0 = λ t. IsIpv4Text t has.1 in
     none has.1 (subst P (same_some has.0 text (sym has.2 ∙ at)) has.3)

@@ -1,5 +1,6 @@
 -- The order of texts by their bytes.
-use Rattle.std.proofs.Common.{◌≡◌, ℕ, List, [], ◌∷◌, ◌++◌, true, false, IsTrue, Ordering, Less, Equal, Greater, nat_cmp, is_lt, codes, refl, sym, ap, ◌∙◌, subst}
+use Rattle.std.proofs.Common.{◌≡◌, ℕ, List, [], ◌∷◌, ◌++◌, true, false, IsTrue, Ordering, Less, Equal, Greater, nat_cmp, is_lt, codes, refl}
+use Rattle.std.proofs.Common.{sym, ap, ◌∙◌, subst}
 use Rattle.std.proofs.lemmas.Bool.{false≢true}
 use Rattle.std.proofs.lemmas.Cmp.{nat_cmp_total, nat_list_cmp_total, tied_itself}
 use Rattle.std.proofs.lemmas.Map.Lookups.{exact_bytes}
@@ -29,7 +30,8 @@ goes_on a b c h k = before a c (nat_list_cmp_total.trans a b c (less a b h) (les
 pub not_both : (a b : List ℕ) → IsTrue (comes_before a b) → IsTrue (comes_before b a) → ⊥
 not_both a b h k = not_before_itself a (goes_on a b a h k)
 
-by_order : (a b c : List ℕ) (o : Ordering) → slice_cmp nat_cmp b c ≡ o → IsTrue (comes_before a b) → comes_before c b ≡ false → IsTrue (comes_before a c)
+by_order : (a b c : List ℕ) (o : Ordering) → slice_cmp nat_cmp b c ≡ o → IsTrue (comes_before a b) → comes_before c b ≡ false
+    → IsTrue (comes_before a c)
 by_order a b c Less e h k = goes_on a b c h (before b c e)
 by_order a b c Equal e h k = let P : List ℕ → Type 0 = λ t. IsTrue (comes_before a t) in subst P (exact_bytes b c e) h
 by_order a b c Greater e h k =
@@ -39,7 +41,8 @@ by_order a b c Greater e h k =
 pub before_later : (a b c : List ℕ) → IsTrue (comes_before a b) → comes_before c b ≡ false → IsTrue (comes_before a c)
 before_later a b c h k = by_order a b c (slice_cmp nat_cmp b c) refl h k
 
-in_neither : (a b : List ℕ) (o : Ordering) → slice_cmp nat_cmp a b ≡ o → (IsTrue (comes_before a b) → ⊥) → (IsTrue (comes_before b a) → ⊥) → a ≡ b
+in_neither : (a b : List ℕ) (o : Ordering) → slice_cmp nat_cmp a b ≡ o → (IsTrue (comes_before a b) → ⊥) → (IsTrue (comes_before b a) → ⊥)
+    → a ≡ b
 in_neither a b Less e h k = absurd (h (before a b e))
 in_neither a b Equal e h k = exact_bytes a b e
 in_neither a b Greater e h k = absurd (k (before b a (nat_list_cmp_total.antisymm b a ∙ ap ordering_reverse e)))

@@ -1,7 +1,10 @@
 -- Looking through the keys of a table for the first that isn't known.
-use Rattle.std.proofs.Common.{◌≡◌, ℕ, ◌⊎◌, ◌||◌, arith, Bor, bytes_eq, List, [], ◌∷◌, Bool, true, false, if◌then◌else◌, Option, Some, None, IsSome, IsTrue, All, Contains, String, Global, string_cmp, string_bytes, codes, option_map, option_and_then, refl, sym, ◌∙◌, subst, inl, inr, rules}
+use Rattle.std.proofs.Common.{◌≡◌, ℕ, ◌⊎◌, ◌||◌, arith, Bor, bytes_eq, List, [], ◌∷◌, Bool, true, false, if◌then◌else◌, Option, Some, None}
+use Rattle.std.proofs.Common.{IsSome, IsTrue, All, Contains, String, Global, string_cmp, string_bytes, codes, option_map, option_and_then}
+use Rattle.std.proofs.Common.{refl, sym, ◌∙◌, subst, inl, inr, rules}
 use Rattle.std.proofs.lemmas.Bool.{false≢true}
-use Rattle.std.proofs.lemmas.List.Elements.{All-nil, All-cons, All-contains, All-head, All-tail, All-weaker, Contains-push, Contains-append_cases, Contains-append_left, Contains-append_right}
+use Rattle.std.proofs.lemmas.List.Elements.{All-nil, All-cons, All-contains, All-head, All-tail, All-weaker, Contains-push}
+use Rattle.std.proofs.lemmas.List.Elements.{Contains-append_cases, Contains-append_left, Contains-append_right}
 use Rattle.std.proofs.lemmas.Slice.Eq.{bytes_eq-Decides}
 use Rattle.std.specs.List.{list_any}
 use Rattle.std.specs.BTreeMap.{is_at}
@@ -32,7 +35,8 @@ has_at es key found =
     subst P (view-lookup (string_bytes key) es) (map_some view (lookup (is_at (string_cmp key)) es) found)
 
 pub looks : (known : List (List ℕ)) (es : List Entry) → IsStrictlySortedBy string_cmp (keys_of es)
-    → All (λ (key : String Global). IsSome (lookup (is_at (string_cmp key)) es)) (keys_of es) → IsLooking known (members_view es) (keys_of es)
+    → All (λ (key : String Global). IsSome (lookup (is_at (string_cmp key)) es)) (keys_of es)
+    → IsLooking known (members_view es) (keys_of es)
 looks known es ascending found = record {
   ascending = ascending;
   has = All-weaker
@@ -44,7 +48,8 @@ looks known es ascending found = record {
   done = λ key has. inr (has_text key es has);
 }
 
-pub looks_on : (known : List (List ℕ)) (table : Members) (key : String Global) (rest : List (String Global)) → IsLooking known table (key ∷ rest)
+pub looks_on : (known : List (List ℕ)) (table : Members) (key : String Global) (rest : List (String Global))
+    → IsLooking known table (key ∷ rest)
     → Contains known (string_bytes key) → IsLooking known table rest
 looks_on known table key rest looking is_known =
     let P : List ℕ → Type 0 = λ text. Contains known text in
@@ -58,7 +63,8 @@ looks_on known table key rest looking is_known =
       ];
     }
 
-pub finds : (known : List (List ℕ)) (table : Members) (key : String Global) (rest : List (String Global)) → IsLooking known table (key ∷ rest)
+pub finds : (known : List (List ℕ)) (table : Members) (key : String Global) (rest : List (String Global))
+    → IsLooking known table (key ∷ rest)
     → (Contains known (string_bytes key) → ⊥) → IsFirst (HasOther known table) (string_bytes key)
 finds known table key rest looking is_other = record {
   has = (All-head (λ (k : String Global). HasKey table (string_bytes k)) key rest looking.has, is_other);
@@ -70,20 +76,23 @@ finds known table key rest looking is_other = record {
 }
 
 pub finds_none : (known : List (List ℕ)) (table : Members) → IsLooking known table [] → (key : List ℕ) → HasOther known table key → ⊥
-finds_none known table looking key other = elim (looking.done key other.0) as (λ _. ⊥) [ inl known_too ↦ other.1 known_too | inr none ↦ none ]
+finds_none known table looking key other = elim (looking.done key other.0) as (λ _. ⊥)
+    [ inl known_too ↦ other.1 known_too | inr none ↦ none ]
 
 same_some : {A : Type 0} (x y : A) → Some x ≡ Some y → x ≡ y
 same_some x y e = search (rules, e)
 
 -- the inner key of an unknown key of the table
-inner_of : (known : List (List ℕ)) (name : List ℕ) (document table : Members) (key : List ℕ) → option_and_then as_table (get_member name document) ≡ Some table
+inner_of : (known : List (List ℕ)) (name : List ℕ) (document table : Members) (key : List ℕ)
+    → option_and_then as_table (get_member name document) ≡ Some table
     → (unknown : IsUnknownOf known name document key) → HasOther known table unknown.1
 inner_of known name document table key is unknown =
     let same : unknown.0 ≡ table = same_some unknown.0 table (sym unknown.2 ∙ is) in
     let P : Members → Type 0 = λ t. HasOther known t unknown.1 in
     subst P same unknown.3
 
-pub first_of_table : (known : List (List ℕ)) (name : List ℕ) (document table : Members) (key : List ℕ) → option_and_then as_table (get_member name document) ≡ Some table
+pub first_of_table : (known : List (List ℕ)) (name : List ℕ) (document table : Members) (key : List ℕ)
+    → option_and_then as_table (get_member name document) ≡ Some table
     → IsFirst (HasOther known table) key → IsFirst (IsUnknownOf known name document) (nested name key)
 first_of_table known name document table key is first = record {
   has = (table, key, is, first.has, refl);
@@ -112,7 +121,8 @@ sooner_of P Q text other false is first second = record {
 }
 
 -- the first of those with either property
-pub first_of_both : (P Q : List ℕ → Type 0) (a b : Option (List ℕ)) → IsFirstOrNone P a → IsFirstOrNone Q b → IsFirstOrNone (λ t. P t ⊎ Q t) (first_text a b)
+pub first_of_both : (P Q : List ℕ → Type 0) (a b : Option (List ℕ)) → IsFirstOrNone P a → IsFirstOrNone Q b
+    → IsFirstOrNone (λ t. P t ⊎ Q t) (first_text a b)
 first_of_both P Q (Some text) (Some other) first second = sooner_of P Q text other (comes_before other text) refl first second
 first_of_both P Q (Some text) None first none = record {
   has = inl first.has;
@@ -142,26 +152,31 @@ only_one text key contains =
     All-contains P (text ∷ []) key (All-cons P text [] refl (All-nil P)) contains
 
 -- the test finds just the keys that are known
-pub known_if : (known : List (Bor (List ℕ))) (key : List ℕ) → list_any (λ (other : Bor (List ℕ)). bytes_eq other.now key) known ≡ true → Contains (texts known) key
+pub known_if : (known : List (Bor (List ℕ))) (key : List ℕ) → list_any (λ (other : Bor (List ℕ)). bytes_eq other.now key) known ≡ true
+    → Contains (texts known) key
 known_if [] key found = absurd (false≢true found)
 known_if (other ∷ known) key found =
     let P : List ℕ → Type 0 = λ t. Contains (texts (other ∷ known)) t in
     elim (or_cases (bytes_eq other.now key) _ found) as (λ _. Contains (texts (other ∷ known)) key) [
-      | inl here ↦ subst P ((bytes_eq-Decides other.now key).0 here) (Contains-append_left (other.now ∷ []) (texts known) other.now (Contains-push [] other.now))
+      | inl here ↦ subst P ((bytes_eq-Decides other.now key).0 here) (Contains-append_left (other.now ∷ []) (texts known) other.now
+          (Contains-push [] other.now))
       | inr later ↦ Contains-append_right (other.now ∷ []) (texts known) key (known_if known key later)
     ]
 
-pub if_known : (known : List (Bor (List ℕ))) (key : List ℕ) → Contains (texts known) key → list_any (λ (other : Bor (List ℕ)). bytes_eq other.now key) known ≡ true
+pub if_known : (known : List (Bor (List ℕ))) (key : List ℕ) → Contains (texts known) key
+    → list_any (λ (other : Bor (List ℕ)). bytes_eq other.now key) known ≡ true
 if_known [] key contains = absurd (omega (arith, contains.1))
-if_known (other ∷ known) key contains = elim (Contains-append_cases (other.now ∷ []) (texts known) key contains) as (λ _. list_any (λ (o : Bor (List ℕ)). bytes_eq o.now key) (other ∷ known) ≡ true) [
-  | inl here ↦ or_left (bytes_eq other.now key) _ ((bytes_eq-Decides other.now key).1 (sym (only_one other.now key here)))
-  | inr later ↦ or_right (bytes_eq other.now key) _ (if_known known key later)
-]
+if_known (other ∷ known) key contains = elim (Contains-append_cases (other.now ∷ []) (texts known) key contains) as
+    (λ _. list_any (λ (o : Bor (List ℕ)). bytes_eq o.now key) (other ∷ known) ≡ true) [
+      | inl here ↦ or_left (bytes_eq other.now key) _ ((bytes_eq-Decides other.now key).1 (sym (only_one other.now key here)))
+      | inr later ↦ or_right (bytes_eq other.now key) _ (if_known known key later)
+    ]
 
 -- the first of the document's and its tables' first unknown keys is the first of all
 pub first_unknown_key : (document : Members) (a b d e found : Option (List ℕ)) → found ≡ first_text a (first_text b (first_text d e))
     → IsFirstOrNone (HasOther document_keys document) a → IsFirstOrNone (IsUnknownOf service_keys (codes "reqmod") document) b
-    → IsFirstOrNone (IsUnknownOf service_keys (codes "respmod") document) d → IsFirstOrNone (IsUnknownOf parent_keys (codes "parent") document) e
+    → IsFirstOrNone (IsUnknownOf service_keys (codes "respmod") document) d
+    → IsFirstOrNone (IsUnknownOf parent_keys (codes "parent") document) e
     → IsFirstOrNone (IsUnknown document) found
 first_unknown_key document a b d e found is at_top of_reqmod of_respmod of_parent =
     let P : Option (List ℕ) → Type 0 = λ text. IsFirstOrNone (IsUnknown document) text in

@@ -1,8 +1,10 @@
 -- The first part between bytes that pass a test, and those after it.
-use Rattle.std.proofs.Common.{◌≡◌, ℕ, zero, suc, ◌<◌, cond, List, [], ◌∷◌, Bool, true, false, length, get_or, take, drop, ap, ◌∙◌, refl, arith}
+use Rattle.std.proofs.Common.{◌≡◌, ℕ, zero, suc, ◌<◌, cond, List, [], ◌∷◌, Bool, true, false, length, get_or, take, drop, ap, ◌∙◌, refl}
+use Rattle.std.proofs.Common.{arith}
 use Rattle.std.specs.List.{slice_split, onto_first}
 
-pub split_at : (p : ℕ → Bool) (xs : List ℕ) (i : ℕ) → i < length xs → p (get_or xs i 0) ≡ true → ((k : ℕ) → k < i → p (get_or xs k 0) ≡ false)
+pub split_at : (p : ℕ → Bool) (xs : List ℕ) (i : ℕ) → i < length xs → p (get_or xs i 0) ≡ true
+    → ((k : ℕ) → k < i → p (get_or xs k 0) ≡ false)
     → slice_split p xs ≡ take i xs ∷ slice_split p (drop (suc i) xs)
 split_at p [] i inside here before = absurd (omega arith)
 split_at p (b ∷ bs) zero inside here before =

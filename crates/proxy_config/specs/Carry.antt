@@ -1,5 +1,6 @@
 -- Which fields of a service's answer go on with the next request: what a key says of that.
-use Rattle.std.specs.Prelude.{ℕ, Bool, ◌&&◌, not, nat_lt, List, [], ◌∷◌, ◌++◌, length, codes, if◌then◌else◌, Option, Some, None, option_and_then}
+use Rattle.std.specs.Prelude.{ℕ, Bool, ◌&&◌, not, nat_lt, List, [], ◌∷◌, ◌++◌, length, codes, if◌then◌else◌, Option, Some, None}
+use Rattle.std.specs.Prelude.{option_and_then}
 use Rattle.std.specs.List.{list_all}
 use Rattle.adapt_bytes.specs.Text.{is_among, is_token_byte}
 use Rattle.toml.specs.Data.{Data, Items, no_items, item, as_array, as_str}
@@ -16,7 +17,8 @@ is_own name = is_among (codes "Host" ∷ codes "X-Client-IP" ∷ codes "Allow" �
 -- such a field is about one connection (RFC 9110, section 7.6.1)
 abbrev pub is_of_connection : List ℕ → Bool
 is_of_connection name =
-    is_among (codes "Connection" ∷ codes "Proxy-Connection" ∷ codes "Keep-Alive" ∷ codes "TE" ∷ codes "Transfer-Encoding" ∷ codes "Upgrade" ∷ []) name
+    is_among (codes "Connection" ∷ codes "Proxy-Connection" ∷ codes "Keep-Alive" ∷ codes "TE" ∷ codes "Transfer-Encoding" ∷ codes "Upgrade"
+    ∷ []) name
 
 -- a field of this name may go on
 abbrev pub may_go : List ℕ → Bool

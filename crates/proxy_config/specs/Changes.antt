@@ -1,6 +1,7 @@
 -- Which keys can't change while the proxy runs.
 use denote.Ref.{Bor}
-use Rattle.std.specs.Prelude.{◌≡◌, ◌⊎◌, ℕ, List, [], ◌∷◌, ◌++◌, map, Bool, true, ⊤, if◌then◌else◌, Option, Some, None, codes, option_map, string_bytes}
+use Rattle.std.specs.Prelude.{◌≡◌, ◌⊎◌, ℕ, List, [], ◌∷◌, ◌++◌, map, Bool, true, ⊤, if◌then◌else◌, Option, Some, None, codes, option_map}
+use Rattle.std.specs.Prelude.{string_bytes}
 use Rattle.proxy_config.specs.Keys.{Kind, Row, ValueOf, row}
 use Rattle.proxy_config.specs.Keys.Kind.{number, truth, address, metrics_address, file_path, field_names, dial_time, service, parent_proxy}
 use Rattle.proxy_config.specs.declared.config.Config.{Config}

@@ -20,7 +20,8 @@ HasEntrance c e = (c.users ≡ e.users) × (c.denied ≡ e.denied) × (c.user_co
 
 abbrev pub HasTimes : Config → Times → Type 0
 HasTimes c t = (c.keep_origins ≡ t.keep_origins) × (c.origin_idle ≡ t.origin_idle) × (c.dial ≡ t.dial) × (c.turn ≡ t.turn)
-    × (c.service_idle ≡ t.service_idle) × (c.options_ttl ≡ t.options_ttl) × (c.head_deadline ≡ t.head_deadline) × (c.connect_deadline ≡ t.connect_deadline) × (c.service_failures ≡ t.service_failures) × (c.service_pause ≡ t.service_pause)
+    × (c.service_idle ≡ t.service_idle) × (c.options_ttl ≡ t.options_ttl) × (c.head_deadline ≡ t.head_deadline)
+    × (c.connect_deadline ≡ t.connect_deadline) × (c.service_failures ≡ t.service_failures) × (c.service_pause ≡ t.service_pause)
 
 abbrev pub HasPlaces : Config → Places → Type 0
 HasPlaces c p = (c.hosts ≡ p.hosts) × (c.reqmod ≡ p.reqmod) × (c.respmod ≡ p.respmod) × (c.parent ≡ p.parent)

@@ -1,5 +1,6 @@
 -- The host names of a document, and which of them is at fault.
-use Rattle.std.specs.Prelude.{◌≡◌, ℕ, ◌⊎◌, ◌↔◌, List, [], Bool, Contains, All, ◌||◌, String, string_bytes, Option, Some, None, IsTrue, codes, MatchOption}
+use Rattle.std.specs.Prelude.{◌≡◌, ℕ, ◌⊎◌, ◌↔◌, List, [], Bool, Contains, All, ◌||◌, String, string_bytes, Option, Some, None, IsTrue}
+use Rattle.std.specs.Prelude.{codes, MatchOption}
 use Rattle.std.specs.Str.{str_eq_ignore_ascii_case, str_to_ascii_lowercase}
 use Rattle.std.specs.BTreeSet.{BTreeSet, contains_text}
 use Rattle.std.specs.declared.alloc.Global.{Global}
@@ -22,7 +23,8 @@ host_names document = names_or_none (get_member (codes "hosts") document)
 
 -- a name before this one is the same but for ASCII case
 abbrev pub IsRepeated : Members → List ℕ → Type 0
-IsRepeated names name = (other : List ℕ) × HasKey names other × IsTrue (comes_before other name) × IsTrue (str_eq_ignore_ascii_case other name)
+IsRepeated names name = (other : List ℕ) × HasKey names other × IsTrue (comes_before other name)
+    × IsTrue (str_eq_ignore_ascii_case other name)
 
 -- the value of the name is no address
 abbrev pub HasNoAddress : Members → List ℕ → Type 0
@@ -55,7 +57,8 @@ pub record IsHostsOf (document : Members) (hosts : Hosts) : Type 0 where
   pub names : Members
   pub are_names : host_names document ≡ Some names
   pub none_bad : (name : List ℕ) → IsBadName names name → ⊥
-  pub found : (name : List ℕ) (address : SocketAddrV4) → (address_of_name name hosts.all.entries.items ≡ Some address) ↔ IsHostAt names name address
+  pub found : (name : List ℕ) (address : SocketAddrV4)
+      → (address_of_name name hosts.all.entries.items ≡ Some address) ↔ IsHostAt names name address
   pub no_file : hosts.file.entries.items ≡ []
 
 -- whether a name was seen, ASCII case ignored

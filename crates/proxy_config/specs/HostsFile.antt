@@ -1,5 +1,6 @@
 -- A hosts file (hosts(5)): an address and the names at it a line.
-use Rattle.std.specs.Prelude.{◌≡◌, ◌==◌, ◌+◌, ◌<◌, ◌⊎◌, ℕ, List, [], ◌∷◌, ◌++◌, length, map, filter, Bool, ◌||◌, nat_lt, All, ⊤, Option, Some, None, string_bytes}
+use Rattle.std.specs.Prelude.{◌≡◌, ◌==◌, ◌+◌, ◌<◌, ◌⊎◌, ℕ, List, [], ◌∷◌, ◌++◌, length, map, filter, Bool, ◌||◌, nat_lt, All, ⊤, Option}
+use Rattle.std.specs.Prelude.{Some, None, string_bytes}
 use Rattle.std.specs.Borrow.{Bor}
 use Rattle.std.specs.List.{slice_split, before_first}
 use Rattle.std.specs.Net.Grammar.{IsIpv4Text, IsIpv6Text}
@@ -84,7 +85,8 @@ IsBadLine line = (hosts : List Host) → Says (words_of line) hosts → ⊥
 -- the lines say these hosts, one line after the other
 abbrev pub AreSaid : List (List ℕ) → List Host → Type 0
 AreSaid [] hosts = hosts ≡ []
-AreSaid (line ∷ lines) hosts = (first : List Host) × (rest : List Host) × Says (words_of line) first × AreSaid lines rest × (hosts ≡ first ++ rest)
+AreSaid (line ∷ lines) hosts = (first : List Host) × (rest : List Host) × Says (words_of line) first × AreSaid lines rest
+    × (hosts ≡ first ++ rest)
 
 -- of lines that are counted from a number on, this is the first that can't be read
 abbrev pub IsFirstBad : ℕ → List (List ℕ) → ℕ → Type 0

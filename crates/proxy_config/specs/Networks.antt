@@ -1,5 +1,6 @@
 -- Networks (RFC 4632, section 3.1): which addresses are in one, and which a text or a key says.
-use Rattle.std.specs.Prelude.{◌≡◌, ◌==◌, ◌/◌, ◌-◌, ◌^◌, ◌<◌, ◌⊎◌, ℕ, List, [], ◌∷◌, length, Bool, ⊤, Option, Some, None, MatchOption, option_and_then}
+use Rattle.std.specs.Prelude.{◌≡◌, ◌==◌, ◌/◌, ◌-◌, ◌^◌, ◌<◌, ◌⊎◌, ℕ, List, [], ◌∷◌, length, Bool, ⊤, Option, Some, None, MatchOption}
+use Rattle.std.specs.Prelude.{option_and_then}
 use Rattle.std.specs.List.{after_first, before_first, position_or_len}
 use Rattle.std.specs.Net.Addr.{ipv4_bits}
 use Rattle.std.specs.Net.Grammar.{IsIpv4Text}

@@ -27,7 +27,8 @@ HasAdmin document = (address : SocketAddrV4) × IsAdmin document address
 abbrev pub IsMetrics : Members → Option SocketAddrV4 → Type 0
 IsMetrics document found = MatchOption found
     (get_member (codes "metrics") document ≡ None)
-    (λ address. HasAddress (codes "metrics") document address × IsApart (codes "listen") document address × IsApart (codes "admin") document address)
+    (λ address. HasAddress (codes "metrics") document address × IsApart (codes "listen") document address
+    × IsApart (codes "admin") document address)
 
 -- the document says where, or that they aren't
 abbrev pub HasMetrics : Members → Type 0

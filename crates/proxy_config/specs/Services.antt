@@ -1,5 +1,6 @@
 -- What a point's table says of its service, and which of its keys is at fault.
-use Rattle.std.specs.Prelude.{◌≡◌, ◌==◌, ℕ, List, length, string_bytes, Bool, ◌&&◌, not, nat_le, nat_eq, IsTrue, Option, Some, None, codes, MatchOption, option_and_then}
+use Rattle.std.specs.Prelude.{◌≡◌, ◌==◌, ℕ, List, length, string_bytes, Bool, ◌&&◌, not, nat_le, nat_eq, IsTrue, Option, Some, None, codes}
+use Rattle.std.specs.Prelude.{MatchOption, option_and_then}
 use Rattle.std.specs.List.{list_any, starts_with}
 use Rattle.std.specs.declared.net.ipv4_addr.Ipv4Addr.{Ipv4Addr}
 use Rattle.toml.specs.Data.{Members, get_member, as_str, as_table}

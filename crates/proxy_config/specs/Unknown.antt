@@ -23,7 +23,8 @@ HasOther known table key = HasKey table key × (Contains known key → ⊥)
 
 -- such a key in the table that a key of the document has
 abbrev pub IsUnknownOf : List (List ℕ) → List ℕ → Members → List ℕ → Type 0
-IsUnknownOf known name document key = (table : Members) × (inner : List ℕ) × (option_and_then as_table (get_member name document) ≡ Some table)
+IsUnknownOf known name document key = (table : Members) × (inner : List ℕ)
+    × (option_and_then as_table (get_member name document) ≡ Some table)
     × HasOther known table inner × (key ≡ nested name inner)
 
 -- such a key in the document, in the table of a point, or in that of the parent

@@ -1,5 +1,6 @@
 -- A block is read in one way.
-use Rattle.std.proofs.Common.{◌≡◌, ℕ, ◌+◌, ◌*◌, ◌<◌, ◌≤◌, List, [], ◌∷◌, ◌++◌, length, take, drop, refl, sym, ap, ◌∙◌, subst, arith, take-append-drop, length-take-le, Option, Some, None}
+use Rattle.std.proofs.Common.{◌≡◌, ℕ, ◌+◌, ◌*◌, ◌<◌, ◌≤◌, List, [], ◌∷◌, ◌++◌, length, take, drop, refl, sym, ap, ◌∙◌, subst, arith}
+use Rattle.std.proofs.Common.{take-append-drop, length-take-le, Option, Some, None}
 use Rattle.std.specs.declared.net.ipv4_addr.Ipv4Addr.{Ipv4Addr}
 use Rattle.proxy_header.specs.declared.reading.Said.{Said}
 use Rattle.proxy_header.specs.declared.reading.Said.TheVariants.{From, Unknown, Nothing}
@@ -16,7 +17,8 @@ short_lacks (a ∷ b ∷ c ∷ d ∷ rest) short = absurd (omega arith)
 pub cut_short : (bytes rest : List ℕ) → bytes ≡ signature ++ rest → length rest < 4 → IsCutBlock bytes
 cut_short bytes rest front short = record { rest = rest; front = front; lacks = short_lacks rest short }
 
-pub cut_behind : (bytes rest : List ℕ) (command family count : ℕ) (behind : List ℕ) → bytes ≡ signature ++ rest → IsFixed rest command family count behind
+pub cut_behind : (bytes rest : List ℕ) (command family count : ℕ) (behind : List ℕ) → bytes ≡ signature ++ rest
+    → IsFixed rest command family count behind
     → count ≤ 520 → length behind < count → IsCutBlock bytes
 cut_behind bytes rest command family count behind front fixed fits short =
     let high = fixed.0 in
@@ -38,13 +40,15 @@ pub record Parts (command family count : ℕ) (behind : List ℕ) (from : Option
   pub short : count ≤ 520
   pub tells : Tells command family block from
 
-pub parts_of : (bytes rest : List ℕ) (command family count : ℕ) (behind : List ℕ) (from : Option Ipv4Addr) (size : ℕ) → bytes ≡ signature ++ rest
+pub parts_of : (bytes rest : List ℕ) (command family count : ℕ) (behind : List ℕ) (from : Option Ipv4Addr) (size : ℕ)
+    → bytes ≡ signature ++ rest
     → IsFixed rest command family count behind → Begins IsBlock bytes from size → Parts command family count behind from
 parts_of bytes rest command family count behind from size front fixed b =
     let is = fixed.2 in
     let counts = fixed.3 in
     let h = b.is in
-    let all : bytes ≡ signature ++ h.command ∷ h.family ∷ h.high ∷ h.low ∷ (h.block ++ b.behind) = b.spelled ∙ ap (λ x. x ++ b.behind) h.spelled in
+    let all : bytes ≡ signature ++ h.command ∷ h.family ∷ h.high ∷ h.low ∷ (h.block ++ b.behind) =
+    b.spelled ∙ ap (λ x. x ++ b.behind) h.spelled in
     let mine : bytes ≡ signature ++ command ∷ family ∷ fixed.0 ∷ fixed.1 ∷ behind = front ∙ ap (λ x. signature ++ x) is in
     let e1 : h.command ≡ command = cc in
     let e2 : h.family ≡ family = cc in
@@ -121,7 +125,8 @@ same_block behind block more count is len =
     sym (take_front block more) ∙ ap (λ n. take n (block ++ more)) len ∙ ap (take count) (sym is)
 
 pub block_answers : (bytes rest : List ℕ) (command family count : ℕ) (behind : List ℕ) (said : Said) → bytes ≡ signature ++ rest
-    → IsFixed rest command family count behind → count ≤ 520 → count ≤ length behind → IsSaid (Tells command family (take count behind)) said
+    → IsFixed rest command family count behind → count ≤ 520 → count ≤ length behind
+    → IsSaid (Tells command family (take count behind)) said
     → Answers IsBlock IsCutBlock bytes (is_reading said (16 + count))
 block_answers bytes rest command family count behind (From ip) front fixed fits there h =
     whole_block bytes rest command family count behind (Some ip) front fixed fits there h

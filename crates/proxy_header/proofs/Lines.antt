@@ -1,5 +1,6 @@
 -- A line is read in one way.
-use Rattle.std.proofs.Common.{◌≡◌, ℕ, zero, suc, ◌+◌, ◌<◌, List, [], ◌∷◌, ◌++◌, length, get_or, refl, sym, ap, ◌∙◌, subst, arith, codes, append_assoc, length-append, Option, Some, None}
+use Rattle.std.proofs.Common.{◌≡◌, ℕ, zero, suc, ◌+◌, ◌<◌, List, [], ◌∷◌, ◌++◌, length, get_or, refl, sym, ap, ◌∙◌, subst, arith, codes}
+use Rattle.std.proofs.Common.{append_assoc, length-append, Option, Some, None}
 use Rattle.std.proofs.lemmas.List.{append_cancel_right, get_or_at}
 use Rattle.std.specs.declared.net.ipv4_addr.Ipv4Addr.{Ipv4Addr}
 use Rattle.adapt_bytes.specs.Text.{Lacks}
@@ -40,7 +41,8 @@ lacks_cut c text a x lacks cut =
     lacks (length a) (omega (arith, length-append a (c ∷ x))) (ap (λ t. get_or t (length a) 0) cut ∙ get_or_at a c x 0 (length a) refl)
 
 -- a header, with what stands before its line feed
-spelled_raw : (bytes header line behind : List ℕ) → bytes ≡ header ++ behind → header ≡ line ++ 13 ∷ 10 ∷ [] → bytes ≡ (line ++ 13 ∷ []) ++ 10 ∷ behind
+spelled_raw : (bytes header line behind : List ℕ) → bytes ≡ header ++ behind → header ≡ line ++ 13 ∷ 10 ∷ []
+    → bytes ≡ (line ++ 13 ∷ []) ++ 10 ∷ behind
 spelled_raw bytes header line behind cut spelled =
     cut ∙ ap (λ h. h ++ behind) spelled ∙ append_assoc line (13 ∷ 10 ∷ []) behind ∙ sym (append_assoc line (13 ∷ []) (10 ∷ behind))
 
@@ -54,7 +56,8 @@ length_cr line header e =
     let l = ap length e in omega (arith, l, length-append line (13 ∷ 10 ∷ []), length-append line (13 ∷ []))
 
 -- what stands before the first line feed is the header's line
-pub raw_is : (bytes raw rest : List ℕ) (from : Option Ipv4Addr) (size : ℕ) → bytes ≡ raw ++ 10 ∷ rest → Lacks 10 raw → (b : Begins IsLine bytes from size)
+pub raw_is : (bytes raw rest : List ℕ) (from : Option Ipv4Addr) (size : ℕ) → bytes ≡ raw ++ 10 ∷ rest → Lacks 10 raw
+    → (b : Begins IsLine bytes from size)
     → (raw ≡ b.is.line ++ 13 ∷ []) × (length raw < 107)
 raw_is bytes raw rest from size cut lacks b =
     let same : raw ≡ b.is.line ++ 13 ∷ [] = (first_cut 10 raw (b.is.line ++ 13 ∷ []) rest b.behind lacks (lacks_cr b.is.line b.is.one)
@@ -66,7 +69,8 @@ raw_is bytes raw rest from size cut lacks b =
 
 pub lacks_front : (c : ℕ) (line more : List ℕ) → Lacks c (line ++ more) → Lacks c line
 lacks_front c [] more lacks = lacks_nil c
-lacks_front c (b ∷ line) more lacks = lacks_cons c b line (lacks 0 (omega arith)) (lacks_front c line more (Lacks-tail c b (line ++ more) lacks))
+lacks_front c (b ∷ line) more lacks = lacks_cons c b line (lacks 0 (omega arith))
+    (lacks_front c line more (Lacks-tail c b (line ++ more) lacks))
 
 -- the answer for what stands before the line feed is the answer for all bytes
 pub line_answers : (bytes raw rest : List ℕ) (reading : Reading) → bytes ≡ raw ++ 10 ∷ rest → Lacks 10 raw → IsRawLine raw reading

@@ -1,5 +1,6 @@
 -- Parts of a header.
-use Rattle.std.proofs.Common.{◌≡◌, ℕ, ◌+◌, ◌*◌, ◌<◌, ◌≤◌, ◌⊎◌, List, [], ◌∷◌, ◌++◌, length, refl, sym, ap, ◌∙◌, subst, arith, codes, append_assoc, length-append, inl, inr, ⊎_elim, Option}
+use Rattle.std.proofs.Common.{◌≡◌, ℕ, ◌+◌, ◌*◌, ◌<◌, ◌≤◌, ◌⊎◌, List, [], ◌∷◌, ◌++◌, length, refl, sym, ap, ◌∙◌, subst, arith, codes}
+use Rattle.std.proofs.Common.{append_assoc, length-append, inl, inr, ⊎_elim, Option}
 use Rattle.std.specs.declared.net.ipv4_addr.Ipv4Addr.{Ipv4Addr}
 use Rattle.adapt_bytes.specs.Text.{Lacks}
 use Rattle.proxy_header.specs.Blocks.{IsBlock, LacksBytes, signature}
@@ -21,7 +22,8 @@ one_left : (m more : List ℕ) (byte : ℕ) → 10 ∷ [] ≡ m ++ byte ∷ more
 one_left [] more byte e = refl
 one_left (b ∷ m) more byte e = let l = ap length e in absurd (omega (arith, l, length-append m (byte ∷ more)))
 
-part_lacks : (header line part more : List ℕ) (byte : ℕ) → header ≡ line ++ 13 ∷ 10 ∷ [] → Lacks 10 line → header ≡ part ++ byte ∷ more → Lacks 10 part
+part_lacks : (header line part more : List ℕ) (byte : ℕ) → header ≡ line ++ 13 ∷ 10 ∷ [] → Lacks 10 line → header ≡ part ++ byte ∷ more
+    → Lacks 10 part
 part_lacks header line part more byte spelled lacks cut = ⊎_elim
     (λ l. lacks_front 10 part l.0 (subst (Lacks 10) l.1 (lacks_cr line lacks)))
     (λ r. let none : r.0 ≡ [] = one_left r.0 more byte r.2 in
@@ -61,7 +63,8 @@ lacks_more (a ∷ b ∷ c ∷ d ∷ r) more block command family high low byte e
     let n : length block ≡ c * 256 + d = counted ∙ ap (λ x. x * 256 + low) hs ∙ ap (λ x. c * 256 + x) ls in
     (omega (arith, n, short), omega (arith, n, len, length-append r (byte ∷ more)))
 
-block_part : (header part more : List ℕ) (byte : ℕ) (from : Option Ipv4Addr) → IsBlock header from → header ≡ part ++ byte ∷ more → IsCut part
+block_part : (header part more : List ℕ) (byte : ℕ) (from : Option Ipv4Addr) → IsBlock header from → header ≡ part ++ byte ∷ more
+    → IsCut part
 block_part header part more byte from h cut = ⊎_elim (λ f. inl (inr f))
     (λ r. inr (inr (record {
       rest = r.0;
@@ -70,8 +73,10 @@ block_part header part more byte from h cut = ⊎_elim (λ f. inl (inr f))
     })))
     (two_fronts signature (h.command ∷ h.family ∷ h.high ∷ h.low ∷ h.block) part (byte ∷ more) (sym h.spelled ∙ cut))
 
-pub cut_anywhere : (header part more : List ℕ) (byte : ℕ) (from : Option Ipv4Addr) → IsHeader header from → header ≡ part ++ byte ∷ more → IsCut part
-cut_anywhere header part more byte from h cut = ⊎_elim (λ l. line_part header part more byte from l cut) (λ b. block_part header part more byte from b cut) h
+pub cut_anywhere : (header part more : List ℕ) (byte : ℕ) (from : Option Ipv4Addr) → IsHeader header from → header ≡ part ++ byte ∷ more
+    → IsCut part
+cut_anywhere header part more byte from h cut = ⊎_elim (λ l. line_part header part more byte from l cut)
+    (λ b. block_part header part more byte from b cut) h
 
 -- a line is longer than what it begins with
 line_long : (bytes : List ℕ) (from : Option Ipv4Addr) (size : ℕ) → Begins IsLine bytes from size → 6 < length bytes
@@ -114,7 +119,8 @@ block_whole : (bytes : List ℕ) (from : Option Ipv4Addr) (size : ℕ) → Begin
 block_whole bytes from size b cut =
     let f = block_front bytes from size b in
     ⊎_elim
-    (λ front. ⊎_elim (λ h. starts_apart _ _ (h.1 ∙ ap (λ x. x ++ h.0) f.1)) (λ h. twelve bytes h.0 h.1 (block_long bytes from size b)) front)
+    (λ front. ⊎_elim (λ h. starts_apart _ _ (h.1 ∙ ap (λ x. x ++ h.0) f.1)) (λ h. twelve bytes h.0 h.1 (block_long bytes from size b))
+    front)
     (λ more. ⊎_elim (λ l. one_front bytes l.rest f.0 l.front f.1)
     (λ k. let e1 = k.front in
     let e2 : bytes ≡ signature ++ b.is.command ∷ b.is.family ∷ b.is.high ∷ b.is.low ∷ (b.is.block ++ b.behind) =
@@ -123,4 +129,5 @@ block_whole bytes from size b cut =
     lacks_not k.rest b.is.block b.behind b.is.command b.is.family b.is.high b.is.low same b.is.counted k.lacks) more) cut
 
 pub whole_or_cut : (bytes : List ℕ) (from : Option Ipv4Addr) (size : ℕ) → Begins IsHeader bytes from size → IsCut bytes → ⊥
-whole_or_cut bytes from size b cut = of_both bytes from size ⊥ (λ l. line_whole bytes from size l cut) (λ k. block_whole bytes from size k cut) b
+whole_or_cut bytes from size b cut = of_both bytes from size ⊥ (λ l. line_whole bytes from size l cut)
+    (λ k. block_whole bytes from size k cut) b

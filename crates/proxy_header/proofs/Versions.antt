@@ -1,5 +1,6 @@
 -- A text begins with a header of one version at most.
-use Rattle.std.proofs.Common.{◌≡◌, ℕ, List, [], ◌∷◌, ◌++◌, length, refl, sym, ap, ◌∙◌, subst, arith, codes, append_assoc, length-append, inl, inr, ⊎_elim, Option, Some, None}
+use Rattle.std.proofs.Common.{◌≡◌, ℕ, List, [], ◌∷◌, ◌++◌, length, refl, sym, ap, ◌∙◌, subst, arith, codes, append_assoc, length-append}
+use Rattle.std.proofs.Common.{inl, inr, ⊎_elim, Option, Some, None}
 use Rattle.std.specs.declared.net.ipv4_addr.Ipv4Addr.{Ipv4Addr}
 use Rattle.adapt_bytes.specs.Text.{Lacks}
 use Rattle.proxy_header.specs.declared.reading.Reading.{Reading}
@@ -14,7 +15,8 @@ pub said_front : (line : List ℕ) (from : Option Ipv4Addr) → Says line from �
 said_front line None h = (codes "UNKNOWN" ++ h.0, h.1)
 said_front line (Some ip) h = (codes "TCP4 " ++ h.0, h.1)
 
-pub line_front : (bytes : List ℕ) (from : Option Ipv4Addr) (size : ℕ) → Begins IsLine bytes from size → (rest : List ℕ) × (bytes ≡ codes "PROXY " ++ rest)
+pub line_front : (bytes : List ℕ) (from : Option Ipv4Addr) (size : ℕ) → Begins IsLine bytes from size
+    → (rest : List ℕ) × (bytes ≡ codes "PROXY " ++ rest)
 line_front bytes from size b =
     let front = said_front b.is.line from b.is.says in (
       front.0 ++ (13 ∷ 10 ∷ b.behind),
@@ -22,7 +24,8 @@ line_front bytes from size b =
           ∙ ap (λ t. codes "PROXY " ++ t) (append_assoc front.0 (13 ∷ 10 ∷ []) b.behind),
     )
 
-pub block_front : (bytes : List ℕ) (from : Option Ipv4Addr) (size : ℕ) → Begins IsBlock bytes from size → (rest : List ℕ) × (bytes ≡ signature ++ rest)
+pub block_front : (bytes : List ℕ) (from : Option Ipv4Addr) (size : ℕ) → Begins IsBlock bytes from size
+    → (rest : List ℕ) × (bytes ≡ signature ++ rest)
 block_front bytes from size b =
     (b.is.command ∷ b.is.family ∷ b.is.high ∷ b.is.low ∷ (b.is.block ++ b.behind), b.spelled ∙ ap (λ h. h ++ b.behind) b.is.spelled)
 
@@ -33,7 +36,8 @@ pub one_front : (bytes rest other : List ℕ) → bytes ≡ codes "PROXY " ++ re
 one_front bytes rest other e f = starts_apart _ _ (sym e ∙ f)
 
 -- one of both versions
-pub of_both : (bytes : List ℕ) (from : Option Ipv4Addr) (size : ℕ) (P : Type 0) → (Begins IsLine bytes from size → P) → (Begins IsBlock bytes from size → P)
+pub of_both : (bytes : List ℕ) (from : Option Ipv4Addr) (size : ℕ) (P : Type 0) → (Begins IsLine bytes from size → P)
+    → (Begins IsBlock bytes from size → P)
     → Begins IsHeader bytes from size → P
 of_both bytes from size P line block b = ⊎_elim
     (λ is. line (record { header = b.header; behind = b.behind; spelled = b.spelled; is = is; counted = b.counted }))
@@ -68,7 +72,8 @@ front_line bytes rest front cut = ⊎_elim
     (λ h. let all : signature ≡ codes "PROXY " ++ (rest ++ h.0) = h.1 ∙ ap (λ b. b ++ h.0) front in
     absurd (starts_apart _ _ (sym all))) cut
 
-pub block_is : (bytes rest : List ℕ) (reading : Reading) → bytes ≡ signature ++ rest → Answers IsBlock IsCutBlock bytes reading → Answers IsHeader IsCut bytes reading
+pub block_is : (bytes rest : List ℕ) (reading : Reading) → bytes ≡ signature ++ rest → Answers IsBlock IsCutBlock bytes reading
+    → Answers IsHeader IsCut bytes reading
 block_is bytes rest (Whole header) front h =
     record { header = h.header; behind = h.behind; spelled = h.spelled; is = inr h.is; counted = h.counted }
 block_is bytes rest Partial front h = inr (inr h)
@@ -79,7 +84,8 @@ block_is bytes rest Fault front h = (
       (λ more. ⊎_elim (λ l. one_front bytes l.rest rest l.front front) (λ k. h.1 k) more) cut),
 )
 
-pub line_is : (bytes rest : List ℕ) (reading : Reading) → bytes ≡ codes "PROXY " ++ rest → Answers IsLine IsCutLine bytes reading → Answers IsHeader IsCut bytes reading
+pub line_is : (bytes rest : List ℕ) (reading : Reading) → bytes ≡ codes "PROXY " ++ rest → Answers IsLine IsCutLine bytes reading
+    → Answers IsHeader IsCut bytes reading
 line_is bytes rest (Whole header) front h =
     record { header = h.header; behind = h.behind; spelled = h.spelled; is = inl h.is; counted = h.counted }
 line_is bytes rest Partial front h = inr (inl h)

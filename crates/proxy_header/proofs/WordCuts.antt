@@ -8,7 +8,8 @@ use Rattle.adapt_bytes.proofs.Cuts.{Lacks-tail}
 use Rattle.proxy_header.specs.Lines.{IsConnection, IsPort, words}
 
 -- one step over a byte that is no space
-words_over : (b : ℕ) (text first : List ℕ) (rest : List (List ℕ)) → b ≢ 32 → words text ≡ first ∷ rest → words (b ∷ text) ≡ (b ∷ first) ∷ rest
+words_over : (b : ℕ) (text first : List ℕ) (rest : List (List ℕ)) → b ≢ 32 → words text ≡ first ∷ rest
+    → words (b ∷ text) ≡ (b ∷ first) ∷ rest
 words_over b text first rest other are =
     ap (λ t. cond t ([] ∷ words text) (onto_first b (words text))) (ne_eqb b 32 other) ∙ ap (onto_first b) are
 
@@ -34,7 +35,8 @@ pub words_some : (text : List ℕ) → words text ≡ [] → ⊥
 words_some [] e = cc
 words_some (b ∷ text) e = step_at (eqb b 32) b text (words_some text) e
 
-pub no_fifth : (t r1 r2 r3 y p q s u : List ℕ) → words t ≡ p ∷ words r1 → words r1 ≡ q ∷ words r2 → words r2 ≡ s ∷ words r3 → words r3 ≡ u ∷ words y
+pub no_fifth : (t r1 r2 r3 y p q s u : List ℕ) → words t ≡ p ∷ words r1 → words r1 ≡ q ∷ words r2 → words r2 ≡ s ∷ words r3
+    → words r3 ≡ u ∷ words y
     → (a b c d : List ℕ) → words t ≡ a ∷ b ∷ c ∷ d ∷ [] → ⊥
 no_fifth t r1 r2 r3 y p q s u e1 e2 e3 e4 a b c d four = words_some y cc
 

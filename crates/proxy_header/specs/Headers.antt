@@ -48,6 +48,7 @@ is_reading Nothing size = Fault
 
 -- what a line is of which this stands before its line feed
 abbrev pub IsRawLine : List ℕ → Reading → Type 0
-IsRawLine raw (Whole header) = (line : List ℕ) × (raw ≡ line ++ 13 ∷ []) × Says line header.from × (length raw < 107) × (header.length ≡ length raw + 1)
+IsRawLine raw (Whole header) = (line : List ℕ) × (raw ≡ line ++ 13 ∷ []) × Says line header.from × (length raw < 107)
+    × (header.length ≡ length raw + 1)
 IsRawLine raw Partial = ⊥
 IsRawLine raw Fault = (line : List ℕ) (from : Option Ipv4Addr) → raw ≡ line ++ 13 ∷ [] → Says line from → length raw < 107 → ⊥

@@ -37,12 +37,14 @@ nothing_heard request s plan u = record {
 }
 
 -- the same where there may be no service
-pub nothing_on : {W : Type 0} (request : List ℕ) (plan : Plan) (service : Option (ServiceEnd Service W)) → IfSome service (λ line. IsUnused request line.side)
+pub nothing_on : {W : Type 0} (request : List ℕ) (plan : Plan) (service : Option (ServiceEnd Service W))
+    → IfSome service (λ line. IsUnused request line.side)
     → IfSome service (λ line. ServiceSent request (seen plan []) [] [] line.side × ServiceHeard (seen plan []) [] [] line.side)
 nothing_on request plan None u = tt
 nothing_on request plan (Some line) u = (nothing_sent request line.side plan u, nothing_heard request line.side plan u)
 
 -- a service that has no fault
-pub faultless_on : {W : Type 0} (request : List ℕ) (service : Option (ServiceEnd Service W)) → IfSome service (λ line. IsUnused request line.side) → fault_of (λ line. line.side.replies.fault) service ≡ None
+pub faultless_on : {W : Type 0} (request : List ℕ) (service : Option (ServiceEnd Service W))
+    → IfSome service (λ line. IsUnused request line.side) → fault_of (λ line. line.side.replies.fault) service ≡ None
 faultless_on request None u = refl
 faultless_on request (Some line) u = u.fault

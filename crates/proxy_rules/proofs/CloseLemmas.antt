@@ -7,7 +7,8 @@ use Rattle.adapt_bytes.specs.Fields.{values_of}
 use Rattle.http_side.specs.declared.forward.Forward.{Forward}
 use Rattle.http_side.specs.declared.forward.Message.{Message}
 use Rattle.http_side.specs.declared.forward.Message.TheVariants.{Request, Response}
-use Rattle.http_side.specs.Forward.{is_response, is_named_by, gets_zero, is_chunks, next_framing, closes, is_once, says_close, when, via_value, added_fields, extra_of}
+use Rattle.http_side.specs.Forward.{is_response, is_named_by, gets_zero, is_chunks, next_framing, closes, is_once, says_close, when}
+use Rattle.http_side.specs.Forward.{via_value, added_fields, extra_of}
 use Rattle.http_side.specs.Laws.{passed_fields, minor_of, forwarded_fields}
 use Rattle.http_side.specs.Targets.{authority_of}
 use Rattle.http_side.proofs.Passing.{values-append}
@@ -22,7 +23,8 @@ on_close b = if b then codes "close" ∷ [] else []
 added_close : (f : Forward) (minor : ℕ) → values_of CONNECTION (added_fields (extra_of f) minor) ≡ on_close (says_close f)
 added_close f minor = by_four (gets_zero f) (is_chunks (next_framing f)) (says_close f) true
   where
-    by_four : (a b c d : Bool) → values_of CONNECTION (when a (codes "Content-Length", codes "0") ++ when b (codes "Transfer-Encoding", codes "chunked")
+    by_four : (a b c d : Bool) → values_of CONNECTION (when a (codes "Content-Length", codes "0")
+        ++ when b (codes "Transfer-Encoding", codes "chunked")
         ++ when c (codes "Connection", codes "close") ++ when d (codes "Via", via_value minor)) ≡ on_close c
     by_four true true true true = refl
     by_four true true true false = refl
@@ -61,12 +63,14 @@ says : (f : Forward) → is_named_by (forwarded_fields f) (codes "close") ≡ (s
 says f =
     ap (list_any (has_item (codes "close")))
     (values-append CONNECTION (passed_fields (authority_of f.user.now.target) f.message) (added_fields (extra_of f) (minor_of f.message))
-    ∙ ap (λ t. t ++ values_of CONNECTION (added_fields (extra_of f) (minor_of f.message))) (passed_none (authority_of f.user.now.target) f.message)
+    ∙ ap (λ t. t ++ values_of CONNECTION (added_fields (extra_of f) (minor_of f.message)))
+    (passed_none (authority_of f.user.now.target) f.message)
     ∙ added_close f (minor_of f.message))
     ∙ named (says_close f)
 
 pub answer_says : (f : Forward) → is_response f.message ≡ true → is_named_by (forwarded_fields f) (codes "close") ≡ closes f
 answer_says f e = says f ∙ ap (λ b. if b then closes f else is_once f.origin.connection) e
 
-pub request_says : (f : Forward) → is_response f.message ≡ false → is_named_by (forwarded_fields f) (codes "close") ≡ is_once f.origin.connection
+pub request_says : (f : Forward) → is_response f.message ≡ false
+    → is_named_by (forwarded_fields f) (codes "close") ≡ is_once f.origin.connection
 request_says f e = says f ∙ ap (λ b. if b then closes f else is_once f.origin.connection) e

@@ -30,29 +30,35 @@ text_then before head framed raw read e = e ∙ sym (append_assoc (before ++ hea
 
 -- the texts, the bytes that were kept and what was read since
 texts_then : (texts ahead read text left : List ℕ) → ahead ++ read ≡ text ++ left → (texts ++ ahead) ++ read ≡ (texts ++ text) ++ left
-texts_then texts ahead read text left e = append_assoc texts ahead read ∙ (ap (λ (bs : List ℕ). texts ++ bs) e ∙ sym (append_assoc texts text left))
+texts_then texts ahead read text left e = append_assoc texts ahead read
+    ∙ (ap (λ (bs : List ℕ). texts ++ bs) e ∙ sym (append_assoc texts text left))
 
 -- a further message comes
-pub gave_message : {E H G A W C : Type 0} (a : Wire A) (w : Wire W) (c : Wire C) (s : Snapshot A W C) (ends : OwnEnds E A W C H G) (h : Holding) (line : Option W) (first : A) (texts : List ℕ)
+pub gave_message : {E H G A W C : Type 0} (a : Wire A) (w : Wire W) (c : Wire C) (s : Snapshot A W C) (ends : OwnEnds E A W C H G)
+    (h : Holding) (line : Option W) (first : A) (texts : List ℕ)
     → Since a w c s (WiresTook ends h) ends.source_wire line ends.next_wire → GaveTexts a first s.source texts s.ahead
     → (text : List ℕ) × IsMessageText ends h text × GaveTexts a first ends.source_wire (texts ++ text) ends.source.raw.items
 gave_message a w c s ends h line first texts since gave =
     let took = since.took_is in
     let gives = took.original_read in
     let text = (gives.before ++ gives.head_text) ++ gives.framed in
-    let all : s.ahead ++ since.texts.source_read.bytes ≡ text ++ ends.source.raw.items = text_then gives.before gives.head_text gives.framed ends.source.raw.items _ gives.text_is in (
+    let all : s.ahead ++ since.texts.source_read.bytes ≡ text ++ ends.source.raw.items =
+    text_then gives.before gives.head_text gives.framed ends.source.raw.items _ gives.text_is in (
       text,
       record {
         original = took.original;
         ended = (joined (begun_with s.ahead) since.texts).source_read.ended;
         original_is = took.original_is;
-        spells = subst (λ (bs : List ℕ). SideRead (shows h.history) took.original bs (joined (begun_with s.ahead) since.texts).source_read.ended ends.source) all gives;
+        spells = subst (λ (bs : List ℕ). SideRead (shows h.history) took.original bs
+            (joined (begun_with s.ahead) since.texts).source_read.ended ends.source) all gives;
       },
       record {
         taken = gave.taken ++ (s.beside ++ since.texts.back_taken);
-        wire_is = subst (λ (bs : List ℕ). Grown (a.past first) (a.past ends.source_wire) bs (gave.taken ++ (s.beside ++ since.texts.back_taken)))
+        wire_is = subst (λ (bs : List ℕ). Grown (a.past first) (a.past ends.source_wire) bs
+            (gave.taken ++ (s.beside ++ since.texts.back_taken)))
             (texts_then texts s.ahead since.texts.source_read.bytes text ends.source.raw.items all)
-            (grown_then (a.past first) (a.past s.source) (a.past ends.source_wire) (texts ++ s.ahead) gave.taken since.texts.source_read.bytes (s.beside ++ since.texts.back_taken) gave.wire_is
+            (grown_then (a.past first) (a.past s.source) (a.past ends.source_wire) (texts ++ s.ahead) gave.taken
+            since.texts.source_read.bytes (s.beside ++ since.texts.back_taken) gave.wire_is
             (λ p b. let x = since.source_is p b in (x.0, x.1, x.2)));
       },
     )

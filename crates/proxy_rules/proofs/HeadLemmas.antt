@@ -18,8 +18,12 @@ pub was_read : (user : Option SourceSide) (source : SourceHead) (asked : Request
 was_read None source asked e = tt
 was_read (Some side) source asked e = λ unread. (let found : request_of heads.Unread ≡ Some asked = rw unread at e in cc)
 
-pub makes : (r : Result Headed Cause) (origin : OriginWay) (last : Bool) (user : Option SourceSide) (source : SourceHead) (x : Seen) (adapted : Option (List ℕ)) (is_response : Bool)
-    (asked : RequestParts) (carries_on has_body : Bool) → request_of (user_head user source) ≡ Some asked → carries_on ≡ carries_on_of last user x → has_body ≡ x.has_body
-    → IfOk r (MakesOf source asked carries_on origin adapted is_response has_body) → IfOk r (Makes origin last user source x adapted is_response)
-makes (Ok headed) origin last user source x adapted is_response asked carries_on has_body e b f m = record { asked = asked; asked_is = e; makes = rw (b, f) at m }
+pub makes : (r : Result Headed Cause) (origin : OriginWay) (last : Bool) (user : Option SourceSide) (source : SourceHead) (x : Seen)
+    (adapted : Option (List ℕ)) (is_response : Bool)
+    (asked : RequestParts) (carries_on has_body : Bool) → request_of (user_head user source) ≡ Some asked
+    → carries_on ≡ carries_on_of last user x → has_body ≡ x.has_body
+    → IfOk r (MakesOf source asked carries_on origin adapted is_response has_body)
+    → IfOk r (Makes origin last user source x adapted is_response)
+makes (Ok headed) origin last user source x adapted is_response asked carries_on has_body e b f m =
+    record { asked = asked; asked_is = e; makes = rw (b, f) at m }
 makes (Err cause) origin last user source x adapted is_response asked carries_on has_body e b f m = tt

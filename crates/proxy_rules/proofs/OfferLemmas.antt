@@ -22,21 +22,25 @@ by_length true n = refl
 by_length false n = refl
 
 -- no plan previews a body that is known to be empty
-kinds : (treat : Treat) (preview : Option ℕ) (limit : ℕ) (len : Option ℕ) → (is_preview (kind_of treat preview limit len) && is_null len) ≡ false
+kinds : (treat : Treat) (preview : Option ℕ) (limit : ℕ) (len : Option ℕ)
+    → (is_preview (kind_of treat preview limit len) && is_null len) ≡ false
 kinds treats.Ignore preview limit len = refl
 kinds treats.Complete preview limit len = refl
 kinds treats.Preview None limit len = refl
 kinds treats.Preview (Some size) limit len = by_length (is_null len) _
 
-pub previews_some : (options : Option Options) (limits : Limits) (point : Point) (path : List ℕ) (len : Option ℕ) (plan : Plan) → IsPlanned options limits point path len plan → previews_nothing plan ≡ false
+pub previews_some : (options : Option Options) (limits : Limits) (point : Point) (path : List ℕ) (len : Option ℕ) (plan : Plan)
+    → IsPlanned options limits point path len plan → previews_nothing plan ≡ false
 previews_some None limits point path len plan p = ap (λ (k : Kind). is_preview k && is_null plan.len) p.kind
 previews_some (Some options) limits point path len plan p =
     ap (λ (k : Kind). is_preview k && is_null plan.len) p.plan_is.kind_is
-    ∙ (ap (λ (l : Option ℕ). is_preview (kind_of (treat_of options.lists p.extension) options.preview limits.preview_limit len) && is_null l) p.plan_is.len_is
+    ∙ (ap (λ (l : Option ℕ). is_preview (kind_of (treat_of options.lists p.extension) options.preview limits.preview_limit len) && is_null
+    l) p.plan_is.len_is
     ∙ kinds (treat_of options.lists p.extension) options.preview limits.preview_limit len)
 
 -- a message of which no service says anything isn't offered
-pub plain_without : (limits : Limits) (point : Point) (path : List ℕ) (len : Option ℕ) (plan : Plan) → IsPlanned None limits point path len plan → is_plain plan.kind ≡ true
+pub plain_without : (limits : Limits) (point : Point) (path : List ℕ) (len : Option ℕ) (plan : Plan)
+    → IsPlanned None limits point path len plan → is_plain plan.kind ≡ true
 plain_without limits point path len plan p = ap is_plain p.kind
 
 -- the text is what the side's writer begins with
@@ -44,6 +48,7 @@ own_text : (request : List ℕ) (s : Service) → IsUnused request s → IsUnuse
 own_text request s u = subst (λ (t : List ℕ). IsUnused t s) (sym (ap (λ (w : Writer). w.head) u.writer)) u
 
 -- an offer's side is unused, over any connection
-pub unused_on : {W : Type 0} (plan : Plan) (side : Option Service) (wire : Option W) → Binds plan side → IfSome (service_end_of side wire) (λ line. IsUnused (text_of side) line.side)
+pub unused_on : {W : Type 0} (plan : Plan) (side : Option Service) (wire : Option W) → Binds plan side
+    → IfSome (service_end_of side wire) (λ line. IsUnused (text_of side) line.side)
 unused_on plan None wire b = tt
 unused_on plan (Some s) wire b = own_text _ s b.unused

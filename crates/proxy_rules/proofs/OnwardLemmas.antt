@@ -5,7 +5,8 @@ use Rattle.std.specs.Prelude.{Result, Ok, Err, IfOk, IfErr}
 use Rattle.trace_core.specs.declared.history.Cause.{Cause}
 use Rattle.trace_core.specs.declared.history.Cause.TheVariants as causes
 use Rattle.http_side.specs.declared.fault.HttpFault.{HttpFault}
-use Rattle.http_side.specs.declared.fault.HttpFault.TheVariants.{More, Bad, TooLong, TooMany, BothLengths, Lengths, Coding, Target, Connect, NoMemory}
+use Rattle.http_side.specs.declared.fault.HttpFault.TheVariants.{More, Bad, TooLong, TooMany, BothLengths, Lengths, Coding, Target, Connect}
+use Rattle.http_side.specs.declared.fault.HttpFault.TheVariants.{NoMemory}
 use Rattle.http_side.specs.declared.forward.Forward.{Forward}
 use Rattle.http_side.specs.declared.forward.Message.{Message}
 use Rattle.http_side.specs.declared.forward.Message.TheVariants.{Request, Response}
@@ -18,7 +19,8 @@ use Rattle.http_side.specs.Forward.{forwarded, is_response, next_framing, closes
 use Rattle.http_side.specs.Heads.{RequestParts, ResponseParts}
 use Rattle.http_side.specs.Requests.{IsRead}
 use Rattle.http_side.specs.Responses.{IsResponseRead}
-use Rattle.proxy_rules.specs.Onward.{IsForwarded, IsUnfit, suits, suits_use, IsRequest, IsResponse, IsAdaptedRequest, IsAdaptedResponse, cause_of, may_answer}
+use Rattle.proxy_rules.specs.Onward.{IsForwarded, IsUnfit, suits, suits_use, IsRequest, IsResponse, IsAdaptedRequest, IsAdaptedResponse}
+use Rattle.proxy_rules.specs.Onward.{cause_of, may_answer}
 use Rattle.proxy_rules.specs.declared.onward.Headed.{Headed}
 
 -- a response may go out whatever the use of an origin's connection
@@ -30,7 +32,8 @@ answers_suit Kept (Response r) framing e = refl
 
 -- a head of a message is one of each kind that the message is of
 pub goes_on : (r : Result Headed Cause) (f : Forward) (is_it : Message → Type 0) → is_it f.message → suits f ≡ true
-    → IfOk r (λ headed. headed.head.items ≡ forwarded f) → IfOk r (λ headed. headed.framing ≡ next_framing f) → IfOk r (λ headed. headed.closes ≡ closes f)
+    → IfOk r (λ headed. headed.head.items ≡ forwarded f) → IfOk r (λ headed. headed.framing ≡ next_framing f)
+    → IfOk r (λ headed. headed.closes ≡ closes f)
     → IfOk r (IsForwarded f.user.now f.carries_on f.origin f.part is_it)
 goes_on (Ok headed) f is_it m fit head framing ends = record {
   forward = f;
@@ -47,7 +50,8 @@ goes_on (Ok headed) f is_it m fit head framing ends = record {
 goes_on (Err cause) f is_it m fit head framing ends = tt
 
 -- and of each wider kind
-pub widened : (r : Result Headed Cause) (user : RequestParts) (carries_on : Bool) (origin : OriginWay) (part other : BodyKind) (is_it is_wide : Message → Type 0)
+pub widened : (r : Result Headed Cause) (user : RequestParts) (carries_on : Bool) (origin : OriginWay) (part other : BodyKind)
+    (is_it is_wide : Message → Type 0)
     → ((m : Message) → is_it m → is_wide m) → part ≡ other
     → IfOk r (IsForwarded user carries_on origin part is_it) → IfOk r (IsForwarded user carries_on origin other is_wide)
 widened (Ok headed) user carries_on origin part other is_it is_wide wide e g = record {
@@ -80,7 +84,8 @@ unfit_in user origin part other is_it is_wide wide e g = record {
 pub unmade_of : (r : Result Headed Cause) (refused : Type 0) (user : RequestParts) (origin : OriginWay) (part other : BodyKind)
     (is_it is_wide : Message → Type 0) → ((m : Message) → is_it m → is_wide m) → part ≡ other
     → IfErr r (λ cause. (cause ≡ causes.Memory) ⊎ ((cause ≡ causes.NextHop) × IsUnfit user origin part is_it))
-    → IfErr r (λ cause. (cause ≡ causes.Memory) ⊎ ((cause ≡ causes.Service) × refused) ⊎ ((cause ≡ causes.NextHop) × IsUnfit user origin other is_wide))
+    → IfErr r (λ cause. (cause ≡ causes.Memory) ⊎ ((cause ≡ causes.Service) × refused)
+    ⊎ ((cause ≡ causes.NextHop) × IsUnfit user origin other is_wide))
 unmade_of (Ok headed) refused user origin part other is_it is_wide wide e why = tt
 unmade_of (Err cause) refused user origin part other is_it is_wide wide e (inl memory) = inl memory
 unmade_of (Err cause) refused user origin part other is_it is_wide wide e (inr unfit) =
@@ -90,12 +95,14 @@ pub adapted_request_is : (text : List ℕ) (parts : RequestParts) (len : ℕ) �
     → (m : Message) → IsRequest parts m → IsAdaptedRequest text m
 adapted_request_is text parts len read e m is_it = (parts, rw e at read, is_it)
 
-pub adapted_response_is : (to_head has_body : Bool) (text : List ℕ) (parts : ResponseParts) (len : ℕ) → IsResponseRead to_head text parts len → len ≡ length text
+pub adapted_response_is : (to_head has_body : Bool) (text : List ℕ) (parts : ResponseParts) (len : ℕ)
+    → IsResponseRead to_head text parts len → len ≡ length text
     → may_answer has_body parts ≡ true → (m : Message) → IsResponse parts m → IsAdaptedResponse to_head has_body text m
 adapted_response_is to_head has_body text parts len read e may m is_it = (parts, record { read = rw e at read; may = may }, is_it)
 
 -- a head that is refused is the service's fault, unless memory ran out
-pub blamed : (fault : HttpFault) (refused : Type 0) → ((fault ≡ NoMemory → ⊥) → refused) → (cause_of fault ≡ causes.Memory) ⊎ ((cause_of fault ≡ causes.Service) × refused)
+pub blamed : (fault : HttpFault) (refused : Type 0) → ((fault ≡ NoMemory → ⊥) → refused)
+    → (cause_of fault ≡ causes.Memory) ⊎ ((cause_of fault ≡ causes.Service) × refused)
 blamed NoMemory refused f = inl refl
 blamed More refused f = inr (refl, f (λ e. cc))
 blamed Bad refused f = inr (refl, f (λ e. cc))

@@ -10,7 +10,8 @@ use Rattle.http_side.specs.declared.forward.NextServer.TheVariants.{Origin, Pare
 use Rattle.proxy_config.proofs.HostLemmas.{IsAt_unique}
 use Rattle.proxy_config.specs.Hosts.{IsAt, IsLiteral, IsNamed}
 use Rattle.proxy_config.specs.declared.config.Config.{Config}
-use Rattle.proxy_rules.specs.Routes.{IsOwn, IsDeniedAt, IsAllowed, GoesStraight, GoesToParent, GoesNext, GoesBy, IsUnknown, IsDenied, GoesNowhereBy}
+use Rattle.proxy_rules.specs.Routes.{IsOwn, IsDeniedAt, IsAllowed, GoesStraight, GoesToParent, GoesNext, GoesBy, IsUnknown, IsDenied}
+use Rattle.proxy_rules.specs.Routes.{GoesNowhereBy}
 use Rattle.proxy_rules.specs.declared.route.Route.{Route}
 use Rattle.proxy_rules.specs.declared.route.Unrouted.{Unrouted}
 use Rattle.proxy_rules.specs.declared.route.Unrouted.TheVariants.{Unknown, Denied}
@@ -44,7 +45,8 @@ module _ (config : Config) (host : List ℕ) (port : Option ℕ) where
   literal_through a parent at other spared e ip text = record {
     parent_is = e;
     missing = λ b named. named.no_literal ip text;
-    allowed = λ b literal. subst (λ (z : SocketAddrV4). IsAllowed config z) (same a b at (inl literal)) (record { other = other; spared = spared });
+    allowed = λ b literal. subst (λ (z : SocketAddrV4). IsAllowed config z) (same a b at (inl literal))
+        (record { other = other; spared = spared });
   }
 
   -- and so does a name that the table lacks
@@ -62,8 +64,10 @@ module _ (config : Config) (host : List ℕ) (port : Option ℕ) where
   -- a route and a reason for none exclude each other
   nowhere_by : (n : NextServer) (a : SocketAddrV4) (why : Unrouted) → GoesNext n config host port a → GoesNowhereBy config host port why → ⊥
   nowhere_by Origin a Unknown x (inl none) = none.1 a (at_of a x.at)
-  nowhere_by Origin a Unknown x (inr own) = x.allowed.other (subst (λ (z : SocketAddrV4). IsOwn config z) (same own.0 a own.1 (at_of a x.at)) own.2)
-  nowhere_by Origin a Denied x d = x.allowed.spared (subst (λ (z : SocketAddrV4). IsDeniedAt config z) (same d.address a d.at (at_of a x.at)) d.denied)
+  nowhere_by Origin a Unknown x (inr own) = x.allowed.other (subst (λ (z : SocketAddrV4). IsOwn config z)
+      (same own.0 a own.1 (at_of a x.at)) own.2)
+  nowhere_by Origin a Denied x d = x.allowed.spared (subst (λ (z : SocketAddrV4). IsDeniedAt config z)
+      (same d.address a d.at (at_of a x.at)) d.denied)
   nowhere_by Parent a Unknown x (inl none) = let both : None ≡ Some a = sym none.0 ∙ x.parent_is in cc
   nowhere_by Parent a Unknown x (inr own) = elim own.1 [
     | inl literal ↦ (x.allowed own.0 literal).other own.2

@@ -21,12 +21,15 @@ or_true true = refl
 or_true false = refl
 
 -- a field that names it is enough
-pub expected_here : (fields : List (List ℕ × List ℕ)) (i : ℕ) → i < length fields → str_eq_ignore_ascii_case (name_at fields i) (codes "expect") ≡ true
+pub expected_here : (fields : List (List ℕ × List ℕ)) (i : ℕ) → i < length fields
+    → str_eq_ignore_ascii_case (name_at fields i) (codes "expect") ≡ true
     → has_item (codes "100-continue") (value_at fields i) ≡ true → expects_continue fields ≡ true
 expected_here fields i l e n =
     ap (list_any (has_item (codes "100-continue"))) (values-front (codes "expect") fields (i + 1))
-    ∙ any_more (has_item (codes "100-continue")) (values_of (codes "expect") (take (i + 1) fields)) (values_of (codes "expect") (drop (i + 1) fields))
-    ∙ ap (λ vs. list_any (has_item (codes "100-continue")) vs || list_any (has_item (codes "100-continue")) (values_of (codes "expect") (drop (i + 1) fields))) (values-more (codes "expect") fields i l e)
+    ∙ any_more (has_item (codes "100-continue")) (values_of (codes "expect") (take (i + 1) fields))
+    (values_of (codes "expect") (drop (i + 1) fields))
+    ∙ ap (λ vs. list_any (has_item (codes "100-continue")) vs || list_any (has_item (codes "100-continue"))
+    (values_of (codes "expect") (drop (i + 1) fields))) (values-more (codes "expect") fields i l e)
     ∙ ap (λ b. b || list_any (has_item (codes "100-continue")) (values_of (codes "expect") (drop (i + 1) fields)))
     (any_more (has_item (codes "100-continue")) (values_of (codes "expect") (take i fields)) (value_at fields i ∷ [])
     ∙ ap (λ b. list_any (has_item (codes "100-continue")) (values_of (codes "expect") (take i fields)) || (b || false)) n ∙ or_true _)

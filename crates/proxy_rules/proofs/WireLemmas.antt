@@ -1,5 +1,6 @@
 -- What the wires took, by what stands.
-use Rattle.std.proofs.Common.{◌≡◌, ℕ, ◌≤◌, ◌⊎◌, inl, inr, Bool, true, false, List, [], ◌∷◌, ◌++◌, length, take, Option, Some, None, MatchOption, IfSome, if◌then◌else◌, refl, ap, sym, subst, ◌∙◌}
+use Rattle.std.proofs.Common.{◌≡◌, ℕ, ◌≤◌, ◌⊎◌, inl, inr, Bool, true, false, List, [], ◌∷◌, ◌++◌, length, take, Option, Some, None}
+use Rattle.std.proofs.Common.{MatchOption, IfSome, if◌then◌else◌, refl, ap, sym, subst, ◌∙◌}
 use Rattle.std.proofs.Math.Seq.{take-length}
 use Rattle.trace_core.specs.declared.history.Seen.{Seen}
 use Rattle.trace_core.specs.declared.history.Point.{Point}
@@ -27,7 +28,8 @@ use Rattle.proxy_rules.specs.Wires.{TookNoMessage, TookFront, TookMessage, TookR
 pub received_is : (h : Holding) (body : List ℕ) → IsTied h → EndsBody h.original body → length body ≡ (shows h.history).received
 received_is h body t e = sym e.end ∙ ap (λ (p : ℕ × ℕ). p.1) t.original
 
-pub adapted_received_is : (h : Holding) (body : List ℕ) → IsTied h → EndsBody h.adapted body → length body ≡ (shows h.history).adapted_received
+pub adapted_received_is : (h : Holding) (body : List ℕ) → IsTied h → EndsBody h.adapted body
+    → length body ≡ (shows h.history).adapted_received
 adapted_received_is h body t e = sym e.end ∙ ap (λ (p : ℕ × ℕ). p.1) t.adapted
 
 chosen_by : (c m : Bool) (r a : ℕ) (original adapted : List ℕ) → (m ≡ false → a ≡ 0) → length original ≡ r → length adapted ≡ a
@@ -40,9 +42,11 @@ pub chosen_is : (h : Holding) (original adapted : List ℕ) → IsTied h → End
     → length (chosen (shows h.history) original adapted) ≡ chosen_received (shows h.history)
 chosen_is h original adapted t o a =
     let x : Seen = shows h.history in
-    chosen_by (chooses_original x) x.modified x.received x.adapted_received original adapted (sound h.history.plan h.history.events t.legal).unmodified (received_is h original t o) (adapted_received_is h adapted t a)
+    chosen_by (chooses_original x) x.modified x.received x.adapted_received original adapted
+    (sound h.history.plan h.history.events t.legal).unmodified (received_is h original t o) (adapted_received_is h adapted t a)
 
-pub sent_one : (head : List ℕ) (h : Holding) (original taken : List ℕ) (s : Service) → IsTied h → EndsBody h.original original → is_plain (shows h.history).plan.kind ≡ false
+pub sent_one : (head : List ℕ) (h : Holding) (original taken : List ℕ) (s : Service) → IsTied h → EndsBody h.original original
+    → is_plain (shows h.history).plan.kind ≡ false
     → ServiceSent head (shows h.history) original taken s → TookRequest (shows h.history) head original taken
 sent_one head h original taken s t o n g = record {
   chunks = g.sent.chunks;
@@ -69,7 +73,8 @@ aside_none taken h a = aside_at h.stage taken h.writer a.text
 
 message_front : (made : List ℕ → Type 0) (whole : Bool) (x : Seen) (f : Framing) (head body taken : List ℕ) (w : Writer) → made head
     → IsFrontOfMessage f head (take (chosen_delivered x) body) taken
-    → (IfSome (length_of f) (λ n. chosen_received x ≤ n) → IsFrontOfMessage f head body taken) → GivesMessage x f whole head body taken w → TookFront made f x body taken
+    → (IfSome (length_of f) (λ n. chosen_received x ≤ n) → IsFrontOfMessage f head body taken) → GivesMessage x f whole head body taken w
+    → TookFront made f x body taken
 message_front made whole x f head body taken w k d i g = record {
   head = head;
   made_is = k;
@@ -88,23 +93,32 @@ message_front made whole x f head body taken w k d i g = record {
 }
 
 -- a whole message's body is just what was delivered
-whole_out_at : (x : Seen) (f : Framing) (head body taken : List ℕ) (w : Writer) → length body ≡ chosen_received x → GivesMessage x f true head body taken w → IsFrontOfMessage f head (take (chosen_delivered x) body) taken
+whole_out_at : (x : Seen) (f : Framing) (head body taken : List ℕ) (w : Writer) → length body ≡ chosen_received x
+    → GivesMessage x f true head body taken w → IsFrontOfMessage f head (take (chosen_delivered x) body) taken
 whole_out_at x f head body taken w l g = subst (λ (xs : List ℕ). IsFrontOfMessage f head xs taken)
-    (sym (ap (λ (n : ℕ). take n body) ((g.all_out refl).1 ∙ sym l) ∙ take-length body)) (whole_front_at at.Whole x f head body taken w refl l g)
+    (sym (ap (λ (n : ℕ). take n body) ((g.all_out refl).1 ∙ sym l) ∙ take-length body))
+    (whole_front_at at.Whole x f head body taken w refl l g)
 
-took_at : (made : List ℕ → Type 0) (stage : Stage) (x : Seen) (f : Framing) (head body taken : List ℕ) (w : Writer) → made head → gift_of stage ≡ message → length body ≡ chosen_received x → GivenAt stage x f head body taken w
+took_at : (made : List ℕ → Type 0) (stage : Stage) (x : Seen) (f : Framing) (head body taken : List ℕ) (w : Writer) → made head
+    → gift_of stage ≡ message → length body ≡ chosen_received x → GivenAt stage x f head body taken w
     → TookFront made f x body taken
 took_at made at.Empty x f head body taken w k m l g = cc
-took_at made at.Message x f head body taken w k m l g = message_front made false x f head body taken w k (out_front_at at.Message x f head body taken w refl l g) (λ i. front_at at.Message x f head body taken w refl l i g) g
-took_at made at.Whole x f head body taken w k m l g = message_front made true x f head body taken w k (whole_out_at x f head body taken w l g) (λ i. whole_front_at at.Whole x f head body taken w refl l g) g
+took_at made at.Message x f head body taken w k m l g =
+    message_front made false x f head body taken w k (out_front_at at.Message x f head body taken w refl l g)
+    (λ i. front_at at.Message x f head body taken w refl l i g) g
+took_at made at.Whole x f head body taken w k m l g =
+    message_front made true x f head body taken w k (whole_out_at x f head body taken w l g)
+    (λ i. whole_front_at at.Whole x f head body taken w refl l g) g
 took_at made (at.Refusal status) x f head body taken w k m l g = cc
 
-pub front_one : (made : List ℕ → Type 0) (x : Seen) (head body taken : List ℕ) (h : Hop) → made head → gift_of h.stage ≡ message → length body ≡ chosen_received x → HasGiven x head body taken h
+pub front_one : (made : List ℕ → Type 0) (x : Seen) (head body taken : List ℕ) (h : Hop) → made head → gift_of h.stage ≡ message
+    → length body ≡ chosen_received x → HasGiven x head body taken h
     → TookFront made h.framing x body taken
 front_one made x head body taken h k m l g = took_at made h.stage x h.framing head body taken h.writer k m l g.given
 
 -- a writer without a refusal took nothing beside a message
-unrefused_at : (stage : Stage) (taken : List ℕ) (w : Writer) → ((status : ℕ) → gift_of stage ≡ refused_by status → ⊥) → AsideAt stage taken w → taken ≡ []
+unrefused_at : (stage : Stage) (taken : List ℕ) (w : Writer) → ((status : ℕ) → gift_of stage ≡ refused_by status → ⊥)
+    → AsideAt stage taken w → taken ≡ []
 unrefused_at at.Empty taken w none a = first_none taken (waiting w) a
 unrefused_at at.Message taken w none a = absurd a
 unrefused_at at.Whole taken w none a = absurd a
@@ -113,9 +127,11 @@ unrefused_at (at.Refusal status) taken w none a = absurd (none status refl)
 unrefused : (taken : List ℕ) (h : Hop) → ((status : ℕ) → gift_of h.stage ≡ refused_by status → ⊥) → IsAside taken h → taken ≡ []
 unrefused taken h none a = unrefused_at h.stage taken h.writer none a.text
 
-pub service_one : {W : Type 0} (head : List ℕ) (h : Holding) (original taken : List ℕ) (service : Option (ServiceEnd Service W)) → IsTied h → EndsBody h.original original
+pub service_one : {W : Type 0} (head : List ℕ) (h : Holding) (original taken : List ℕ) (service : Option (ServiceEnd Service W)) → IsTied h
+    → EndsBody h.original original
     → MatchOption service (taken ≡ []) (λ line. ServiceSent head (shows h.history) original taken line.side)
-    → MatchOption service (taken ≡ []) (λ _. is_plain (shows h.history).plan.kind ≡ false → TookRequest (shows h.history) head original taken)
+    → MatchOption service (taken ≡ []) (λ _. is_plain (shows h.history).plan.kind ≡ false
+    → TookRequest (shows h.history) head original taken)
 service_one head h original taken None t o e = e
 service_one head h original taken (Some line) t o g = λ n. sent_one head h original taken line.side t o n g
 
@@ -129,7 +145,8 @@ writer_at made hop = record {
 }
 
 -- where one took the whole message
-pub whole_one : (next back : Hop) (next_made back_made : Seen → List ℕ → Type 0) (refusing : Bool) (x : Seen) (body to_next to_back : List ℕ)
+pub whole_one : (next back : Hop) (next_made back_made : Seen → List ℕ → Type 0) (refusing : Bool) (x : Seen)
+    (body to_next to_back : List ℕ)
     → IsDelivered refusing (writer_at next_made next) (writer_at back_made back) x body to_next to_back
     → TookMessage (next_made x) next.framing body to_next ⊎ TookMessage (back_made x) back.framing body to_back
 whole_one next back next_made back_made refusing x body to_next to_back d = elim d.1 [
@@ -139,32 +156,55 @@ whole_one next back next_made back_made refusing x body to_next to_back d = elim
 
 pub hops_one : (h : Holding) (next back : Hop) (next_made back_made : Seen → List ℕ → Type 0) (original adapted to_next to_back : List ℕ)
     → IsTied h → EndsBody h.original original → EndsBody h.adapted adapted
-    → HopsAre (writer_at next_made next) (writer_at back_made back) (shows h.history) (chosen (shows h.history) original adapted) to_next to_back
-    → (TookOne (next_made (shows h.history)) next.framing (shows h.history) (chosen (shows h.history) original adapted) to_next × TookNoMessage to_back)
-    ⊎ (TookNoMessage to_next × TookOne (back_made (shows h.history)) back.framing (shows h.history) (chosen (shows h.history) original adapted) to_back)
-hops_one h next back next_made back_made original adapted to_next to_back t o a (inl m) = inl (inl (m.none, aside_none to_next next m.next_aside_is), aside_none to_back back m.back_aside_is)
+    → HopsAre (writer_at next_made next) (writer_at back_made back) (shows h.history) (chosen (shows h.history) original adapted) to_next
+    to_back
+    → (TookOne (next_made (shows h.history)) next.framing (shows h.history) (chosen (shows h.history) original adapted) to_next
+    × TookNoMessage to_back)
+    ⊎ (TookNoMessage to_next × TookOne (back_made (shows h.history)) back.framing (shows h.history)
+    (chosen (shows h.history) original adapted) to_back)
+hops_one h next back next_made back_made original adapted to_next to_back t o a (inl m) =
+    inl (inl (m.none, aside_none to_next next m.next_aside_is), aside_none to_back back m.back_aside_is)
 hops_one h next back next_made back_made original adapted to_next to_back t o a (inr (inl m)) =
     let x = shows h.history in
-    inl (inr (front_one (next_made x) x m.head (chosen x original adapted) to_next next m.given_is.0 m.begun (chosen_is h original adapted t o a) m.given_is.1), aside_none to_back back m.aside_is)
+    inl (
+      inr (front_one (next_made x) x m.head (chosen x original adapted) to_next next m.given_is.0 m.begun
+          (chosen_is h original adapted t o a) m.given_is.1),
+      aside_none to_back back m.aside_is,
+    )
 hops_one h next back next_made back_made original adapted to_next to_back t o a (inr (inr (inl m))) =
     let x = shows h.history in
-    inr (aside_none to_next next m.aside_is, inr (front_one (back_made x) x m.head (chosen x original adapted) to_back back m.given_is.0 m.begun (chosen_is h original adapted t o a) m.given_is.1))
+    inr (
+      aside_none to_next next m.aside_is,
+      inr (front_one (back_made x) x m.head (chosen x original adapted) to_back back m.given_is.0
+          m.begun (chosen_is h original adapted t o a) m.given_is.1),
+    )
 hops_one h next back next_made back_made original adapted to_next to_back t o a (inr (inr (inr m))) =
     inl (inl (m.none, aside_none to_next next m.next_aside_is), aside_none to_back back m.back_aside_is)
 
-pub other_one : (point : Point) (h : Holding) (next back : Hop) (next_made back_made : Seen → List ℕ → Type 0) (original adapted to_next to_back : List ℕ)
+pub other_one : (point : Point) (h : Holding) (next back : Hop) (next_made back_made : Seen → List ℕ → Type 0)
+    (original adapted to_next to_back : List ℕ)
     → IsTied h → EndsBody h.original original → EndsBody h.adapted adapted
     → ((status : ℕ) → other_gift point (gift_of next.stage) (gift_of back.stage) ≡ refused_by status → ⊥)
     → (point ≡ Respmod → gift_of back.stage ≡ message → ⊥)
-    → HopsAre (writer_at next_made next) (writer_at back_made back) (shows h.history) (chosen (shows h.history) original adapted) to_next to_back
-    → OtherTook point (next_made (shows h.history)) next.framing (shows h.history) (chosen (shows h.history) original adapted) to_next to_back
-other_one Reqmod h next back next_made back_made original adapted to_next to_back t o a none away (inl m) = inl (unrefused to_next next none m.next_aside_is)
+    → HopsAre (writer_at next_made next) (writer_at back_made back) (shows h.history) (chosen (shows h.history) original adapted) to_next
+    to_back
+    → OtherTook point (next_made (shows h.history)) next.framing (shows h.history) (chosen (shows h.history) original adapted) to_next
+    to_back
+other_one Reqmod h next back next_made back_made original adapted to_next to_back t o a none away (inl m) =
+    inl (unrefused to_next next none m.next_aside_is)
 other_one Reqmod h next back next_made back_made original adapted to_next to_back t o a none away (inr (inl m)) =
     let x = shows h.history in
-    inr (front_one (next_made x) x m.head (chosen x original adapted) to_next next m.given_is.0 m.begun (chosen_is h original adapted t o a) m.given_is.1)
-other_one Reqmod h next back next_made back_made original adapted to_next to_back t o a none away (inr (inr (inl m))) = inl (unrefused to_next next none m.aside_is)
-other_one Reqmod h next back next_made back_made original adapted to_next to_back t o a none away (inr (inr (inr m))) = inl (unrefused to_next next none m.next_aside_is)
-other_one Respmod h next back next_made back_made original adapted to_next to_back t o a none away (inl m) = unrefused to_back back none m.back_aside_is
-other_one Respmod h next back next_made back_made original adapted to_next to_back t o a none away (inr (inl m)) = unrefused to_back back none m.aside_is
-other_one Respmod h next back next_made back_made original adapted to_next to_back t o a none away (inr (inr (inl m))) = absurd (away refl m.begun)
-other_one Respmod h next back next_made back_made original adapted to_next to_back t o a none away (inr (inr (inr m))) = unrefused to_back back none m.back_aside_is
+    inr (front_one (next_made x) x m.head (chosen x original adapted) to_next next m.given_is.0 m.begun (chosen_is h original adapted t o a)
+    m.given_is.1)
+other_one Reqmod h next back next_made back_made original adapted to_next to_back t o a none away (inr (inr (inl m))) =
+    inl (unrefused to_next next none m.aside_is)
+other_one Reqmod h next back next_made back_made original adapted to_next to_back t o a none away (inr (inr (inr m))) =
+    inl (unrefused to_next next none m.next_aside_is)
+other_one Respmod h next back next_made back_made original adapted to_next to_back t o a none away (inl m) =
+    unrefused to_back back none m.back_aside_is
+other_one Respmod h next back next_made back_made original adapted to_next to_back t o a none away (inr (inl m)) =
+    unrefused to_back back none m.aside_is
+other_one Respmod h next back next_made back_made original adapted to_next to_back t o a none away (inr (inr (inl m))) =
+    absurd (away refl m.begun)
+other_one Respmod h next back next_made back_made original adapted to_next to_back t o a none away (inr (inr (inr m))) =
+    unrefused to_back back none m.back_aside_is

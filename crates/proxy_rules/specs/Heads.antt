@@ -13,7 +13,8 @@ use Rattle.http_relay.specs.declared.side.head.SourceHead.TheVariants as heads
 use Rattle.http_relay.specs.declared.side.SourceSide.{SourceSide}
 use Rattle.http_relay.specs.Reading.{request_of}
 use Rattle.proxy_rules.specs.Users.{is_head_request}
-use Rattle.proxy_rules.specs.Onward.{IsForwarded, IsUnfit, IsRequest, IsResponse, IsAdaptedRequest, IsAdaptedResponse, NoAdaptedRequest, NoAdaptedResponse, part_of}
+use Rattle.proxy_rules.specs.Onward.{IsForwarded, IsUnfit, IsRequest, IsResponse, IsAdaptedRequest, IsAdaptedResponse, NoAdaptedRequest}
+use Rattle.proxy_rules.specs.Onward.{NoAdaptedResponse, part_of}
 use Rattle.proxy_rules.specs.declared.onward.Headed.{Headed}
 
 -- the original is what the source's head says
@@ -25,8 +26,10 @@ IsOriginal (heads.Response r) message = IsResponse r message
 -- the chosen message: the original, or the one whose head a service sent
 abbrev pub MakesOf : SourceHead → RequestParts → Bool → OriginWay → Option (List ℕ) → Bool → Bool → Headed → Type 0
 MakesOf source user carries_on origin None is_response has_body headed = IsForwarded user carries_on origin Own (IsOriginal source) headed
-MakesOf source user carries_on origin (Some text) true has_body headed = IsForwarded user carries_on origin (part_of has_body) (IsAdaptedResponse (is_head_request user) has_body text) headed
-MakesOf source user carries_on origin (Some text) false has_body headed = IsForwarded user carries_on origin (part_of has_body) (IsAdaptedRequest text) headed
+MakesOf source user carries_on origin (Some text) true has_body headed =
+    IsForwarded user carries_on origin (part_of has_body) (IsAdaptedResponse (is_head_request user) has_body text) headed
+MakesOf source user carries_on origin (Some text) false has_body headed =
+    IsForwarded user carries_on origin (part_of has_body) (IsAdaptedRequest text) headed
 
 -- what the user's side read: the head of the request, which is the source's own, or of the one that is answered
 abbrev pub user_head : Option SourceSide → SourceHead → SourceHead
@@ -43,13 +46,15 @@ abbrev pub carries_on_of : Bool → Option SourceSide → Seen → Bool
 carries_on_of last user x = not last && body_read_of user x
 
 -- a message that goes on, of what the transaction has
-pub record Makes (origin : OriginWay) (last : Bool) (user : Option SourceSide) (source : SourceHead) (x : Seen) (adapted : Option (List ℕ)) (is_response : Bool) (headed : Headed) : Type 0 where
+pub record Makes (origin : OriginWay) (last : Bool) (user : Option SourceSide) (source : SourceHead) (x : Seen) (adapted : Option (List ℕ))
+    (is_response : Bool) (headed : Headed) : Type 0 where
   pub asked : RequestParts
   pub asked_is : request_of (user_head user source) ≡ Some asked
   pub makes : MakesOf source asked (carries_on_of last user x) origin adapted is_response x.has_body headed
 
 -- and what is remembered of it: its text, how its body goes, and whether the user's connection ends after it
-pub record Remembers (origin : OriginWay) (last : Bool) (user : Option SourceSide) (source : SourceHead) (x : Seen) (adapted : Option (List ℕ)) (is_response : Bool) (head : List ℕ) (framing : Framing) (ends : Bool) : Type 0 where
+pub record Remembers (origin : OriginWay) (last : Bool) (user : Option SourceSide) (source : SourceHead) (x : Seen)
+    (adapted : Option (List ℕ)) (is_response : Bool) (head : List ℕ) (framing : Framing) (ends : Bool) : Type 0 where
   pub headed : Headed
   pub makes : Makes origin last user source x adapted is_response headed
   pub head_is : head ≡ headed.head.items
@@ -60,13 +65,17 @@ pub record Remembers (origin : OriginWay) (last : Bool) (user : Option SourceSid
 -- is a request that may not go out on a kept connection
 abbrev pub MakesNoneOf : SourceHead → RequestParts → OriginWay → Option (List ℕ) → Bool → Bool → Cause → Type 0
 MakesNoneOf source user origin None is_response has_body cause =
-    (cause ≡ causes.Memory) ⊎ ((cause ≡ causes.Source) × (source ≡ heads.Unread)) ⊎ ((cause ≡ causes.NextHop) × IsUnfit user origin Own (IsOriginal source))
-MakesNoneOf source user origin (Some text) true has_body cause = (cause ≡ causes.Memory) ⊎ ((cause ≡ causes.Service) × NoAdaptedResponse (is_head_request user) has_body text)
+    (cause ≡ causes.Memory) ⊎ ((cause ≡ causes.Source) × (source ≡ heads.Unread))
+    ⊎ ((cause ≡ causes.NextHop) × IsUnfit user origin Own (IsOriginal source))
+MakesNoneOf source user origin (Some text) true has_body cause =
+    (cause ≡ causes.Memory) ⊎ ((cause ≡ causes.Service) × NoAdaptedResponse (is_head_request user) has_body text)
 MakesNoneOf source user origin (Some text) false has_body cause =
-    (cause ≡ causes.Memory) ⊎ ((cause ≡ causes.Service) × NoAdaptedRequest text) ⊎ ((cause ≡ causes.NextHop) × IsUnfit user origin (part_of has_body) (IsAdaptedRequest text))
+    (cause ≡ causes.Memory) ⊎ ((cause ≡ causes.Service) × NoAdaptedRequest text)
+    ⊎ ((cause ≡ causes.NextHop) × IsUnfit user origin (part_of has_body) (IsAdaptedRequest text))
 
 -- why no head is made: that of the user or that of the chosen message wasn't read
 abbrev pub MakesNone : OriginWay → Option SourceSide → SourceHead → Seen → Option (List ℕ) → Bool → Cause → Type 0
 MakesNone origin user source x adapted is_response cause =
     ((cause ≡ causes.Source) × (request_of (user_head user source) ≡ None))
-    ⊎ ((asked : RequestParts) × (request_of (user_head user source) ≡ Some asked) × MakesNoneOf source asked origin adapted is_response x.has_body cause)
+    ⊎ ((asked : RequestParts) × (request_of (user_head user source) ≡ Some asked)
+    × MakesNoneOf source asked origin adapted is_response x.has_body cause)

@@ -24,7 +24,8 @@ offered_response response = response_text response no_extra
 -- the text of the ICAP request to this service, up to its chunks; it is told the user's address `from`, or isn't, and the field lines
 -- that are carried on
 abbrev pub offered_text : ServicePoint → Plan → (from : Option Ipv4Addr) → (carried : List ℕ) → List ℕ → List ℕ → List ℕ
-offered_text service plan from carried req res = request_head plan from carried (string_bytes service.host) (v4_port service.address) (string_bytes service.path) req res
+offered_text service plan from carried req res = request_head plan from carried (string_bytes service.host) (v4_port service.address)
+    (string_bytes service.path) req res
 
 -- a service's side with a request of this text up to its chunks, which has written and read nothing yet and has no fault
 pub record IsUnused (request : List ℕ) (s : Service) : Type 0 where
@@ -80,4 +81,5 @@ options_for (Some service) options = options
 -- carried on, and with these heads
 abbrev pub AsksFor : Option ServicePoint → (from : Option Ipv4Addr) → (carried : List ℕ) → (req res : List ℕ) → Offered → Type 0
 AsksFor None from carried req res offer = offer.side ≡ None
-AsksFor (Some service) from carried req res offer = MatchOption offer.side ⊤ (IsUnused (offered_text service offer.plan from carried req res))
+AsksFor (Some service) from carried req res offer =
+    MatchOption offer.side ⊤ (IsUnused (offered_text service offer.plan from carried req res))

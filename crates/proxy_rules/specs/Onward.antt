@@ -52,7 +52,8 @@ abbrev pub IsAdaptedRequest : List ℕ → Message → Type 0
 IsAdaptedRequest text message = (parts : RequestParts) × IsRead true text parts (length text) × IsRequest parts message
 
 abbrev pub IsAdaptedResponse : Bool → Bool → List ℕ → Message → Type 0
-IsAdaptedResponse to_head has_body text message = (parts : ResponseParts) × IsAnswerOf to_head has_body text parts × IsResponse parts message
+IsAdaptedResponse to_head has_body text message = (parts : ResponseParts) × IsAnswerOf to_head has_body text parts
+    × IsResponse parts message
 
 abbrev pub NoAdaptedRequest : List ℕ → Type 0
 NoAdaptedRequest text = (parts : RequestParts) → IsRead true text parts (length text) → ⊥
@@ -81,7 +82,8 @@ pub record IsUnfit (user : RequestParts) (origin : OriginWay) (part : BodyKind) 
 
 -- The head of a message of this kind, for a user with this request, whose connection may carry a further one or not, this way to its
 -- origin where it is a request: its text, how its body goes, and whether the user's connection ends after it.
-pub record IsForwarded (user : RequestParts) (carries_on : Bool) (origin : OriginWay) (part : BodyKind) (is_it : Message → Type 0) (headed : Headed) : Type 0 where
+pub record IsForwarded (user : RequestParts) (carries_on : Bool) (origin : OriginWay) (part : BodyKind) (is_it : Message → Type 0)
+    (headed : Headed) : Type 0 where
   pub forward : Forward
   pub user_is : forward.user.now ≡ user
   pub carries_on_is : forward.carries_on ≡ carries_on

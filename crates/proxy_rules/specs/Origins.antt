@@ -1,5 +1,6 @@
 -- The parts of a request's target that say where it goes and how it is offered (RFC 9112, section 3.2.2; RFC 3986, section 3.2).
-use Rattle.std.specs.Prelude.{ℕ, ◌+◌, Bool, ◌||◌, ◌&&◌, List, [], ◌∷◌, drop, take, Option, Some, None, slice_index, if◌then◌else◌, ◌==◌, nat_le, nat_lt}
+use Rattle.std.specs.Prelude.{ℕ, ◌+◌, Bool, ◌||◌, ◌&&◌, List, [], ◌∷◌, drop, take, Option, Some, None, slice_index, if◌then◌else◌, ◌==◌}
+use Rattle.std.specs.Prelude.{nat_le, nat_lt}
 use Rattle.adapt_bytes.specs.declared.limits.TheConstants.{MAX_PORT}
 use Rattle.http_side.specs.Lengths.{length_value}
 use Rattle.http_side.specs.Targets.{count_before, before, from, is_delimiter}

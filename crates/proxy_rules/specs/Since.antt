@@ -48,7 +48,8 @@ freed_wire (Some free) = Some free.wire
 
 -- the source's wire gave this, whose end it counted, and took these bytes
 abbrev pub SourceGrown : (before after : Past → Type 0) → (read : Given) → (taken : List ℕ) → Type 0
-SourceGrown before after read taken = (p : Past) → before p → (q : Past) × after q × IsLater p read.bytes taken q × (read.ended ≡ true → p.ends < q.ends)
+SourceGrown before after read taken = (p : Past) → before p
+    → (q : Past) × after q × IsLater p read.bytes taken q × (read.ended ≡ true → p.ends < q.ends)
 
 -- a connection as it was, and as it is or was when it was given up: it gave and took these bytes between; without one there are none
 abbrev pub LineGrown : {W : Type 0} → Wire W → (first last : Option W) → (given taken : List ℕ) → Type 0
@@ -57,7 +58,8 @@ LineGrown w first last given taken =
 
 -- Since this beginning the wires gave and took just the texts of which this is so: each past that a wire may have had then, with just these
 -- texts, is one that it may have now. Of the service's connection they are what it gave and took since the request began on it.
-pub record Since {A W C : Type 0} (a : Wire A) (w : Wire W) (c : Wire C) (s : Snapshot A W C) (took : List ℕ → Texts → Type 0) (source : A) (line : Option W) (next : C) : Type 0 where
+pub record Since {A W C : Type 0} (a : Wire A) (w : Wire W) (c : Wire C) (s : Snapshot A W C) (took : List ℕ → Texts → Type 0) (source : A)
+    (line : Option W) (next : C) : Type 0 where
   pub texts : Texts
   pub took_is : took s.request (joined (begun_with s.ahead) texts)
   pub source_is : SourceGrown (a.past s.source) (a.past source) texts.source_read (s.beside ++ texts.back_taken)

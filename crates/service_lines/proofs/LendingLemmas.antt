@@ -16,35 +16,64 @@ pub lends_found : {I U Q A : Type 0} (since home : I → ℕ) (point : Point) (n
     → TakesLive before between what → Tells point what → FindsYoung since now most what → FindsOwn home thread what
     → ((result ≡ Err Busy) ↔ (what ≡ found.Busy)) → (result ≡ Err Paused → ⊥) → IfOk result (λ connection. HasLease what connection.lease)
     → ((p : List Act) → between p → after (after_lend since home what (fault_in result) p)) → Lends now most thread before after result
-lends_found since home point now most thread before between after (found.Idle idle lease) (Ok connection) takes tells young own busy free has asked = (
-  λ reused. record {
-    dead = takes.dead;
-    since = since idle;
-    home = home idle;
-    young = young;
-    at_home = ap is_own has ∙ own;
-    each = λ p old. asked _ (takes.each p old);
-  },
-  λ fresh. absurd (let clash = sym fresh ∙ ap is_reused has ∙ tells.1 in cc),
-)
-lends_found since home point now most thread before between after (found.Idle idle lease) (Err Busy) takes tells young own busy free has asked =
+lends_found since home point now most thread before between after (found.Idle idle lease) (Ok connection) takes tells young own busy free
+    has asked = (
+      λ reused. record {
+        dead = takes.dead;
+        since = since idle;
+        home = home idle;
+        young = young;
+        at_home = ap is_own has ∙ own;
+        each = λ p old. asked _ (takes.each p old);
+      },
+      λ fresh. absurd (let clash = sym fresh ∙ ap is_reused has ∙ tells.1 in cc),
+    )
+lends_found since home point now most thread before between after (found.Idle idle lease) (Err Busy) takes tells young own busy free has
+    asked =
     absurd (let clash = busy.0 refl in cc)
-lends_found since home point now most thread before between after what (Err Paused) takes tells young own busy free has asked = absurd (free refl)
-lends_found since home point now most thread before between after (found.Idle idle lease) (Err Unreached) takes tells young own busy free has asked =
-    inl (is_own lease, record { dead = takes.dead; since = since idle; home = home idle; young = young; at_home = own; each = λ p old. asked _ (takes.each p old) })
-lends_found since home point now most thread before between after (found.Idle idle lease) (Err NoMemory) takes tells young own busy free has asked =
-    inl (is_own lease, record { dead = takes.dead; since = since idle; home = home idle; young = young; at_home = own; each = λ p old. asked _ (takes.each p old) })
-lends_found since home point now most thread before between after (found.Fresh lease) (Ok connection) takes tells young own busy free has asked = (
-  λ reused. absurd (let clash = sym reused ∙ ap is_reused has ∙ tells.1 in cc),
-  λ fresh. record { dead = takes.dead; each = λ p old. asked _ (takes.each p old) },
-)
+lends_found since home point now most thread before between after what (Err Paused) takes tells young own busy free has asked =
+    absurd (free refl)
+lends_found since home point now most thread before between after (found.Idle idle lease) (Err Unreached) takes tells young own busy free
+    has asked =
+    inl (
+      is_own lease,
+      record {
+        dead = takes.dead;
+        since = since idle;
+        home = home idle;
+        young = young;
+        at_home = own;
+        each = λ p old. asked _ (takes.each p old);
+      },
+    )
+lends_found since home point now most thread before between after (found.Idle idle lease) (Err NoMemory) takes tells young own busy free has
+    asked =
+    inl (
+      is_own lease,
+      record {
+        dead = takes.dead;
+        since = since idle;
+        home = home idle;
+        young = young;
+        at_home = own;
+        each = λ p old. asked _ (takes.each p old);
+      },
+    )
+lends_found since home point now most thread before between after (found.Fresh lease) (Ok connection) takes tells young own busy free has
+    asked = (
+      λ reused. absurd (let clash = sym reused ∙ ap is_reused has ∙ tells.1 in cc),
+      λ fresh. record { dead = takes.dead; each = λ p old. asked _ (takes.each p old) },
+    )
 lends_found since home point now most thread before between after (found.Fresh lease) (Err Busy) takes tells young own busy free has asked =
     absurd (let clash = busy.0 refl in cc)
-lends_found since home point now most thread before between after (found.Fresh lease) (Err Unreached) takes tells young own busy free has asked =
+lends_found since home point now most thread before between after (found.Fresh lease) (Err Unreached) takes tells young own busy free has
+    asked =
     inr (record { dead = takes.dead; each = λ p old. asked _ (takes.each p old) })
-lends_found since home point now most thread before between after (found.Fresh lease) (Err NoMemory) takes tells young own busy free has asked =
+lends_found since home point now most thread before between after (found.Fresh lease) (Err NoMemory) takes tells young own busy free has
+    asked =
     inr (record { dead = takes.dead; each = λ p old. asked _ (takes.each p old) })
-lends_found since home point now most thread before between after found.Busy (Ok connection) takes tells young own busy free has asked = absurd has
+lends_found since home point now most thread before between after found.Busy (Ok connection) takes tells young own busy free has asked =
+    absurd has
 lends_found since home point now most thread before between after found.Busy (Err Busy) takes tells young own busy free has asked =
     (takes.dead, λ p old. asked _ (takes.each p old))
 lends_found since home point now most thread before between after found.Busy (Err Unreached) takes tells young own busy free has asked =

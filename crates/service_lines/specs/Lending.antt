@@ -113,7 +113,8 @@ pub record LendsFresh (before after : List Act → Type 0) (fault : Option LendF
 
 -- Lending at this moment to this thread, where a connection may lie idle for so many seconds: the lease tells whether the connection was
 -- idle, and whether it was this thread's own.
-abbrev pub Lends : {U Q A : Type 0} → (now most thread : ℕ) → (before after : List Act → Type 0) → Result (LeasedConnection U Q A) LendFault → Type 0
+abbrev pub Lends : {U Q A : Type 0} → (now most thread : ℕ) → (before after : List Act → Type 0) → Result (LeasedConnection U Q A) LendFault
+    → Type 0
 Lends now most thread before after (Ok connection) =
     (is_reused connection.lease ≡ true → LendsIdle now most thread (is_own connection.lease) before after None)
     × (is_reused connection.lease ≡ false → LendsFresh before after None)

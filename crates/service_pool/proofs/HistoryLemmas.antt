@@ -23,7 +23,8 @@ within-replay n [] w may = w
 within-replay n (step ∷ steps) w may = within-replay (after n step) steps (within-after n step w may.0) may.1
 
 -- the step behind others is allowed where it comes
-may-behind : (n : Numbers) (earlier later : List PoolStep) (step : PoolStep) → AreAllowed n (earlier ++ step ∷ later) → IsAllowed (replay n earlier) step
+may-behind : (n : Numbers) (earlier later : List PoolStep) (step : PoolStep) → AreAllowed n (earlier ++ step ∷ later)
+    → IsAllowed (replay n earlier) step
 may-behind n [] later step may = may.0
 may-behind n (s ∷ earlier) later step may = may-behind (after n s) earlier later step may.1
 
@@ -43,17 +44,22 @@ opens-below n Replace may more = absurd (omega (arith, more))
 opens-below n (Limit most) may more = absurd (grind (arith, common_steps))
 
 -- the same in a history
-opens-after : (n : Numbers) (earlier : List PoolStep) (step : PoolStep) → open_count (replay n earlier) < open_count (replay n (earlier ++ step ∷ []))
+opens-after : (n : Numbers) (earlier : List PoolStep) (step : PoolStep)
+    → open_count (replay n earlier) < open_count (replay n (earlier ++ step ∷ []))
     → open_count (replay n earlier) < open_count (after (replay n earlier) step)
-opens-after n earlier step more = let P : Numbers → Type 0 = λ m. open_count (replay n earlier) < open_count m in subst P (replay-append n earlier (step ∷ [])) more
+opens-after n earlier step more = let P : Numbers → Type 0 = λ m. open_count (replay n earlier) < open_count m in
+    subst P (replay-append n earlier (step ∷ [])) more
 
 pub opened-by_take : (n : Numbers) (earlier later : List PoolStep) (step : PoolStep) → AreAllowed n (earlier ++ step ∷ later)
     → open_count (replay n earlier) < open_count (replay n (earlier ++ step ∷ [])) → (step ≡ Take) × ((replay n earlier).idle ≡ 0)
-opened-by_take n earlier later step may more = opens-take (replay n earlier) step (may-behind n earlier later step may) (opens-after n earlier step more)
+opened-by_take n earlier later step may more = opens-take (replay n earlier) step (may-behind n earlier later step may)
+    (opens-after n earlier step more)
 
 pub opened-below : (n : Numbers) (earlier later : List PoolStep) (step : PoolStep) → AreAllowed n (earlier ++ step ∷ later)
-    → open_count (replay n earlier) < open_count (replay n (earlier ++ step ∷ [])) → open_count (replay n earlier) < (replay n earlier).maximum
-opened-below n earlier later step may more = opens-below (replay n earlier) step (may-behind n earlier later step may) (opens-after n earlier step more)
+    → open_count (replay n earlier) < open_count (replay n (earlier ++ step ∷ []))
+    → open_count (replay n earlier) < (replay n earlier).maximum
+opened-below n earlier later step may more = opens-below (replay n earlier) step (may-behind n earlier later step may)
+    (opens-after n earlier step more)
 
 -- the same of a sound journal's steps
 pub opened-sound : (j : Journaled) (earlier later : List PoolStep) (step : PoolStep) → IsSound j → j.steps ≡ earlier ++ step ∷ later
@@ -70,14 +76,16 @@ pub replaced-within : (n : Numbers) (earlier later : List PoolStep) → AreAllow
 replaced-within n earlier later may = may-behind n earlier later Replace may
 
 -- a take adds one to the leased number, and a return takes one off
-leased-after : (n : Numbers) (step : PoolStep) → IsAllowed n step → (after n step).leased + cond (is_return step) 1 0 ≡ n.leased + cond (is_take step) 1 0
+leased-after : (n : Numbers) (step : PoolStep) → IsAllowed n step
+    → (after n step).leased + cond (is_return step) 1 0 ≡ n.leased + cond (is_take step) 1 0
 leased-after n Take may = grind (arith, common_steps)
 leased-after n Put may = grind (arith, common_steps)
 leased-after n GiveUp may = grind (arith, common_steps)
 leased-after n Replace may = refl
 leased-after n (Limit most) may = grind (arith, common_steps)
 
-pub leased-replay : (n : Numbers) (steps : List PoolStep) → AreAllowed n steps → (replay n steps).leased + count_by is_return steps ≡ n.leased + count_by is_take steps
+pub leased-replay : (n : Numbers) (steps : List PoolStep) → AreAllowed n steps
+    → (replay n steps).leased + count_by is_return steps ≡ n.leased + count_by is_take steps
 leased-replay n [] may = refl
 leased-replay n (step ∷ steps) may =
     let rest = leased-replay (after n step) steps may.1 in
@@ -108,6 +116,7 @@ maximum-replay n (step ∷ steps) none =
     let here : ◌≡◌ {A = ℕ} (cond (is_limit step) 1 0) 0 = omega arith in
     maximum-replay (after n step) steps rest ∙ maximum-after n step here
 
-pub maximum-last : (n : Numbers) (earlier later : List PoolStep) (most : ℕ) → count_by is_limit later ≡ 0 → (replay n (earlier ++ Limit most ∷ later)).maximum ≡ most
+pub maximum-last : (n : Numbers) (earlier later : List PoolStep) (most : ℕ) → count_by is_limit later ≡ 0
+    → (replay n (earlier ++ Limit most ∷ later)).maximum ≡ most
 maximum-last n [] later most none = maximum-replay (after n (Limit most)) later none
 maximum-last n (step ∷ earlier) later most none = maximum-last (after n step) earlier later most none

@@ -1,5 +1,6 @@
 -- What a journal has of all steps that it took.
-use Rattle.std.proofs.Common.{◌≡◌, ℕ, ◌+◌, ◌-◌, ◌≤◌, ◌<◌, ◌==◌, Bool, true, false, List, [], ◌∷◌, ◌++◌, length, drop, refl, sym, ap, ◌∙◌, subst, arith, inl, inr, append_assoc, append-nil, length-append}
+use Rattle.std.proofs.Common.{◌≡◌, ℕ, ◌+◌, ◌-◌, ◌≤◌, ◌<◌, ◌==◌, Bool, true, false, List, [], ◌∷◌, ◌++◌, length, drop, refl, sym, ap, ◌∙◌}
+use Rattle.std.proofs.Common.{subst, arith, inl, inr, append_assoc, append-nil, length-append}
 use Rattle.std.proofs.lemmas.Bool.Decides.{eqb_tells, leb_tells}
 use Rattle.std.proofs.lemmas.List.{length-drop, drop-drop, drop-append-le}
 use Rattle.circular_buffer.specs.Buffer.{keep_last}
@@ -17,7 +18,8 @@ has_last-rebased start past j h = go (length j.steps == j.room) refl
     go true e = rw e (record { earlier = past; joined = sym (append-nil past); base = h.numbers; numbers = h.numbers })
     go false e = rw e h
 
-has_last-shortened : (start : Numbers) (past : List PoolStep) (j : Journaled) (ss : List PoolStep) → ss ≡ j.steps → HasLast start past j → HasLast start past (shortened j ss)
+has_last-shortened : (start : Numbers) (past : List PoolStep) (j : Journaled) (ss : List PoolStep) → ss ≡ j.steps → HasLast start past j
+    → HasLast start past (shortened j ss)
 has_last-shortened start past j [] e h = h
 has_last-shortened start past j (s ∷ ss) e h = record {
   earlier = h.earlier ++ s ∷ [];
@@ -33,7 +35,8 @@ has_last-slid start past j h = go (length j.steps == j.room) refl
     go true e = rw e (has_last-shortened start past j j.steps refl h)
     go false e = rw e h
 
-has_last-pushed : (start : Numbers) (past : List PoolStep) (j : Journaled) (s : PoolStep) → HasLast start past j → HasLast start (past ++ s ∷ []) (pushed j s)
+has_last-pushed : (start : Numbers) (past : List PoolStep) (j : Journaled) (s : PoolStep) → HasLast start past j
+    → HasLast start (past ++ s ∷ []) (pushed j s)
 has_last-pushed start past j s h = record {
   earlier = h.earlier;
   joined = ap (λ xs. xs ++ s ∷ []) h.joined ∙ append_assoc h.earlier j.steps (s ∷ []);
@@ -42,24 +45,31 @@ has_last-pushed start past j s h = record {
 }
 
 -- what holds of the steps so far holds once more are taken, where making room keeps it
-has_last-run : (make_room : Journaled → Journaled) → ((start : Numbers) (past : List PoolStep) (j : Journaled) → HasLast start past j → HasLast start past (make_room j))
-    → (start : Numbers) (past : List PoolStep) (j : Journaled) (ss : List PoolStep) → HasLast start past j → HasLast start (past ++ ss) (run make_room j ss)
+has_last-run : (make_room : Journaled → Journaled) → ((start : Numbers) (past : List PoolStep) (j : Journaled) → HasLast start past j
+    → HasLast start past (make_room j))
+    → (start : Numbers) (past : List PoolStep) (j : Journaled) (ss : List PoolStep) → HasLast start past j
+    → HasLast start (past ++ ss) (run make_room j ss)
 has_last-run make_room keeps start past j [] h = rw (append-nil past) h
 has_last-run make_room keeps start past j (s ∷ ss) h =
     let next =
-    has_last-run make_room keeps start (past ++ s ∷ []) (stepped make_room j s) ss (has_last-pushed start past (make_room j) s (keeps start past j h)) in
+    has_last-run make_room keeps start (past ++ s ∷ []) (stepped make_room j s) ss
+    (has_last-pushed start past (make_room j) s (keeps start past j h)) in
     rw (append_assoc past (s ∷ []) ss) at next
 
-pub windows-have_last : (start : Journaled) (ss : List PoolStep) → start.base ≡ start.numbers → start.steps ≡ [] → HasLast start.numbers ss (run slid start ss)
+pub windows-have_last : (start : Journaled) (ss : List PoolStep) → start.base ≡ start.numbers → start.steps ≡ []
+    → HasLast start.numbers ss (run slid start ss)
 windows-have_last start ss fresh empty =
     has_last-run slid has_last-slid start.numbers [] start ss (record { earlier = []; joined = sym empty; base = fresh; numbers = refl })
 
-pub rebasing-has_last : (start : Journaled) (ss : List PoolStep) → start.base ≡ start.numbers → start.steps ≡ [] → HasLast start.numbers ss (run rebased start ss)
+pub rebasing-has_last : (start : Journaled) (ss : List PoolStep) → start.base ≡ start.numbers → start.steps ≡ []
+    → HasLast start.numbers ss (run rebased start ss)
 rebasing-has_last start ss fresh empty =
-    has_last-run rebased has_last-rebased start.numbers [] start ss (record { earlier = []; joined = sym empty; base = fresh; numbers = refl })
+    has_last-run rebased has_last-rebased start.numbers [] start ss (record
+    { earlier = []; joined = sym empty; base = fresh; numbers = refl })
 
 -- a window without its oldest step
-shortened-steps : (j : Journaled) (ss : List PoolStep) → ss ≡ j.steps → ((shortened j ss).steps ≡ drop 1 j.steps) × ((shortened j ss).room ≡ j.room)
+shortened-steps : (j : Journaled) (ss : List PoolStep) → ss ≡ j.steps
+    → ((shortened j ss).steps ≡ drop 1 j.steps) × ((shortened j ss).room ≡ j.room)
 shortened-steps j [] e = (sym e ∙ ap (λ l. drop 1 l) e, refl)
 shortened-steps j (s ∷ ss) e = (ap (λ l. drop 1 l) e, refl)
 
@@ -98,12 +108,14 @@ window-steps j past s some e =
       | inr t ↦ rw t.0 (ap (λ l. l ++ s ∷ []) e ∙ last-of_few past s j.room (λ full. t.1 (ap (λ l. length l) e ∙ full)), refl)
     ]
 
-windows-run : (j : Journaled) (past ss : List PoolStep) → 0 < j.room → j.steps ≡ keep_last j.room past → (run slid j ss).steps ≡ keep_last j.room (past ++ ss)
+windows-run : (j : Journaled) (past ss : List PoolStep) → 0 < j.room → j.steps ≡ keep_last j.room past
+    → (run slid j ss).steps ≡ keep_last j.room (past ++ ss)
 windows-run j past [] some e = e ∙ ap (λ l. keep_last j.room l) (sym (append-nil past))
 windows-run j past (s ∷ ss) some e =
     let one = window-steps j past s some e in
     let P : ℕ → Type 0 = λ r. 0 < r in
-    let next = windows-run (stepped slid j s) (past ++ s ∷ []) ss (subst P (sym one.1) some) (one.0 ∙ ap (λ r. keep_last r (past ++ s ∷ [])) (sym one.1)) in
+    let next = windows-run (stepped slid j s) (past ++ s ∷ []) ss (subst P (sym one.1) some)
+    (one.0 ∙ ap (λ r. keep_last r (past ++ s ∷ [])) (sym one.1)) in
     next ∙ ap (λ r. keep_last r (past ++ s ∷ [] ++ ss)) one.1 ∙ ap (λ l. keep_last j.room l) (append_assoc past (s ∷ []) ss)
 
 pub windows-keep_last : (b : Numbers) (room : ℕ) (ss : List PoolStep) → 0 < room → (run slid (opening b room) ss).steps ≡ keep_last room ss

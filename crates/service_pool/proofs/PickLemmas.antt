@@ -1,5 +1,6 @@
 -- What a test picks among the idle connections.
-use Rattle.std.proofs.Common.{◌≡◌, ℕ, ◌+◌, ◌≤◌, ◌<◌, Bool, true, false, List, [], ◌∷◌, ◌++◌, length, slice_index_or, arith, subst, sym, ap, ◌∙◌, inl, inr, length-append}
+use Rattle.std.proofs.Common.{◌≡◌, ℕ, ◌+◌, ◌≤◌, ◌<◌, Bool, true, false, List, [], ◌∷◌, ◌++◌, length, slice_index_or, arith, subst, sym, ap}
+use Rattle.std.proofs.Common.{◌∙◌, inl, inr, length-append}
 use Rattle.std.proofs.Math.Seq.{get_or-append_seam}
 use Rattle.std.proofs.lemmas.Bool.Decides.{eqb_tells}
 use Rattle.std.proofs.lemmas.List.{get_or_default}
@@ -17,9 +18,11 @@ each_more P size n m next here each i from below =
     ]
 
 -- what the test said at an index it said of the connection there
-pub said_of : {F C : Type 0} (test : Shared F (Bor C × Unit {0}) Bool) (f : F) (idle : List C) (index : ℕ) (c : C) (said : Bool) → index < length idle
+pub said_of : {F C : Type 0} (test : Shared F (Bor C × Unit {0}) Bool) (f : F) (idle : List C) (index : ℕ) (c : C) (said : Bool)
+    → index < length idle
     → c ≡ slice_index_or idle index c → Tests test f idle index said → FnReturnsAt test f c said
-said_of test f idle index c said within at t = subst (λ d. FnReturnsAt test f d said) (t.1 ∙ get_or_default idle index t.0 c within ∙ sym at) t.2
+said_of test f idle index c said within at t = subst (λ d. FnReturnsAt test f d said)
+    (t.1 ∙ get_or_default idle index t.0 c within ∙ sym at) t.2
 
 -- where it picks none, it doesn't pick the youngest
 pub youngest_said : {F C : Type 0} (test : Shared F (Bor C × Unit {0}) Bool) (f : F) (old new : List C) (c : C) → old ≡ new ++ c ∷ []
@@ -31,15 +34,18 @@ youngest_said test f old new c cut none =
     said_of test f old (length new) c false within (sym at) (none (length new) (omega arith) within)
 
 -- the youngest is taken where it picks none of these, which are all
-pub takes_unpicked : {F C : Type 0} (test : Shared F (Bor C × Unit {0}) Bool) (f : F) (idle old new : List C) (c : C) → old ≡ idle → old ≡ new ++ c ∷ []
+pub takes_unpicked : {F C : Type 0} (test : Shared F (Bor C × Unit {0}) Bool) (f : F) (idle old new : List C) (c : C) → old ≡ idle
+    → old ≡ new ++ c ∷ []
     → NonePicked test f idle 0 → FnReturnsAt test f c false × NonePicked test f old 0
 takes_unpicked test f idle old new c same cut none =
     let all = subst (λ l. NonePicked test f l 0) (sym same) none in
     (youngest_said test f old new c cut all, all)
 
 -- the first one that it picks of these, which are all
-pub takes_picked : {F G C : Type 0} (test : Shared F (Bor C × Unit {0}) Bool) (f : F) (better : Shared G (Bor C × Unit {0}) Bool) (g : G) (idle old new : List C) (index : ℕ) (c : C)
-    → old ≡ idle → index < length idle → c ≡ slice_index_or idle index c → new ≡ remove idle index → Tests test f idle index true → IsFirst test f better g idle index
+pub takes_picked : {F G C : Type 0} (test : Shared F (Bor C × Unit {0}) Bool) (f : F) (better : Shared G (Bor C × Unit {0}) Bool) (g : G)
+    (idle old new : List C) (index : ℕ) (c : C)
+    → old ≡ idle → index < length idle → c ≡ slice_index_or idle index c → new ≡ remove idle index → Tests test f idle index true
+    → IsFirst test f better g idle index
     → TakesAt test f better g old new index c
 takes_picked test f better g idle old new index c same within at rest said first =
     let taken : TakesAt test f better g idle new index c =

@@ -1,5 +1,6 @@
 -- A step that is allowed keeps a journal sound.
-use Rattle.std.proofs.Common.{◌≡◌, ℕ, ◌-◌, ◌≤◌, ◌<◌, List, [], ◌∷◌, ◌++◌, length, drop, refl, sym, ap, ◌∙◌, subst, arith, length-append, Some}
+use Rattle.std.proofs.Common.{◌≡◌, ℕ, ◌-◌, ◌≤◌, ◌<◌, List, [], ◌∷◌, ◌++◌, length, drop, refl, sym, ap, ◌∙◌, subst, arith, length-append}
+use Rattle.std.proofs.Common.{Some}
 use Rattle.std.specs.Prelude.{slice_get}
 use Rattle.std.proofs.lemmas.Option.{slice_get_within, get_or_from_slice_get}
 use Rattle.std.proofs.lemmas.Grind.{common_steps}
@@ -42,7 +43,8 @@ sound-pushed j s h m less =
     }
 
 -- the same of the fields that a journal shows
-pub sound-fields : (j shown : Journaled) (s : PoolStep) (n : Numbers) (ss : List PoolStep) → j ≡ shown → IsSound j → IsAllowed shown.numbers s
+pub sound-fields : (j shown : Journaled) (s : PoolStep) (n : Numbers) (ss : List PoolStep) → j ≡ shown → IsSound j
+    → IsAllowed shown.numbers s
     → length shown.steps < shown.room → n ≡ after j.numbers s → ss ≡ j.steps ++ s ∷ [] → IsSound (record j { numbers = n; steps = ss })
 sound-fields j shown s n ss same h m less is more =
     let P : Journaled → Type 0 = λ k. IsAllowed k.numbers s × (length k.steps < k.room) in
@@ -54,7 +56,8 @@ pub keep_all : (n : ℕ) (ss : List PoolStep) → length ss ≤ n → keep_last 
 keep_all n ss le = let none : length ss - n ≡ 0 = omega (arith, le) in ap (λ k. drop k ss) none
 
 -- the same of the fields that a window shows, and of its ring after a push
-pub sound-ring : (j shown : Journaled) (s : PoolStep) (n : Numbers) (ring : Buffer PoolStep) → j ≡ shown → IsSound j → IsAllowed shown.numbers s
+pub sound-ring : (j shown : Journaled) (s : PoolStep) (n : Numbers) (ring : Buffer PoolStep) → j ≡ shown → IsSound j
+    → IsAllowed shown.numbers s
     → length shown.steps < shown.room → n ≡ after j.numbers s → ring ≡ buffer (keep_last j.room (j.steps ++ s ∷ [])) j.room
     → IsSound (record j { numbers = n; steps = ring.items; room = ring.capacity })
 sound-ring j shown s n ring same h m less is more =
@@ -64,11 +67,20 @@ sound-ring j shown s n ring same h m less is more =
     rw (is, more, keep_all j.room (j.steps ++ s ∷ []) fits) (sound-pushed j s h premises.0 premises.1)
 
 -- a sound window is so without its oldest step, which goes into the base
-sound-first : (j : Journaled) (s : PoolStep) (ss : List PoolStep) → IsSound (record j { steps = s ∷ ss }) → IsSound (record j { base = after j.base s; steps = ss })
+sound-first : (j : Journaled) (s : PoolStep) (ss : List PoolStep) → IsSound (record j { steps = s ∷ ss })
+    → IsSound (record j { base = after j.base s; steps = ss })
 sound-first j s ss h =
-    record { replayed = h.replayed; start = bounded-after j.base s h.start h.allowed.0; allowed = h.allowed.1; bounded = h.bounded; steps = omega (arith, h.steps); room = h.room }
+    record {
+      replayed = h.replayed;
+      start = bounded-after j.base s h.start h.allowed.0;
+      allowed = h.allowed.1;
+      bounded = h.bounded;
+      steps = omega (arith, h.steps);
+      room = h.room;
+    }
 
-sound-slid : (j : Journaled) (s : PoolStep) (ss : List PoolStep) (b : Numbers) → IsSound j → j.steps ≡ s ∷ ss → b ≡ after j.base s → IsSound (record j { base = b; steps = ss })
+sound-slid : (j : Journaled) (s : PoolStep) (ss : List PoolStep) (b : Numbers) → IsSound j → j.steps ≡ s ∷ ss → b ≡ after j.base s
+    → IsSound (record j { base = b; steps = ss })
 sound-slid j s ss b h e is =
     let P : List PoolStep → Type 0 = λ l. IsSound (record j { steps = l }) in
     rw is (sound-first j s ss (subst P e h))
@@ -79,6 +91,7 @@ first-of [] s e = let no : ⊥ = omega (arith, slice_get_within [] 0 s e) in abs
 first-of (x ∷ ss) s e = ap (λ y. y ∷ ss) (get_or_from_slice_get (x ∷ ss) 0 s s e)
 
 -- the same of the fields that a window shows, and of its ring without the first
-pub sound-slid_ring : (j : Journaled) (s : PoolStep) (b : Numbers) (ring : Buffer PoolStep) → IsSound j → slice_get j.steps 0 ≡ Some s → b ≡ after j.base s
+pub sound-slid_ring : (j : Journaled) (s : PoolStep) (b : Numbers) (ring : Buffer PoolStep) → IsSound j → slice_get j.steps 0 ≡ Some s
+    → b ≡ after j.base s
     → ring ≡ buffer (drop 1 j.steps) j.room → IsSound (record j { base = b; steps = ring.items; room = ring.capacity })
 sound-slid_ring j s b ring h e is more = rw more (sound-slid j s (drop 1 j.steps) b h (first-of j.steps s e) is)

@@ -69,7 +69,8 @@ abbrev pub NonePicked : {F C : Type 0} → Shared F (Bor C × Unit {0}) Bool →
 NonePicked test f idle from = (i : ℕ) → from ≤ i → i < length idle → Tests test f idle i false
 
 -- none of them is picked by the one test and preferred by the other
-abbrev pub NonePreferred : {F G C : Type 0} → Shared F (Bor C × Unit {0}) Bool → F → Shared G (Bor C × Unit {0}) Bool → G → List C → ℕ → Type 0
+abbrev pub NonePreferred : {F G C : Type 0} → Shared F (Bor C × Unit {0}) Bool → F → Shared G (Bor C × Unit {0}) Bool → G → List C → ℕ
+    → Type 0
 NonePreferred test f better g idle from = (i : ℕ) → from ≤ i → i < length idle → Tests test f idle i false ⊎ Tests better g idle i false
 
 -- the connection at this index comes first of those that the one test picks: the other one prefers it, and no younger one; or it prefers
@@ -90,7 +91,8 @@ pub record TakesAt {F G C : Type 0} (test : Shared F (Bor C × Unit {0}) Bool) (
 
 -- a take by a preference gives the first one of those that a test picks; where it picks none, the youngest of all; where none is idle,
 -- what any take gives
-abbrev pub Chooses : {F G C : Type 0} → (Journaled → Journaled) → Shared F (Bor C × Unit {0}) Bool → F → Shared G (Bor C × Unit {0}) Bool → G
+abbrev pub Chooses : {F G C : Type 0} → (Journaled → Journaled) → Shared F (Bor C × Unit {0}) Bool → F → Shared G (Bor C × Unit {0}) Bool
+    → G
     → Pooled C → Pooled C → Choice C → Type 0
 Chooses make_room test f better g old new (choice.Picked c) =
     ((index : ℕ) × TakesAt test f better g old.idle new.idle index c) × (new.journal ≡ stepped make_room old.journal Take)

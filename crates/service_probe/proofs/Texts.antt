@@ -1,5 +1,6 @@
 -- Texts that are written part by part.
-use Rattle.std.proofs.Common.{◌≡◌, ℕ, suc, ◌+◌, ◌-◌, ◌<◌, List, ◌++◌, Result, Ok, Err, OnOk, is_ok, if◌then◌else◌, take, drop, sym, ap, ◌∙◌, arith, append_assoc}
+use Rattle.std.proofs.Common.{◌≡◌, ℕ, suc, ◌+◌, ◌-◌, ◌<◌, List, ◌++◌, Result, Ok, Err, OnOk, is_ok, if◌then◌else◌, take, drop, sym, ap, ◌∙◌}
+use Rattle.std.proofs.Common.{arith, append_assoc}
 use Rattle.service_probe.specs.Messages.{line, lines, chunk, chunks_of}
 
 one_less : (n i : ℕ) → i < n → n - i ≡ suc (n - (i + 1))
@@ -12,7 +13,8 @@ grown old new part rest left n e = ap (λ (l : List ℕ). l ++ rest) n ∙ appen
 pub lines_left : (n i : ℕ) → i < n → lines (n - i) ≡ line ++ lines (n - (i + 1))
 lines_left n i l = ap lines (one_less n i l)
 
-pub chunks_left : (n i : ℕ) (body : List ℕ) → i < n → chunks_of (n - i) body ≡ chunk (take 4096 body) ++ chunks_of (n - (i + 1)) (drop 4096 body)
+pub chunks_left : (n i : ℕ) (body : List ℕ) → i < n
+    → chunks_of (n - i) body ≡ chunk (take 4096 body) ++ chunks_of (n - (i + 1)) (drop 4096 body)
 chunks_left n i body l = ap (λ k. chunks_of k body) (one_less n i l)
 
 -- what is added in two parts is added

@@ -11,7 +11,8 @@ use Rattle.service_probe.specs.declared.report.Way.TheVariants as ways
 use Rattle.adapt_sides.specs.declared.fault.ClientFault.{ClientFault}
 use Rattle.adapt_sides.specs.declared.fault.ClientFault.TheVariants as sides
 use Rattle.service_probe.specs.declared.finding.Fault.{Fault}
-use Rattle.service_probe.specs.declared.finding.Fault.TheVariants.{Refused, Head, Layout, Chunk, NotLegal, Status, Closed, Device, Deadline, Message, LeftOver, NoMethods, NoTag, Number, Encapsulated, System}
+use Rattle.service_probe.specs.declared.finding.Fault.TheVariants.{Refused, Head, Layout, Chunk, NotLegal, Status, Closed, Device, Deadline}
+use Rattle.service_probe.specs.declared.finding.Fault.TheVariants.{Message, LeftOver, NoMethods, NoTag, Number, Encapsulated, System}
 
 -- the fault of the service's side
 abbrev pub fault_of_side : ClientFault → Fault

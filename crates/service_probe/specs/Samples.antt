@@ -3,7 +3,8 @@ use Rattle.std.specs.Prelude.{ℕ, ◌+◌, ◌-◌, nat_lt, Bool, true, false, 
 use Rattle.trace_core.specs.declared.history.Kind.{Kind}
 use Rattle.trace_core.specs.declared.history.Kind.TheVariants as kinds
 use Rattle.service_probe.specs.declared.samples.Sample.{Sample}
-use Rattle.service_probe.specs.declared.samples.Sample.TheVariants.{NoBody, Below, BelowAllow, Preview, PreviewAllow, Above, AboveAllow, Million, MillionAllow, Chunked, Eicar}
+use Rattle.service_probe.specs.declared.samples.Sample.TheVariants.{NoBody, Below, BelowAllow, Preview, PreviewAllow, Above, AboveAllow}
+use Rattle.service_probe.specs.declared.samples.Sample.TheVariants.{Million, MillionAllow, Chunked, Eicar}
 
 -- a byte less than a preview, where that is one or more
 abbrev pub below : ℕ → Option ℕ

@@ -14,7 +14,8 @@ use Rattle.shard_desk.specs.Asked.{LendsBy, FailsBy, PutsBy, laid, closed, unkep
 
 -- a connection that was lent was looked at and brought into use last, or opened
 pub lends_of : {U Q A : Type 0} → (now most thread : ℕ) → (old asked : Latest) → (lent : Result (LeasedConnection U Q A) LendFault)
-    → IsLatest old [] → Lends now most thread (IsLatest old) (IsLatest asked) lent → IfOk lent (λ connection. LendsBy now most asked connection.lease)
+    → IsLatest old [] → Lends now most thread (IsLatest old) (IsLatest asked) lent
+    → IfOk lent (λ connection. LendsBy now most asked connection.lease)
 lends_of now most thread old asked (Ok connection) start lends = record {
   idle = λ reused. record {
     since = (lends.0 reused).since;

@@ -74,12 +74,22 @@ drives_lost before mid after taken spent phase step led most adds = record {
   doings = Did phase tasks.Lose step ∷ led.doings;
   past = λ past h. adds (led.doings ++ past) (led.past past h);
   most = let many = led.many in omega (arith, many, most);
-  leads = inr (step, record { phase = phase; before = led.doings; is = refl; may = λ no. let no : tasks.Lose ≡ tasks.Step = no in cc; on = led.on });
+  leads = inr (
+    step,
+    record {
+      phase = phase;
+      before = led.doings;
+      is = refl;
+      may = λ no. let no : tasks.Lose ≡ tasks.Step = no in cc;
+      on = led.on;
+    },
+  );
 }
 
 -- the last step waits
 pub drives_waiting : (before mid after : List Doing → Type 0) (taken spent : ℕ) (phase : Phase) → Led before mid taken spent
-    → taken < STEPS → (is_round phase ≡ true → spent < ROUNDS) → Adds mid after (Did phase tasks.Step steps.Waits) → Drives before after Waiting
+    → taken < STEPS → (is_round phase ≡ true → spent < ROUNDS) → Adds mid after (Did phase tasks.Step steps.Waits)
+    → Drives before after Waiting
 drives_waiting before mid after taken spent phase led most room adds = record {
   doings = Did phase tasks.Step steps.Waits ∷ led.doings;
   past = λ past h. adds (led.doings ++ past) (led.past past h);
@@ -94,5 +104,11 @@ drives_over before mid after taken spent phase led most room adds = record {
   doings = Did phase tasks.Step steps.Over ∷ led.doings;
   past = λ past h. adds (led.doings ++ past) (led.past past h);
   most = let many = led.many in omega (arith, many, most);
-  leads = inl (record { phase = phase; before = led.doings; is = refl; may = λ is. may_step phase before mid taken spent led room; on = led.on });
+  leads = inl (record {
+    phase = phase;
+    before = led.doings;
+    is = refl;
+    may = λ is. may_step phase before mid taken spent led room;
+    on = led.on;
+  });
 }

@@ -1,5 +1,6 @@
 -- A walk over connections that lie idle, from the youngest on: each stays or goes.
-use Rattle.std.proofs.Common.{◌≡◌, ℕ, suc, zero, ◌+◌, ◌-◌, ◌<◌, ◌≤◌, ◌⊎◌, inl, inr, List, [], ◌∷◌, ◌++◌, take, drop, length, slice_index_or, append-nil, refl, sym, ap, ◌∙◌, subst, arith, Some, None}
+use Rattle.std.proofs.Common.{◌≡◌, ℕ, suc, zero, ◌+◌, ◌-◌, ◌<◌, ◌≤◌, ◌⊎◌, inl, inr, List, [], ◌∷◌, ◌++◌, take, drop, length, slice_index_or}
+use Rattle.std.proofs.Common.{append-nil, refl, sym, ap, ◌∙◌, subst, arith, Some, None}
 use Rattle.std.specs.Prelude.{remove}
 use Rattle.std.proofs.lemmas.List.{length-append, length-take, drop_all, take_all}
 use Rattle.shard_desk.specs.Kept.{IsSifted, IsSiftedAt, IsPassed, IsTaken, IsTakenBy}
@@ -43,14 +44,16 @@ begins stays goes old k h = record {
   sifted = subst (λ l. IsSifted stays goes l []) (sym (drop_all k old h)) refl;
 }
 
-mid_of : {C : Type 0} → (stays goes : C → Type 0) → (old all : List C) (k j : ℕ) (x : C) → (w : Walked stays goes old all k) → k ≡ suc j → j < length old
+mid_of : {C : Type 0} → (stays goes : C → Type 0) → (old all : List C) (k j : ℕ) (x : C) → (w : Walked stays goes old all k) → k ≡ suc j
+    → j < length old
     → x ≡ slice_index_or all j x → Mid old all w.rest j x
 mid_of stays goes old all k j x w e h at =
     let all_is : all ≡ take (suc j) old ++ w.rest = w.all_is ∙ ap (λ n. take n old ++ w.rest) e in
     subst (λ l. Mid old l w.rest j x) (sym all_is) (mid old w.rest j x h (subst (λ l. x ≡ slice_index_or l j x) all_is at))
 
 -- one that stays
-pub stays_on : {C : Type 0} → (stays goes : C → Type 0) → (old all new : List C) (k j : ℕ) (x : C) → Walked stays goes old all k → k ≡ suc j → j < length old
+pub stays_on : {C : Type 0} → (stays goes : C → Type 0) → (old all new : List C) (k j : ℕ) (x : C) → Walked stays goes old all k → k ≡ suc j
+    → j < length old
     → x ≡ slice_index_or all j x → new ≡ all → stays x → Walked stays goes old new j
 stays_on stays goes old all new k j x w e h at same stay =
     let m = mid_of stays goes old all k j x w e h at in
@@ -62,7 +65,8 @@ stays_on stays goes old all new k j x w e h at same stay =
     }
 
 -- one that goes
-pub goes_away : {C : Type 0} → (stays goes : C → Type 0) → (old all new : List C) (k j : ℕ) (x : C) → Walked stays goes old all k → k ≡ suc j → j < length old
+pub goes_away : {C : Type 0} → (stays goes : C → Type 0) → (old all new : List C) (k j : ℕ) (x : C) → Walked stays goes old all k
+    → k ≡ suc j → j < length old
     → x ≡ slice_index_or all j x → new ≡ remove all j → goes x → Walked stays goes old new j
 goes_away stays goes old all new k j x w e h at same go =
     let m = mid_of stays goes old all k j x w e h at in
@@ -96,7 +100,8 @@ is_taken leads fit unfit unsure old all new k j x w e h passed =
 -- one that isn't
 pub walks_on : {C : Type 0} → (leads fit unfit unsure : C → Type 0) → (old all new : List C) (k j : ℕ)
     → Walked (λ idle. (leads idle → ⊥) ⊎ unsure idle) (λ idle. leads idle × unfit idle) old all k → k ≡ suc j → j < length old
-    → IsPassed leads fit unfit unsure j all new None → Walked (λ idle. (leads idle → ⊥) ⊎ unsure idle) (λ idle. leads idle × unfit idle) old new j
+    → IsPassed leads fit unfit unsure j all new None
+    → Walked (λ idle. (leads idle → ⊥) ⊎ unsure idle) (λ idle. leads idle × unfit idle) old new j
 walks_on leads fit unfit unsure old all new k j w e h (x, at, inl (lead, bad, gone)) =
     goes_away (λ idle. (leads idle → ⊥) ⊎ unsure idle) (λ idle. leads idle × unfit idle) old all new k j x w e h at gone (lead, bad)
 walks_on leads fit unfit unsure old all new k j w e h (x, at, inr (stay, same)) =
@@ -118,20 +123,23 @@ pub index_after : (count passed : ℕ) → count - (passed + 1) ≡ count - 1 - 
 index_after count passed = omega arith
 
 -- at the end
-pub ends : {C : Type 0} → (stays goes : C → Type 0) → (old all : List C) (k : ℕ) → k ≡ 0 → Walked stays goes old all k → IsSifted stays goes old all
+pub ends : {C : Type 0} → (stays goes : C → Type 0) → (old all : List C) (k : ℕ) → k ≡ 0 → Walked stays goes old all k
+    → IsSifted stays goes old all
 ends stays goes old all k e w =
     let all_is : all ≡ w.rest = w.all_is ∙ ap (λ n. take n old ++ w.rest) e in
     subst (λ l. IsSifted stays goes old l) (sym all_is) (subst (λ n. IsSifted stays goes (drop n old) w.rest) e w.sifted)
 
 -- how many there are is known
-pub walked_length : {C : Type 0} → (stays goes : C → Type 0) → (old all : List C) (k : ℕ) → k ≤ length old → Walked stays goes old all k → k ≤ length all
+pub walked_length : {C : Type 0} → (stays goes : C → Type 0) → (old all : List C) (k : ℕ) → k ≤ length old → Walked stays goes old all k
+    → k ≤ length all
 walked_length stays goes old all k h w =
     let l = ap length w.all_is ∙ length-append (take k old) w.rest in
     let t = length-take k old in
     omega (arith, l, t, h)
 
 -- one that a walk left was there before it
-pub was_there : {C : Type 0} → (stays goes : C → Type 0) → (old new older younger : List C) (x : C) → IsSifted stays goes old new → new ≡ older ++ x ∷ younger
+pub was_there : {C : Type 0} → (stays goes : C → Type 0) → (old new older younger : List C) (x : C) → IsSifted stays goes old new
+    → new ≡ older ++ x ∷ younger
     → (before : List C) × (after : List C) × (old ≡ before ++ x ∷ after)
 was_there stays goes [] new [] younger x sifted e = let none : [] ≡ x ∷ younger = sym sifted ∙ e in absurd cc
 was_there stays goes [] new (z ∷ older) younger x sifted e = let none : [] ≡ z ∷ (older ++ x ∷ younger) = sym sifted ∙ e in absurd cc
@@ -149,7 +157,8 @@ was_there stays goes (y ∷ old) new (z ∷ older) younger x (inr stayed) e =
     (y ∷ there.0, there.1, ap (λ l. y ∷ l) there.2)
 
 -- one that is taken lay idle among them
-pub lay_there : {C : Type 0} → (leads fit unfit unsure : C → Type 0) → (old new : List C) (x : C) → IsTaken leads fit unfit unsure old new (Some x)
+pub lay_there : {C : Type 0} → (leads fit unfit unsure : C → Type 0) → (old new : List C) (x : C)
+    → IsTaken leads fit unfit unsure old new (Some x)
     → (before : List C) × (after : List C) × (old ≡ before ++ x ∷ after)
 lay_there leads fit unfit unsure old new x (inl (some, taken)) = (taken.2.0, taken.2.1, taken.2.3)
 lay_there leads fit unfit unsure old new x (inr taken) =

@@ -25,7 +25,8 @@ pub record LendsBy {Q A : Type 0} (now most : ℕ) (asked : Latest) (lease : Lea
 abbrev pub FailsBy : Latest → LendFault → Type 0
 FailsBy asked Busy = ⊤
 FailsBy asked Paused = asked.last ≡ None
-FailsBy asked fault = (asked.last ≡ Some (Opened (Some fault))) ⊎ ((since : ℕ) × (home : ℕ) × (asked.last ≡ Some (Resumed since home (Some fault))))
+FailsBy asked fault = (asked.last ≡ Some (Opened (Some fault))) ⊎ ((since : ℕ) × (home : ℕ)
+    × (asked.last ≡ Some (Resumed since home (Some fault))))
 
 -- a connection was put back, where one may lie idle for so many seconds: it was laid down once it was found quiet, and is closed otherwise
 pub data PutsBy (most : ℕ) (asked : Latest) : Type 0 where

@@ -1,5 +1,6 @@
 -- Connections that lie idle between exchanges, the oldest first.
-use Rattle.std.specs.Prelude.{◌≡◌, ⊤, ℕ, ◌-◌, ◌<◌, ◌⊎◌, Bool, true, false, List, [], ◌∷◌, ◌++◌, drop, length, Option, Some, None, is_some, option_map, nat_lt, cond, slice_index_or, remove}
+use Rattle.std.specs.Prelude.{◌≡◌, ⊤, ℕ, ◌-◌, ◌<◌, ◌⊎◌, Bool, true, false, List, [], ◌∷◌, ◌++◌, drop, length, Option, Some, None, is_some}
+use Rattle.std.specs.Prelude.{option_map, nat_lt, cond, slice_index_or, remove}
 use Rattle.shard_desk.specs.declared.kept.Asking.{Asking}
 use Rattle.shard_desk.specs.declared.kept.Asking.TheVariants.{Never, IfUnsure}
 
@@ -29,7 +30,8 @@ IsUnsure unsure IfUnsure idle = ⊥
 
 -- The one of this index is taken out, where it leads there and is fit; or it goes, where it leads there and isn't; or it stays.
 abbrev pub IsPassed : {C : Type 0} → (leads fit unfit unsure : C → Type 0) → (index : ℕ) → (old new : List C) → Option C → Type 0
-IsPassed leads fit unfit unsure index old new (Some idle) = (idle ≡ slice_index_or old index idle) × leads idle × fit idle × (new ≡ remove old index)
+IsPassed leads fit unfit unsure index old new (Some idle) =
+    (idle ≡ slice_index_or old index idle) × leads idle × fit idle × (new ≡ remove old index)
 IsPassed {C} leads fit unfit unsure index old new None = (idle : C) × (idle ≡ slice_index_or old index idle)
     × ((leads idle × unfit idle × (new ≡ remove old index)) ⊎ (((leads idle → ⊥) ⊎ unsure idle) × (new ≡ old)))
 
@@ -37,7 +39,8 @@ IsPassed {C} leads fit unfit unsure index old new None = (idle : C) × (idle ≡
 -- where none that leads there is known to be fit.
 abbrev pub IsTakenBy : {C : Type 0} → (leads fit unfit unsure : C → Type 0) → (old new : List C) → Option C → Type 0
 IsTakenBy leads fit unfit unsure old new None = IsSifted (λ idle. (leads idle → ⊥) ⊎ unsure idle) (λ idle. leads idle × unfit idle) old new
-IsTakenBy {C} leads fit unfit unsure old new (Some taken) = leads taken × fit taken × ((older : List C) × (younger : List C) × (rest : List C)
+IsTakenBy {C} leads fit unfit unsure old new (Some taken) =
+    leads taken × fit taken × ((older : List C) × (younger : List C) × (rest : List C)
     × (old ≡ older ++ taken ∷ younger) × (new ≡ older ++ rest)
     × IsSifted (λ idle. (leads idle → ⊥) ⊎ unsure idle) (λ idle. leads idle × unfit idle) younger rest)
 
@@ -50,7 +53,8 @@ IsTaken {C} leads fit unfit unsure old new taken =
 
 -- So is the connection of the one that is taken. What was heard on one isn't said: where none is taken, none stays
 -- that leads there, and isn't too old.
-abbrev pub TakesWire : {C W : Type 0} → (wire : C → W) → (leads : C → Type 0) → (since : C → ℕ) → (unsure : C → Type 0) → (now most : ℕ) → (old new : List C)
+abbrev pub TakesWire : {C W : Type 0} → (wire : C → W) → (leads : C → Type 0) → (since : C → ℕ) → (unsure : C → Type 0) → (now most : ℕ)
+    → (old new : List C)
     → Option W → Type 0
 TakesWire {C} wire leads since unsure now most old new taken = (idle : Option C) × (option_map wire idle ≡ taken)
     × IsTaken leads (IsFit since (λ _. ⊤) now most) (IsUnfit since (λ _. ⊤) now most) unsure old new idle

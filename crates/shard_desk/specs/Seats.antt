@@ -97,7 +97,8 @@ pub record IsAnnounced (over : Bool) (from : Ipv4Addr) (seats : Seats) (key : �
   pub purpose_is : IsSomeAnd (get seats.all key) (λ seat. seat.purpose ≡ purpose)
   pub refused : over ≡ true → purpose ≡ Refusal
 
--- the exchange under this key has the connection that the poll reports under this number and peer: that of its user under its key, that to an
+-- the exchange under this key has the connection that the poll reports under this number and peer: that of its user under its
+-- key, that to an
 -- origin or a service under its line
 abbrev pub Has : Seats → (number : ℕ) → Peer → (key : ℕ) → Type 0
 Has seats number User key = key ≡ number

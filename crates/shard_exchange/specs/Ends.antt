@@ -78,14 +78,16 @@ IsOwedBy _ old new = ⊤
 
 -- the response that moved ended so: its user got the answer, so the origin's connection lasts exactly where that end says so
 abbrev pub LastsAs : (answered : Bool) → (old new : Course) → End → Type 0
-LastsAs answered old new (ends.Answered keeps lasts) = answered ≡ true → (is_moving old.phase && not (is_request (point_of old.phase))) ≡ true
+LastsAs answered old new (ends.Answered keeps lasts) = answered ≡ true
+    → (is_moving old.phase && not (is_request (point_of old.phase))) ≡ true
     → is_in_use new.connection ≡ false → new.lasts ≡ lasts
 LastsAs answered old new _ = ⊤
 
 -- A message is over, to whose user a byte of an answer went or not, with one of these ends, and what is held follows from it. A user that
 -- got such a byte isn't refused;
 -- another one is, where the message failed, with the status of just that cause. A further request is read only after an answer that keeps
--- the connection, and a response is waited for only where its request was sent. The origin's connection lasts exactly where that end says so.
+-- the connection, and a response is waited for only where its request was sent. The origin's connection lasts exactly where that
+-- end says so.
 -- A request goes back to its plan exactly where it was withdrawn, and there was memory for it; without that it failed as its origin did.
 pub record IsEnded (may follows : End → Type 0) (answered : Bool) (old new : Course) : Type 0 where
   pub end : End

@@ -5,12 +5,16 @@ use Rattle.exchange_core.specs.declared.course.Course.{Course}
 use Rattle.exchange_core.specs.declared.connection.Connection.TheVariants.{InUse}
 use Rattle.exchange_core.specs.declared.dialing.Dialing.{Dialing}
 use Rattle.exchange_core.specs.declared.due.Due.{Due}
-use Rattle.exchange_core.specs.declared.due.Due.TheVariants.{ReadRequest, Plan, Lend, Await, Ask, Hear, Reserve, TryTell, Tell, Dial, Start, AskGate, Turn, ReadResponse, GiveBack, HangUp, Refuse}
-use Rattle.exchange_core.specs.declared.event.Event.TheVariants.{HeadBegun, RequestRead, ResponseRead, Planned, Stale, Queued, Lent, Reserved, HalfTold, Stuck, Told, LetPass, Heard, Withdrawn, Failed, UserLost, Dropped, Late}
+use Rattle.exchange_core.specs.declared.due.Due.TheVariants.{ReadRequest, Plan, Lend, Await, Ask, Hear, Reserve, TryTell, Tell, Dial, Start}
+use Rattle.exchange_core.specs.declared.due.Due.TheVariants.{AskGate, Turn, ReadResponse, GiveBack, HangUp, Refuse}
+use Rattle.exchange_core.specs.declared.event.Event.TheVariants.{HeadBegun, RequestRead, ResponseRead, Planned, Stale, Queued, Lent}
+use Rattle.exchange_core.specs.declared.event.Event.TheVariants.{Reserved, HalfTold, Stuck, Told, LetPass, Heard, Withdrawn, Failed}
+use Rattle.exchange_core.specs.declared.event.Event.TheVariants.{UserLost, Dropped, Late}
 use Rattle.exchange_core.specs.declared.event.RefusalCause.TheVariants.{Scarce, Deadline}
 use Rattle.exchange_core.specs.declared.phase.Phase.{Phase}
 use Rattle.exchange_core.specs.Course.{after, point_of, is_in_use, is_offered, is_ready, is_reused, learned}
-use Rattle.exchange_core.specs.May.{dialing_of, may_come, may_keep_origin, may_take_kept, is_request, is_idle, is_at_gate, is_withdrawing, is_refusing, is_closing, is_gone}
+use Rattle.exchange_core.specs.May.{dialing_of, may_come, may_keep_origin, may_take_kept, is_request, is_idle, is_at_gate, is_withdrawing}
+use Rattle.exchange_core.specs.May.{is_refusing, is_closing, is_gone}
 use Rattle.adapt_sides.specs.declared.fault.RelayFault.{RelayFault}
 use Rattle.http_side.specs.declared.fault.HttpFault.{HttpFault}
 use Rattle.icap_head.specs.Heads.{Response}
@@ -40,7 +44,8 @@ use Rattle.shard_exchange.specs.Saying.{LaysPage, SaysOn, interim_text, refusal_
 abbrev pub Leads : (old new : Course) → Result Marks Unplanned → Type 0
 Leads old new (Ok marks) =
     new ≡ after old (Planned marks.offered (marks.waits && (is_request (point_of old.phase) && not old.told)) marks.repeatable)
-Leads old new (Err unplanned.Stale) = new ≡ (if old.asked then after old (Failed (cause_of (unplanned_reason unplanned.Stale))) else after old Stale)
+Leads old new (Err unplanned.Stale) = new ≡ (if old.asked then after old (Failed (cause_of (unplanned_reason unplanned.Stale))) else after
+    old Stale)
 Leads old new (Err (unplanned.Refused reason)) = new ≡ after old (Failed (cause_of reason))
 
 -- A message is planned: as one whose service was asked for it exactly where the course says so.
@@ -84,26 +89,33 @@ abbrev pub UnlentLeads : (busy : Type 0) → LendFault → (old new : Course) �
 UnlentLeads busy Busy old new = busy
 UnlentLeads busy fault old new = new ≡ after old (Failed (cause_of (lend_reason fault)))
 
--- A connection is leased of the service of the message's own point, and is known as one that was idle before, or as a fresh one. Or none is,
+-- A connection is leased of the service of the message's own point, and is known as one that was idle before, or as a fresh one.
+-- Or none is,
 -- and that leads so.
-abbrev pub IsLentOr : {O : Type 0} → (leases : Point → (reused : Bool) → Type 0) → (fails : O → LendFault → Type 0) → (busy : O → Type 0) → (old new : Course) → Type 0
+abbrev pub IsLentOr : {O : Type 0} → (leases : Point → (reused : Bool) → Type 0) → (fails : O → LendFault → Type 0) → (busy : O → Type 0)
+    → (old new : Course) → Type 0
 IsLentOr {O} leases fails busy old new = ((reused : Bool) × leases (point_of old.phase) reused × (new ≡ after old (Lent reused)))
     ⊎ ((later : O) × (fault : LendFault) × fails later fault × UnlentLeads (busy later) fault old new)
 
 -- the message waits in the queue, or fails of that want, where the course doesn't let it wait, or there was no room in the queue
 abbrev pub IsQueued : (joins : Bool → Type 0) → (old new : Course) → Type 0
-IsQueued joins old new = (joins true × (new ≡ after old Queued)) ⊎ ((may_come old Queued ≡ true → joins false) × (new ≡ after old (Failed Scarce)))
+IsQueued joins old new = (joins true × (new ≡ after old Queued)) ⊎ ((may_come old Queued ≡ true → joins false)
+    × (new ≡ after old (Failed Scarce)))
 
 -- a connection is leased, or the message waits for one where others go first
-abbrev pub IsLent : {O : Type 0} → (leases : Point → (reused : Bool) → Type 0) → (fails : O → LendFault → Type 0) → (joins : O → Point → Bool → Type 0) → (old new : Course) → Type 0
-IsLent {O} leases fails joins old new = IsLentOr leases fails (λ _. IsQueued (λ joined. (later : O) × joins later (point_of old.phase) joined) old new) old new
+abbrev pub IsLent : {O : Type 0} → (leases : Point → (reused : Bool) → Type 0) → (fails : O → LendFault → Type 0)
+    → (joins : O → Point → Bool → Type 0) → (old new : Course) → Type 0
+IsLent {O} leases fails joins old new = IsLentOr leases fails (λ _. IsQueued
+    (λ joined. (later : O) × joins later (point_of old.phase) joined) old new) old new
 
 -- it waits on in the queue, unless it has waited as long as it may, or the deadline has passed
 abbrev pub WaitsOn : (waited : Bool → Type 0) → (late : Bool) → (old new : Course) → Type 0
-WaitsOn waited late old new = (long : Bool) × waited long × (new ≡ (if long then after old (Failed Scarce) else (if late then after old (Failed Deadline) else old)))
+WaitsOn waited late old new = (long : Bool) × waited long × (new ≡ (if long then after old (Failed Scarce) else
+    (if late then after old (Failed Deadline) else old)))
 
 -- a connection is leased once it is the message's turn
-abbrev pub IsAwaited : {O : Type 0} → (leases : Point → (reused : Bool) → Type 0) → (fails : O → LendFault → Type 0) → (waited : O → Bool → Type 0) → (late : O → Bool) → (old new : Course) → Type 0
+abbrev pub IsAwaited : {O : Type 0} → (leases : Point → (reused : Bool) → Type 0) → (fails : O → LendFault → Type 0)
+    → (waited : O → Bool → Type 0) → (late : O → Bool) → (old new : Course) → Type 0
 IsAwaited {O} leases fails waited late old new = IsLentOr leases fails (λ later. WaitsOn (waited later) (late later) old new) old new
 
 -- on a connection that is used now the service of the message's own point is asked
@@ -112,12 +124,14 @@ IsAsked asks old new = is_in_use old.connection ≡ false → is_in_use new.conn
 
 -- A service that is asked anew is that of the message's own point, and a fresh connection stands in place of one that was idle before.
 abbrev pub IsAskedAnew : {H : Type 0} → (asks : Point → Type 0) → (renews : H → Type 0) → (old new : Course) → Type 0
-IsAskedAnew {H} asks renews old new = is_reused old.connection ≡ true → new.connection ≡ InUse false → asks (point_of old.phase) × ((held : H) × renews held)
+IsAskedAnew {H} asks renews old new = is_reused old.connection ≡ true → new.connection ≡ InUse false
+    → asks (point_of old.phase) × ((held : H) × renews held)
 
 -- an origin's connection that is dialed leads where the message's plan says, and is known as the kept or the fresh one that it is: a kept
 -- one only where the request may be sent again, and wasn't withdrawn
 abbrev pub IsDialed : (dials : Dialing → Bool → Type 0) → (old new : Course) → Type 0
-IsDialed dials old new = old.origin ≡ false → new.origin ≡ true → dials (dialing_of old) new.kept × (new.kept ≡ true → may_take_kept old ≡ true)
+IsDialed dials old new = old.origin ≡ false → new.origin ≡ true
+    → dials (dialing_of old) new.kept × (new.kept ≡ true → may_take_kept old ≡ true)
 
 -- a message that begins to move began with what was there
 abbrev pub IsStarted : (starts : Type 0) → (new : Course) → Type 0
@@ -130,7 +144,8 @@ begun_of c = if is_idle c.phase then after c HeadBegun else c
 -- Where it leads that nothing comes of a request's head: the user is waited for, until the deadline. It is let go where no byte of the head
 -- came, and the proxy drains.
 abbrev pub SilenceLeads : (begun late : Bool) → (old new : Course) → Type 0
-SilenceLeads begun late old new = (new ≡ (if late then after (if begun then begun_of old else old) Late else (if begun then begun_of old else old)))
+SilenceLeads begun late old new = (new ≡ (if late then after (if begun then begun_of old else old) Late else
+    (if begun then begun_of old else old)))
     ⊎ ((begun ≡ false) × (old.draining ≡ true) × (new ≡ after old Dropped))
 
 -- where it leads that there is no head: to the refusal of this reason, or the user is gone
@@ -144,11 +159,13 @@ RequestLeads begun late old new (Some head_turns.Whole) = new ≡ after (begun_o
 RequestLeads begun late old new (Some head_turns.More) = new ≡ (if begun then begun_of old else old)
 RequestLeads begun late old new (Some head_turns.Interim) = new ≡ (if begun then begun_of old else old)
 RequestLeads begun late old new (Some head_turns.Nothing) = SilenceLeads begun late old new
-RequestLeads begun late old new (Some (head_turns.Fault fault)) = (head : Option HttpFault) × NoHeadLeads (user_head_reason fault head) old new
+RequestLeads begun late old new (Some (head_turns.Fault fault)) =
+    (head : Option HttpFault) × NoHeadLeads (user_head_reason fault head) old new
 RequestLeads begun late old new None = new ≡ after old UserLost
 
 -- A turn at the head of the user's request was taken, and the course knows what it brought.
-pub record IsRequested {H : Type 0} (reads : H → H → Option HeadTurn → Type 0) (begun : H → Bool) (late : Bool) (held : H) (old new : Course) : Type 0 where
+pub record IsRequested {H : Type 0} (reads : H → H → Option HeadTurn → Type 0) (begun : H → Bool) (late : Bool) (held : H)
+    (old new : Course) : Type 0 where
   pub turned : H
   pub turn : Option HeadTurn
   pub brought : reads held turned turn
@@ -170,33 +187,38 @@ FaultLeads repeats asked fault old new =
 abbrev pub TurnLeads : (repeats : Type 0) → (asked : Withdrawal → Type 0) → (late : Bool) → (old new : Course) → Option HeadTurn → Type 0
 TurnLeads repeats asked late old new (Some head_turns.Whole) = new ≡ after old ResponseRead
 TurnLeads repeats asked late old new (Some head_turns.More) = new ≡ heard_of old
-TurnLeads repeats asked late old new (Some head_turns.Interim) = new ≡ (if late then after (heard_of old) (Failed Deadline) else heard_of old)
+TurnLeads repeats asked late old new (Some head_turns.Interim) =
+    new ≡ (if late then after (heard_of old) (Failed Deadline) else heard_of old)
 TurnLeads repeats asked late old new (Some head_turns.Nothing) = new ≡ (if late then after old (Failed Deadline) else old)
 TurnLeads repeats asked late old new (Some (head_turns.Fault fault)) = FaultLeads repeats asked fault old new
 TurnLeads repeats asked late old new None = new ≡ after old (Failed Scarce)
 
 -- A turn at the head of the origin's response was taken, and the course knows what it brought.
-pub record IsRead {H : Type 0} (hears : H → H → Option HeadTurn → Type 0) (repeats : H → Type 0) (withdraws : H → Withdrawal → Type 0) (late : Bool) (held : H)
+pub record IsRead {H : Type 0} (hears : H → H → Option HeadTurn → Type 0) (repeats : H → Type 0) (withdraws : H → Withdrawal → Type 0)
+    (late : Bool) (held : H)
     (old new : Course) : Type 0 where
   pub turned : H
   pub turn : Option HeadTurn
   pub brought : hears held turned turn
   pub leads : TurnLeads (repeats turned) (withdraws turned) late old new turn
 
--- Where the origin's connection lasts, and the proxy neither drains nor stops, it was laid down for later exchanges, or there was no room for
+-- Where the origin's connection lasts, and the proxy neither drains nor stops, it was laid down for later exchanges, or there was
+-- no room for
 -- it. Else it was closed.
 abbrev pub IsHungUp : (lays : Bool → Type 0) → (closes : Type 0) → (old : Course) → Type 0
 IsHungUp lays closes old = (may_keep_origin old ≡ true → (kept : Bool) × lays kept) × (may_keep_origin old ≡ false → closes)
 
 -- the service's connection was put back, exactly where by the course it may serve again, and it is there; else its lease was given up
 abbrev pub IsGivenBack : (puts gives_up : Type 0) → (there : Bool) → (old : Course) → Type 0
-IsGivenBack puts gives_up there old = ((is_ready old.connection && there) ≡ true → puts) × ((is_ready old.connection && there) ≡ false → gives_up)
+IsGivenBack puts gives_up there old = ((is_ready old.connection && there) ≡ true → puts)
+    × ((is_ready old.connection && there) ≡ false → gives_up)
 
 -- A service is said to have been asked for a message only once its answer was read, and is kept. Its connection is ready for others then
 -- exactly where it may serve again after that answer.
 abbrev pub IsHeard : {H : Type 0} → (learns : Point → Response → Type 0) → (usable : H → Response → Bool) → (old new : Course) → Type 0
 IsHeard {H} learns usable old new = new.asked ≡ true → old.asked ≡ false
-    → (answer : Response) × learns (point_of old.phase) answer × ((held : H) × (new.connection ≡ learned old.connection (usable held answer)))
+    → (answer : Response) × learns (point_of old.phase) answer × ((held : H)
+    × (new.connection ≡ learned old.connection (usable held answer)))
 
 -- an answer to the user may be made of this message: it is a response, or a request that its service was offered
 abbrev pub has_answer : Phase → Bool
@@ -212,10 +234,12 @@ pub record IsOverdue {O : Type 0} (late : O → Bool) (answered : Bool) (old new
 
 -- A round of turns of a message was taken. While the message moves, the course knows of a byte of an answer where one went to the user.
 -- Once it is over, a user that got one isn't refused. It is over as its transaction ended, or because the deadline passed. The service's
--- connection is ready for others exactly where its exchange was whole. A request that was withdrawn is here to be sent again, and its origin
+-- connection is ready for others exactly where its exchange was whole. A request that was withdrawn is here to be sent again, and
+-- its origin
 -- has said nothing.
 pub record IsTurned {H O : Type 0} (rounds : H → H → O → Round → Type 0) (frees : H → Option Bool → Type 0) (answered reusable : H → Bool)
-    (ends : H → Bool → End → Type 0) (follows : H → End → Type 0) (repeats : H → Type 0) (late : O → Bool) (held : H) (old new : Course) : Type 0 where
+    (ends : H → Bool → End → Type 0) (follows : H → End → Type 0) (repeats : H → Type 0) (late : O → Bool) (held : H) (old new : Course) :
+    Type 0 where
   pub turned : H
   pub later : O
   pub round : Round
@@ -232,10 +256,14 @@ pub record IsTurned {H O : Type 0} (rounds : H → H → O → Round → Type 0)
 abbrev pub IsGated : (ends follows : End → Type 0) → (answered : Bool) → (old new : Course) → Type 0
 IsGated ends follows answered old new = (new ≡ after old LetPass) ⊎ IsEnded ends follows answered old new
 
--- What a step does where this is due: it reads the head of a request, plans the message, leases a connection, asks its service and hears its
--- options, reserves what that may need, tells the user to send its body, dials the origin, starts the transaction, asks the gate, takes a round
+-- What a step does where this is due: it reads the head of a request, plans the message, leases a connection, asks its service
+-- and hears its
+-- options, reserves what that may need, tells the user to send its body, dials the origin, starts the transaction, asks the gate,
+-- takes a round
 -- of turns, reads the head of the origin's response, gives the service's connection back, hangs up, or says what is left of the refusal.
-abbrev pub Does : (requested planned lent awaited asked heard dialed started gated turned read given hung : Type 0) → (pages : (status : ℕ) → List ℕ → Type 0) → (user later : Past → Type 0) → (held holds : Hand) → (late : Bool) → (old new : Course) → Due → Type 0
+abbrev pub Does : (requested planned lent awaited asked heard dialed started gated turned read given hung : Type 0)
+    → (pages : (status : ℕ) → List ℕ → Type 0) → (user later : Past → Type 0) → (held holds : Hand) → (late : Bool) → (old new : Course)
+    → Due → Type 0
 Does requested _ _ _ _ _ _ _ _ _ _ _ _ _ _ _ _ _ _ _ _ ReadRequest = requested
 Does _ planned _ _ _ _ _ _ _ _ _ _ _ _ _ _ _ _ _ _ _ Plan = planned
 Does _ _ lent _ _ _ _ _ _ _ _ _ _ _ _ _ _ _ _ _ _ Lend = lent
@@ -244,7 +272,8 @@ Does _ _ _ _ asked _ _ _ _ _ _ _ _ _ _ _ _ _ _ _ _ Ask = asked
 Does _ _ _ _ _ heard _ _ _ _ _ _ _ _ _ _ _ _ _ _ _ Hear = heard
 Does _ _ _ _ _ _ _ _ _ _ _ _ _ _ _ _ _ _ _ old new Reserve = IsReserved old new
 Does _ _ _ _ _ _ _ _ _ _ _ _ _ _ user later held holds _ old new TryTell = SaysInterim user later held holds (after old Stuck) old new
-Does _ _ _ _ _ _ _ _ _ _ _ _ _ _ user later held holds late old new Tell = SaysInterim user later held holds (if late then after old (Failed Deadline) else old) old new
+Does _ _ _ _ _ _ _ _ _ _ _ _ _ _ user later held holds late old new Tell =
+    SaysInterim user later held holds (if late then after old (Failed Deadline) else old) old new
 Does _ _ _ _ _ _ dialed _ _ _ _ _ _ _ _ _ _ _ _ _ _ Dial = dialed
 Does _ _ _ _ _ _ _ started _ _ _ _ _ _ _ _ _ _ _ _ _ Start = started
 Does _ _ _ _ _ _ _ _ gated _ _ _ _ _ _ _ _ _ _ _ _ AskGate = gated
@@ -252,5 +281,6 @@ Does _ _ _ _ _ _ _ _ _ turned _ _ _ _ _ _ _ _ _ _ _ Turn = turned
 Does _ _ _ _ _ _ _ _ _ _ read _ _ _ _ _ _ _ _ _ _ ReadResponse = read
 Does _ _ _ _ _ _ _ _ _ _ _ given _ _ _ _ _ _ _ _ _ GiveBack = given
 Does _ _ _ _ _ _ _ _ _ _ _ _ hung _ _ _ _ _ _ _ _ HangUp = hung
-Does _ _ _ _ _ _ _ _ _ _ _ _ _ pages user later held holds _ _ new (Refuse status) = LaysPage (pages status) status held.refused holds.refused.page × SaysRefusal user later held holds status new.phase
+Does _ _ _ _ _ _ _ _ _ _ _ _ _ pages user later held holds _ _ new (Refuse status) =
+    LaysPage (pages status) status held.refused holds.refused.page × SaysRefusal user later held holds status new.phase
 Does _ _ _ _ _ _ _ _ _ _ _ _ _ _ _ _ _ _ _ _ _ _ = ⊤

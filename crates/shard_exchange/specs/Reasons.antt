@@ -3,7 +3,8 @@ use Rattle.std.specs.Prelude.{Bool, true, false, Option, Some, None}
 use Rattle.exchange_core.specs.Dues as dues
 use Rattle.exchange_report.specs.Reasons.{cause_of}
 use Rattle.exchange_report.specs.declared.reason.Reason.{Reason}
-use Rattle.exchange_report.specs.declared.reason.Reason.TheVariants.{BadRequest, NotServed, OriginBroken, ServiceRefused, ServiceStatus, ServiceBroken, ServicePaused, Busy, Full, NoRow, NoMemory}
+use Rattle.exchange_report.specs.declared.reason.Reason.TheVariants.{BadRequest, NotServed, OriginBroken, ServiceRefused, ServiceStatus}
+use Rattle.exchange_report.specs.declared.reason.Reason.TheVariants.{ServiceBroken, ServicePaused, Busy, Full, NoRow, NoMemory}
 use Rattle.adapt_sides.specs.declared.fault.ClientFault.{ClientFault}
 use Rattle.adapt_sides.specs.declared.fault.ClientFault.TheVariants as client
 use Rattle.adapt_sides.specs.declared.fault.RelayFault.{RelayFault}

@@ -2,7 +2,8 @@
 use Rattle.std.specs.Prelude.{◌≡◌, Bool, true, false, ⊤}
 use Rattle.exchange_core.specs.declared.course.Course.{Course}
 use Rattle.exchange_core.specs.declared.due.Due.{Due}
-use Rattle.exchange_core.specs.declared.due.Due.TheVariants.{Plan, Lend, Ask, Reserve, Dial, Start, AskGate, Turn, GiveBack, Release, HangUp}
+use Rattle.exchange_core.specs.declared.due.Due.TheVariants.{Plan, Lend, Ask, Reserve, Dial, Start, AskGate, Turn, GiveBack, Release}
+use Rattle.exchange_core.specs.declared.due.Due.TheVariants.{HangUp}
 use Rattle.exchange_core.specs.Dues.{due_of, is_wait}
 use Rattle.exchange_core.specs.Log.{Goes}
 use Rattle.shard_exchange.specs.declared.tasks.Step.{Step}

@@ -10,7 +10,8 @@ use Rattle.shard_message.specs.declared.start.Manner.{Manner}
 -- What is held sets out as one message, in the manner that its course asks for: the message that was read, by its plan, over the user's,
 -- the service's and the origin's connection that were held.
 pub record Starts {U S O C R M : Type 0} (planned : R → Option (Box Planned Global)) (wire : C → Option S) (is_manner : Manner → Type 0)
-    (begins : Beginning → U → Option S → O → M → Type 0) (message : Option (Box Arrival Global)) (room : Option R) (user : Option U) (connection : Option C)
+    (begins : Beginning → U → Option S → O → M → Type 0) (message : Option (Box Arrival Global)) (room : Option R) (user : Option U)
+    (connection : Option C)
     (origin : Option O) (offered : Bool) (moving : Option M) : Type 0 where
   pub arrival : Box Arrival Global
   pub message_is : message ≡ Some arrival

@@ -23,7 +23,8 @@ none_given given taken grown =
 
 -- nothing came beside what was there
 pub still_come : (text more : List ℕ) (side : SourceSide) → more ≡ [] → HasCome (text ++ more) side → HasCome text side
-still_come text more side e has_come = subst (λ (read : List ℕ). HasCome read side) (ap (λ (bytes : List ℕ). text ++ bytes) e ∙ append-nil text) has_come
+still_come text more side e has_come = subst (λ (read : List ℕ). HasCome read side)
+    (ap (λ (bytes : List ℕ). text ++ bytes) e ∙ append-nil text) has_come
 
 pub come_with_none : (text : List ℕ) (side : SourceSide) → HasCome text side → HasCome (text ++ []) side
 come_with_none text side has_come = subst (λ (read : List ℕ). HasCome read side) (sym (append-nil text)) has_come
@@ -31,6 +32,7 @@ come_with_none text side has_come = subst (λ (read : List ℕ). HasCome read si
 -- what was read of a request again is that request again
 pub again_of : (request : SourceSide) (same : Arrival) (result : Option Arrival) → same.user ≡ None
     → ComesAgain request.head request.raw.items same.side.raw.items
-    → IfSome result (λ read. read.user ≡ same.user) → IfSome result (λ read. HasCome same.side.raw.items read.side) → IfSome result (IsRequestAgain request)
+    → IfSome result (λ read. read.user ≡ same.user) → IfSome result (λ read. HasCome same.side.raw.items read.side)
+    → IfSome result (IsRequestAgain request)
 again_of request same None none again user came = tt
 again_of request same (Some read) none again user came = (user ∙ none, (same.side.raw.items, again, came))

@@ -11,7 +11,8 @@ use Rattle.shard_message.specs.Ended.{IsNextBy}
 use Rattle.shard_message.specs.Outset.{BeginsClean}
 
 -- a request that is out: its origin's connection gave nothing, and the message that comes next is the response before its first byte
-pub clean_next : {O : Type 0} (o : Wire O) (dialed origin : O) (response next again : Arrival → Type 0) (end : End) (message : Option (Box Arrival Global))
+pub clean_next : {O : Type 0} (o : Wire O) (dialed origin : O) (response next again : Arrival → Type 0) (end : End)
+    (message : Option (Box Arrival Global))
     → ((m : Arrival) → response m → HasCome [] m.side × ((taken : List ℕ) × Grown (o.past dialed) (o.past origin) [] taken))
     → IsNextBy response next again end message → BeginsClean o end dialed (Some origin) message
 clean_next o dialed origin response next again (ends.Sent true) (Some message) clean is = clean message.value is

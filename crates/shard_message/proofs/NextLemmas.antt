@@ -15,7 +15,8 @@ use Rattle.shard_exchange.specs.declared.ends.End.{End}
 use Rattle.shard_exchange.specs.declared.ends.End.TheVariants as ends
 use Rattle.shard_exchange.specs.declared.ends.EndedBy.{EndedBy}
 use Rattle.shard_exchange.specs.declared.ends.EndedBy.TheVariants as ended
-use Rattle.shard_message.specs.Ended.{Brings, EndsAs, IfOther, IsEndOf, IsNextBy, IsSequel, ended_as, is_by_itself, is_user_lost, message_in}
+use Rattle.shard_message.specs.Ended.{Brings, EndsAs, IfOther, IsEndOf, IsNextBy, IsSequel, ended_as, is_by_itself, is_user_lost}
+use Rattle.shard_message.specs.Ended.{message_in}
 use Rattle.shard_message.specs.declared.ended.Sequel.{Sequel}
 use Rattle.shard_message.specs.declared.ended.Sequel.TheVariants as sequels
 
@@ -57,21 +58,24 @@ withdrawn_by response next again (Some message) true e brings = brings
 next_by : {M : Type 0} (response next again : M → Type 0) (point : Point) (sequel : Sequel M) (end : End)
     → Brings response next again sequel → IsEndOf point sequel end
     → IsNextBy response next again end (message_in sequel)
-next_by response next again point (sequels.Sent message) (ends.Sent has_memory) brings e = sent_by response next again message has_memory e brings
+next_by response next again point (sequels.Sent message) (ends.Sent has_memory) brings e =
+    sent_by response next again message has_memory e brings
 next_by response next again point (sequels.Sent message) (ends.Answered keeps lasts) brings e = absurd e
 next_by response next again point (sequels.Sent message) (ends.Withdrawn has_memory) brings e = absurd e
 next_by response next again point (sequels.Sent message) (ends.Failed why) brings e = absurd e
 next_by response next again point (sequels.Sent message) ends.Stopped brings e = absurd e
 next_by response next again point (sequels.Sent message) ends.Lost brings e = absurd e
 next_by response next again point (sequels.Answered message lasting) (ends.Sent has_memory) brings e = absurd e
-next_by response next again point (sequels.Answered message lasting) (ends.Answered keeps lasts) brings e = answered_by response next again message lasting keeps lasts e.0 brings
+next_by response next again point (sequels.Answered message lasting) (ends.Answered keeps lasts) brings e =
+    answered_by response next again message lasting keeps lasts e.0 brings
 next_by response next again point (sequels.Answered message lasting) (ends.Withdrawn has_memory) brings e = absurd e
 next_by response next again point (sequels.Answered message lasting) (ends.Failed why) brings e = absurd e
 next_by response next again point (sequels.Answered message lasting) ends.Stopped brings e = absurd e
 next_by response next again point (sequels.Answered message lasting) ends.Lost brings e = absurd e
 next_by response next again point (sequels.Withdrawn message) (ends.Sent has_memory) brings e = absurd e
 next_by response next again point (sequels.Withdrawn message) (ends.Answered keeps lasts) brings e = absurd e
-next_by response next again point (sequels.Withdrawn message) (ends.Withdrawn has_memory) brings e = withdrawn_by response next again message has_memory e brings
+next_by response next again point (sequels.Withdrawn message) (ends.Withdrawn has_memory) brings e =
+    withdrawn_by response next again message has_memory e brings
 next_by response next again point (sequels.Withdrawn message) (ends.Failed why) brings e = absurd e
 next_by response next again point (sequels.Withdrawn message) ends.Stopped brings e = absurd e
 next_by response next again point (sequels.Withdrawn message) ends.Lost brings e = absurd e
@@ -83,33 +87,47 @@ next_by response next again point (sequels.Failed cause is_old) ends.Stopped bri
 next_by response next again point (sequels.Failed cause is_old) ends.Lost brings e = tt
 
 -- where the message is that of the sequel
-next_itself : {M : Type 0} (response next again : M → Type 0) (point : Point) (sequel : Sequel M) (told end : End) (message : Option (Box M Global))
-    → Brings response next again sequel → IsEndOf point sequel told → end ≡ told → message ≡ message_in sequel → IsNextBy response next again end message
+next_itself : {M : Type 0} (response next again : M → Type 0) (point : Point) (sequel : Sequel M) (told end : End)
+    (message : Option (Box M Global))
+    → Brings response next again sequel → IsEndOf point sequel told → end ≡ told → message ≡ message_in sequel
+    → IsNextBy response next again end message
 next_itself {M} response next again point sequel told end message brings is e m =
     subst (λ (z : Option (Box M Global)). IsNextBy response next again end z) (sym m)
-    (subst (λ (z : End). IsNextBy response next again z (message_in sequel)) (sym e) (next_by response next again point sequel told brings is))
+    (subst (λ (z : End). IsNextBy response next again z (message_in sequel)) (sym e)
+    (next_by response next again point sequel told brings is))
 
 -- where something else ended it, no message comes
 next_other : {M : Type 0} (response next again : M → Type 0) (end told : End) (message : Option (Box M Global))
     → IsNextBy response next again told None → end ≡ told → message ≡ None
     → IsNextBy response next again end message
 next_other {M} response next again end told message by e m =
-    subst (λ (z : Option (Box M Global)). IsNextBy response next again end z) (sym m) (subst (λ (z : End). IsNextBy response next again z None) (sym e) by)
+    subst (λ (z : Option (Box M Global)). IsNextBy response next again end z) (sym m)
+    (subst (λ (z : End). IsNextBy response next again z None) (sym e) by)
 
 -- the message that is left, by the end that is told
-pub next_told : {M : Type 0} (response next again : M → Type 0) (point : Point) (sequel : Sequel M) (by : EndedBy) (told end : End) (message : Option (Box M Global))
-    → Brings response next again sequel → EndsBy by told → IfItself by (IsEndOf point sequel told) → end ≡ told → IfItself by (message ≡ message_in sequel) → IfOther by (message ≡ None)
+pub next_told : {M : Type 0} (response next again : M → Type 0) (point : Point) (sequel : Sequel M) (by : EndedBy) (told end : End)
+    (message : Option (Box M Global))
+    → Brings response next again sequel → EndsBy by told → IfItself by (IsEndOf point sequel told) → end ≡ told
+    → IfItself by (message ≡ message_in sequel) → IfOther by (message ≡ None)
     → IsNextBy response next again end message
-next_told response next again point sequel ended.Itself told end message brings ends_by is e m o = next_itself response next again point sequel told end message brings is e m
-next_told response next again point sequel ended.Gate told end message brings ends_by is e m o = next_itself response next again point sequel told end message brings is e m
-next_told response next again point sequel ended.Deadline told end message brings ends_by is e m o = next_other response next again end (ends.Failed causes.Deadline) message tt (e ∙ ends_by) o
-next_told response next again point sequel ended.Stop told end message brings ends_by is e m o = next_other response next again end ends.Stopped message tt (e ∙ ends_by) o
-next_told response next again point sequel ended.User told end message brings ends_by is e m o = next_other response next again end ends.Lost message tt (e ∙ ends_by) o
+next_told response next again point sequel ended.Itself told end message brings ends_by is e m o =
+    next_itself response next again point sequel told end message brings is e m
+next_told response next again point sequel ended.Gate told end message brings ends_by is e m o =
+    next_itself response next again point sequel told end message brings is e m
+next_told response next again point sequel ended.Deadline told end message brings ends_by is e m o =
+    next_other response next again end (ends.Failed causes.Deadline) message tt (e ∙ ends_by) o
+next_told response next again point sequel ended.Stop told end message brings ends_by is e m o =
+    next_other response next again end ends.Stopped message tt (e ∙ ends_by) o
+next_told response next again point sequel ended.User told end message brings ends_by is e m o =
+    next_other response next again end ends.Lost message tt (e ∙ ends_by) o
 
 -- what comes after a transaction that was closed goes by what it was then; one that was open fails, and nothing comes of it
-pub brings_closed : {M T : Type 0} (response : M → Type 0) (next : T → M → Type 0) (x y : T) (closed : Bool) (outcome : Outcome) (onward carries : Type 0) (lasts old : Bool) (sequel : Sequel M)
-    → (closed ≡ true → x ≡ y) → IsSequel (ended_as closed outcome) onward carries lasts false old sequel → Brings response (next x) (λ _. ⊥) sequel → Brings response (next y) (λ _. ⊥) sequel
-brings_closed {M} {T} response next x y true outcome onward carries lasts old sequel same is brings = subst (λ (z : T). Brings response (next z) (λ _. ⊥) sequel) (same refl) brings
+pub brings_closed : {M T : Type 0} (response : M → Type 0) (next : T → M → Type 0) (x y : T) (closed : Bool) (outcome : Outcome)
+    (onward carries : Type 0) (lasts old : Bool) (sequel : Sequel M)
+    → (closed ≡ true → x ≡ y) → IsSequel (ended_as closed outcome) onward carries lasts false old sequel
+    → Brings response (next x) (λ _. ⊥) sequel → Brings response (next y) (λ _. ⊥) sequel
+brings_closed {M} {T} response next x y true outcome onward carries lasts old sequel same is brings =
+    subst (λ (z : T). Brings response (next z) (λ _. ⊥) sequel) (same refl) brings
 brings_closed response next x y false outcome onward carries lasts old (sequels.Sent message) same is brings = absurd is
 brings_closed response next x y false outcome onward carries lasts old (sequels.Answered None lasting) same is brings = absurd is
 brings_closed response next x y false outcome onward carries lasts old (sequels.Answered (Some message) lasting) same is brings = absurd is
@@ -131,10 +149,14 @@ ends_done point onward carries lasting bars lasts may old (sequels.Sent message)
 ends_done point onward carries lasting bars lasts may old (sequels.Sent message) ends.Stopped found is e = absurd e
 ends_done point onward carries lasting bars lasts may old (sequels.Sent message) ends.Lost found is e = absurd e
 ends_done point onward carries lasting bars lasts may old (sequels.Answered message on) (ends.Sent has_memory) found is e = absurd e
-ends_done point onward carries lasting bars lasts may old (sequels.Answered None on) (ends.Answered true told) found is e = let k = e.0 in absurd cc
-ends_done point onward carries lasting bars lasts may old (sequels.Answered None on) (ends.Answered false told) found is e = (is.0, lasts_as lasting lasts told on found is.1 e.1)
-ends_done point onward carries lasting bars lasts may old (sequels.Answered (Some message) on) (ends.Answered true told) found is e = (is.0, is.1, lasts_as lasting lasts told on found is.2 e.1)
-ends_done point onward carries lasting bars lasts may old (sequels.Answered (Some message) on) (ends.Answered false told) found is e = let k = e.0 in absurd cc
+ends_done point onward carries lasting bars lasts may old (sequels.Answered None on) (ends.Answered true told) found is e = let k = e.0 in
+    absurd cc
+ends_done point onward carries lasting bars lasts may old (sequels.Answered None on) (ends.Answered false told) found is e =
+    (is.0, lasts_as lasting lasts told on found is.1 e.1)
+ends_done point onward carries lasting bars lasts may old (sequels.Answered (Some message) on) (ends.Answered true told) found is e =
+    (is.0, is.1, lasts_as lasting lasts told on found is.2 e.1)
+ends_done point onward carries lasting bars lasts may old (sequels.Answered (Some message) on) (ends.Answered false told) found is e =
+    let k = e.0 in absurd cc
 ends_done point onward carries lasting bars lasts may old (sequels.Answered message on) (ends.Withdrawn has_memory) found is e = absurd e
 ends_done point onward carries lasting bars lasts may old (sequels.Answered message on) (ends.Failed why) found is e = absurd e
 ends_done point onward carries lasting bars lasts may old (sequels.Answered message on) ends.Stopped found is e = absurd e
@@ -142,31 +164,49 @@ ends_done point onward carries lasting bars lasts may old (sequels.Answered mess
 ends_done point onward carries lasting bars lasts may old (sequels.Withdrawn message) end found is e = absurd is
 ends_done point onward carries lasting bars lasts may old (sequels.Failed cause is_old) end found is e = absurd is
 
-ends_failed : {M : Type 0} (point : Point) (cause : Cause) (onward carries : Type 0) (further carries_further lasting bars : Type 0) (lasts may old : Bool) (sequel : Sequel M) (end : End)
-    → (may ≡ false → bars) → IsSequel (Fail cause) onward carries lasts may old sequel → IsEndOf point sequel end → EndsAs point (Fail cause) further carries_further lasting bars end
+ends_failed : {M : Type 0} (point : Point) (cause : Cause) (onward carries : Type 0) (further carries_further lasting bars : Type 0)
+    (lasts may old : Bool) (sequel : Sequel M) (end : End)
+    → (may ≡ false → bars) → IsSequel (Fail cause) onward carries lasts may old sequel → IsEndOf point sequel end
+    → EndsAs point (Fail cause) further carries_further lasting bars end
 ends_failed point cause onward carries further carries_further lasting bars lasts may old (sequels.Sent message) end b is e = absurd is
 ends_failed point cause onward carries further carries_further lasting bars lasts may old (sequels.Answered None on) end b is e = absurd is
-ends_failed point cause onward carries further carries_further lasting bars lasts may old (sequels.Answered (Some message) on) end b is e = absurd is
-ends_failed point cause onward carries further carries_further lasting bars lasts may old (sequels.Withdrawn message) (ends.Sent has_memory) b is e = absurd e
-ends_failed point cause onward carries further carries_further lasting bars lasts may old (sequels.Withdrawn message) (ends.Answered keeps told) b is e = absurd e
-ends_failed point cause onward carries further carries_further lasting bars lasts may old (sequels.Withdrawn message) (ends.Withdrawn has_memory) b is e = is.0
-ends_failed point cause onward carries further carries_further lasting bars lasts may old (sequels.Withdrawn message) (ends.Failed status) b is e = absurd e
-ends_failed point cause onward carries further carries_further lasting bars lasts may old (sequels.Withdrawn message) ends.Stopped b is e = absurd e
-ends_failed point cause onward carries further carries_further lasting bars lasts may old (sequels.Withdrawn message) ends.Lost b is e = absurd e
-ends_failed point cause onward carries further carries_further lasting bars lasts may old (sequels.Failed why is_old) (ends.Sent has_memory) b is e = absurd e
-ends_failed point cause onward carries further carries_further lasting bars lasts may old (sequels.Failed why is_old) (ends.Answered keeps told) b is e = absurd e
-ends_failed point cause onward carries further carries_further lasting bars lasts may old (sequels.Failed why is_old) (ends.Withdrawn has_memory) b is e = absurd e
-ends_failed point cause onward carries further carries_further lasting bars lasts may old (sequels.Failed why is_old) (ends.Failed status) b is e =
+ends_failed point cause onward carries further carries_further lasting bars lasts may old (sequels.Answered (Some message) on) end b is e =
+    absurd is
+ends_failed point cause onward carries further carries_further lasting bars lasts may old (sequels.Withdrawn message) (ends.Sent has_memory)
+    b is e = absurd e
+ends_failed point cause onward carries further carries_further lasting bars lasts may old (sequels.Withdrawn message)
+    (ends.Answered keeps told) b is e = absurd e
+ends_failed point cause onward carries further carries_further lasting bars lasts may old (sequels.Withdrawn message)
+    (ends.Withdrawn has_memory) b is e = is.0
+ends_failed point cause onward carries further carries_further lasting bars lasts may old (sequels.Withdrawn message) (ends.Failed status) b
+    is e = absurd e
+ends_failed point cause onward carries further carries_further lasting bars lasts may old (sequels.Withdrawn message) ends.Stopped b is e =
+    absurd e
+ends_failed point cause onward carries further carries_further lasting bars lasts may old (sequels.Withdrawn message) ends.Lost b is e =
+    absurd e
+ends_failed point cause onward carries further carries_further lasting bars lasts may old (sequels.Failed why is_old) (ends.Sent has_memory)
+    b is e = absurd e
+ends_failed point cause onward carries further carries_further lasting bars lasts may old (sequels.Failed why is_old)
+    (ends.Answered keeps told) b is e = absurd e
+ends_failed point cause onward carries further carries_further lasting bars lasts may old (sequels.Failed why is_old)
+    (ends.Withdrawn has_memory) b is e = absurd e
+ends_failed point cause onward carries further carries_further lasting bars lasts may old (sequels.Failed why is_old) (ends.Failed status) b
+    is e =
     let told = subst (λ (z : Cause). (is_user_lost z point ≡ false) × (status_of status ≡ refusal_status z point)) is.0 e in
     (told.0, told.1, λ hop. b (is.2 hop))
-ends_failed point cause onward carries further carries_further lasting bars lasts may old (sequels.Failed why is_old) ends.Stopped b is e = absurd e
-ends_failed point cause onward carries further carries_further lasting bars lasts may old (sequels.Failed why is_old) ends.Lost b is e = subst (λ (z : Cause). is_user_lost z point ≡ true) is.0 e
+ends_failed point cause onward carries further carries_further lasting bars lasts may old (sequels.Failed why is_old) ends.Stopped b is e =
+    absurd e
+ends_failed point cause onward carries further carries_further lasting bars lasts may old (sequels.Failed why is_old) ends.Lost b is e =
+    subst (λ (z : Cause). is_user_lost z point ≡ true) is.0 e
 
-ends_closed : {M T : Type 0} (point : Point) (onward carries lasting : T → Type 0) (bars : Type 0) (x y : T) (outcome : Outcome) (lasts may old : Bool) (sequel : Sequel M) (end : End)
-    → x ≡ y → (lasts ≡ true ↔ lasting x) → (may ≡ false → bars) → IsSequel outcome (onward x) (carries x) lasts may old sequel → IsEndOf point sequel end
+ends_closed : {M T : Type 0} (point : Point) (onward carries lasting : T → Type 0) (bars : Type 0) (x y : T) (outcome : Outcome)
+    (lasts may old : Bool) (sequel : Sequel M) (end : End)
+    → x ≡ y → (lasts ≡ true ↔ lasting x) → (may ≡ false → bars) → IsSequel outcome (onward x) (carries x) lasts may old sequel
+    → IsEndOf point sequel end
     → EndsAs point outcome (onward y) (carries y) (lasting y) bars end
 ends_closed {M} {T} point onward carries lasting bars x y Done lasts may old sequel end same found b is e =
-    subst (λ (z : T). EndsAs point Done (onward z) (carries z) (lasting z) bars end) same (ends_done point (onward x) (carries x) (lasting x) bars lasts may old sequel end found is e)
+    subst (λ (z : T). EndsAs point Done (onward z) (carries z) (lasting z) bars end) same
+    (ends_done point (onward x) (carries x) (lasting x) bars lasts may old sequel end found is e)
 ends_closed point onward carries lasting bars x y (Fail cause) lasts may old sequel end same found b is e =
     ends_failed point cause (onward x) (carries x) (onward y) (carries y) (lasting y) bars lasts may old sequel end b is e
 
@@ -179,16 +219,20 @@ itself_with ended.Stop f p = tt
 itself_with ended.User f p = tt
 
 -- the end that is told of a transaction goes by what it was, closed or open
-pub ends_told : {M T : Type 0} (point : Point) (onward carries lasting : T → Type 0) (bars : Type 0) (x y : T) (closed : Bool) (outcome : Outcome) (lasts may old : Bool) (sequel : Sequel M)
+pub ends_told : {M T : Type 0} (point : Point) (onward carries lasting : T → Type 0) (bars : Type 0) (x y : T) (closed : Bool)
+    (outcome : Outcome) (lasts may old : Bool) (sequel : Sequel M)
     (by : EndedBy) (end : End) → (closed ≡ true → x ≡ y) → (lasts ≡ true ↔ lasting x) → (is_by_itself by ≡ true → may ≡ false → bars)
     → IsSequel (ended_as closed outcome) (onward x) (carries x) lasts may old sequel → IfItself by (IsEndOf point sequel end)
     → IfItself by (EndsAs point (ended_as closed outcome) (onward y) (carries y) (lasting y) bars end)
 ends_told point onward carries lasting bars x y true outcome lasts may old sequel by end same found b is itself =
-    itself_with by (λ i e. ends_closed point onward carries lasting bars x y outcome lasts may old sequel end (same refl) found (b i) is e) itself
+    itself_with by (λ i e. ends_closed point onward carries lasting bars x y outcome lasts may old sequel end (same refl) found (b i) is e)
+    itself
 ends_told point onward carries lasting bars x y false outcome lasts may old sequel by end same found b is itself =
-    itself_with by (λ i e. ends_failed point Stopping (onward x) (carries x) (onward y) (carries y) (lasting y) bars lasts may old sequel end (b i) is e) itself
+    itself_with by (λ i e. ends_failed point Stopping (onward x) (carries x) (onward y) (carries y) (lasting y) bars lasts may old sequel
+    end (b i) is e) itself
 
-withdrawn_is : {M : Type 0} (point : Point) (outcome : Outcome) (onward carries : Type 0) (lasts may old has_memory : Bool) (sequel : Sequel M)
+withdrawn_is : {M : Type 0} (point : Point) (outcome : Outcome) (onward carries : Type 0) (lasts may old has_memory : Bool)
+    (sequel : Sequel M)
     → IsSequel outcome onward carries lasts may old sequel → IsEndOf point sequel (ends.Withdrawn has_memory) → may ≡ true
 withdrawn_is point outcome onward carries lasts may old has_memory (sequels.Sent message) is e = absurd e
 withdrawn_is point outcome onward carries lasts may old has_memory (sequels.Answered message on) is e = absurd e
@@ -197,8 +241,10 @@ withdrawn_is point (Fail cause) onward carries lasts may old has_memory (sequels
 withdrawn_is point outcome onward carries lasts may old has_memory (sequels.Failed why is_old) is e = absurd e
 
 -- only what was withdrawn is told so
-pub withdrawn_told : {M : Type 0} (point : Point) (outcome : Outcome) (onward carries : Type 0) (lasts may old has_memory : Bool) (sequel : Sequel M) (by : EndedBy) (end : End)
-    → IsSequel outcome onward carries lasts may old sequel → EndsBy by end → IfItself by (IsEndOf point sequel end) → end ≡ ends.Withdrawn has_memory → may ≡ true
+pub withdrawn_told : {M : Type 0} (point : Point) (outcome : Outcome) (onward carries : Type 0) (lasts may old has_memory : Bool)
+    (sequel : Sequel M) (by : EndedBy) (end : End)
+    → IsSequel outcome onward carries lasts may old sequel → EndsBy by end → IfItself by (IsEndOf point sequel end)
+    → end ≡ ends.Withdrawn has_memory → may ≡ true
 withdrawn_told point outcome onward carries lasts may old has_memory sequel ended.Deadline end is by itself e = absurd cc
 withdrawn_told point outcome onward carries lasts may old has_memory sequel ended.Stop end is by itself e = absurd cc
 withdrawn_told point outcome onward carries lasts may old has_memory sequel ended.User end is by itself e = absurd cc

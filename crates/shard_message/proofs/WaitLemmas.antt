@@ -53,8 +53,10 @@ sound X None result faulted said = refl
 sound X (Some fault) result faulted said = absurd (let odd : no_answer ≡ Err fault = sym said ∙ faulted.0 in cc)
 
 -- a turn that answers nothing, and over whose wire no byte went
-pub hears_none : (X : ClientFault → Type 0) (old new : Asker) (before after : Past → Type 0) (result : Result (Option IcapResponse) ClientFault)
-    → IfSome old.fault (λ fault. (result ≡ Err fault) × X fault) → (old.fault ≡ None → Asks old new before after result) → result ≡ no_answer
+pub hears_none : (X : ClientFault → Type 0) (old new : Asker) (before after : Past → Type 0)
+    (result : Result (Option IcapResponse) ClientFault)
+    → IfSome old.fault (λ fault. (result ≡ Err fault) × X fault) → (old.fault ≡ None → Asks old new before after result)
+    → result ≡ no_answer
     → Still before after → MovesNone (old.stage ≡ Over) before after
 hears_none X old new before after result faulted asks said still =
     let a = asks (sound X old.fault result faulted said) in

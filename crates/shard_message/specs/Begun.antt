@@ -64,7 +64,8 @@ pub record IsMannerOf (now_is : ℕ → Type 0) (config_is : Config → Type 0) 
   pub origin : IsUseOf config_is course manner.origin
 
 -- A transaction with this history, pace and ends began with just that, over these connections.
-pub record BeginsWith {E A W C H G : Type 0} (b : Beginning) (source : A) (line : Option W) (next : C) (history : History) (pace : Pace) (ends : OwnEnds E A W C H G) : Type 0 where
+pub record BeginsWith {E A W C H G : Type 0} (b : Beginning) (source : A) (line : Option W) (next : C) (history : History) (pace : Pace)
+    (ends : OwnEnds E A W C H G) : Type 0 where
   pub planned : Box Planned Global
   pub planned_is : b.planned ≡ Some planned
   pub may : MayBegin b.message planned.value.offer (is_some line)

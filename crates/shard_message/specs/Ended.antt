@@ -33,13 +33,16 @@ fails Done = false
 fails (Fail cause) = true
 
 -- What comes of a message by its outcome: the whole request went onward; or the user has the whole answer, a further request is read only
--- where its connection carries on, and the origin's lasts or not; or it failed, for just that cause, and its request is an old one or not. It
+-- where its connection carries on, and the origin's lasts or not; or it failed, for just that cause, and its request is an old
+-- one or not. It
 -- is withdrawn exactly where its origin's connection failed, and it may be; the request is there again where memory was found for that.
 abbrev pub IsSequel : {M : Type 0} → Outcome → (onward carries_on : Type 0) → (lasts may_withdraw : Bool) → (old : Bool) → Sequel M → Type 0
 IsSequel Done onward carries_on lasts may_withdraw old (sequels.Sent response) = onward
 IsSequel Done onward carries_on lasts may_withdraw old (sequels.Answered None lasts_on) = (onward → ⊥) × (lasts_on ≡ lasts)
-IsSequel Done onward carries_on lasts may_withdraw old (sequels.Answered (Some next) lasts_on) = (onward → ⊥) × carries_on × (lasts_on ≡ lasts)
-IsSequel (Fail cause) onward carries_on lasts may_withdraw old (sequels.Failed why is_old) = (why ≡ cause) × (is_old ≡ old) × (cause ≡ NextHop → may_withdraw ≡ false)
+IsSequel Done onward carries_on lasts may_withdraw old (sequels.Answered (Some next) lasts_on) =
+    (onward → ⊥) × carries_on × (lasts_on ≡ lasts)
+IsSequel (Fail cause) onward carries_on lasts may_withdraw old (sequels.Failed why is_old) =
+    (why ≡ cause) × (is_old ≡ old) × (cause ≡ NextHop → may_withdraw ≡ false)
 IsSequel (Fail cause) onward carries_on lasts may_withdraw old (sequels.Withdrawn again) = (cause ≡ NextHop) × (may_withdraw ≡ true)
 IsSequel _ _ _ _ _ _ _ = ⊥
 
@@ -94,7 +97,8 @@ abbrev pub IsEndOf : {M : Type 0} → Point → Sequel M → End → Type 0
 IsEndOf point (sequels.Sent response) (ends.Sent has_memory) = has_memory ≡ is_some response
 IsEndOf point (sequels.Answered next lasting) (ends.Answered keeps lasts) = (keeps ≡ is_some next) × (lasts ≡ lasting)
 IsEndOf point (sequels.Withdrawn again) (ends.Withdrawn has_memory) = has_memory ≡ is_some again
-IsEndOf point (sequels.Failed cause is_old) (ends.Failed why) = (is_user_lost cause point ≡ false) × (status_of why ≡ refusal_status cause point)
+IsEndOf point (sequels.Failed cause is_old) (ends.Failed why) =
+    (is_user_lost cause point ≡ false) × (status_of why ≡ refusal_status cause point)
 IsEndOf point (sequels.Failed cause is_old) ends.Lost = is_user_lost cause point ≡ true
 IsEndOf _ _ _ = ⊥
 
@@ -104,7 +108,8 @@ abbrev pub EndsAs : Point → Outcome → (onward carries_on lasting bars : Type
 EndsAs point Done onward carries_on lasting bars (ends.Sent has_memory) = onward
 EndsAs point Done onward carries_on lasting bars (ends.Answered true lasts) = (onward → ⊥) × carries_on × (lasts ≡ true ↔ lasting)
 EndsAs point Done onward carries_on lasting bars (ends.Answered false lasts) = (onward → ⊥) × (lasts ≡ true ↔ lasting)
-EndsAs point (Fail cause) onward carries_on lasting bars (ends.Failed why) = (is_user_lost cause point ≡ false) × (status_of why ≡ refusal_status cause point) × (cause ≡ NextHop → bars)
+EndsAs point (Fail cause) onward carries_on lasting bars (ends.Failed why) =
+    (is_user_lost cause point ≡ false) × (status_of why ≡ refusal_status cause point) × (cause ≡ NextHop → bars)
 EndsAs point (Fail cause) onward carries_on lasting bars ends.Lost = is_user_lost cause point ≡ true
 EndsAs point (Fail cause) onward carries_on lasting bars (ends.Withdrawn has_memory) = cause ≡ NextHop
 EndsAs _ _ _ _ _ _ _ = ⊥

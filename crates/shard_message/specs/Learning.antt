@@ -16,7 +16,8 @@ pub record LastsFor (seconds : ℕ) (said kept : Options) : Type 0 where
   pub lasts : said.ttl ≡ None → 0 < seconds → kept ≡ record said { ttl = Some seconds }
 
 -- An answer was read as its point's options at the moment that is said to be, and they are kept, with the configured seconds.
-pub record IsLearned (config_is : Config → Type 0) (now_is : ℕ → Type 0) (keeps : Options → Type 0) (point : Point) (answer : Response) : Type 0 where
+pub record IsLearned (config_is : Config → Type 0) (now_is : ℕ → Type 0) (keeps : Options → Type 0) (point : Point) (answer : Response) :
+    Type 0 where
   pub config : Config
   pub config_at : config_is config
   pub now : ℕ

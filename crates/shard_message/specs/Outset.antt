@@ -33,10 +33,26 @@ pub record Outset (U S O : Type 0) : Type 0 where
 
 -- the same of the transaction of a request, and of that of a response
 abbrev pub of_request : {U S O : Type 0} → Outset U S O → Snapshot U S O
-of_request s = record { request = s.request; ahead = s.ahead; beside = s.beside; source = s.user; next = s.origin; line = s.line; given = s.given }
+of_request s = record {
+  request = s.request;
+  ahead = s.ahead;
+  beside = s.beside;
+  source = s.user;
+  next = s.origin;
+  line = s.line;
+  given = s.given;
+}
 
 abbrev pub of_response : {U S O : Type 0} → Outset U S O → Snapshot O S U
-of_response s = record { request = s.request; ahead = s.ahead; beside = s.beside; source = s.origin; next = s.user; line = s.line; given = s.given }
+of_response s = record {
+  request = s.request;
+  ahead = s.ahead;
+  beside = s.beside;
+  source = s.origin;
+  next = s.user;
+  line = s.line;
+  given = s.given;
+}
 
 -- the message came over its source's connection, since that was this one; the next hop's is the one that it goes to
 abbrev pub HasComeOver : {U S O : Type 0} → Wire U → Wire O → Point → SourceSide → Outset U S O → (since : List ℕ) → U → O → Type 0
@@ -44,7 +60,8 @@ HasComeOver u o Reqmod side s since user origin = Came u s.user s.ahead since s.
 HasComeOver u o Respmod side s since user origin = Came o s.origin s.ahead since s.beside side origin × (s.user ≡ user)
 
 -- a message that begins to move with this, over these connections, sets out so
-pub record SetsOut {U S O : Type 0} (u : Wire U) (o : Wire O) (b : Beginning) (user : U) (service : Option S) (origin : O) (s : Outset U S O) : Type 0 where
+pub record SetsOut {U S O : Type 0} (u : Wire U) (o : Wire O) (b : Beginning) (user : U) (service : Option S) (origin : O)
+    (s : Outset U S O) : Type 0 where
   pub since : List ℕ
   pub came : HasComeOver u o (point_of b.message.user) b.message.side s since user origin
   pub request : IfSome b.planned (λ planned. s.request ≡ text_of planned.value.offer.side)
@@ -53,7 +70,8 @@ pub record SetsOut {U S O : Type 0} (u : Wire U) (o : Wire O) (b : Beginning) (u
 -- Where an answer of the origin begins, no byte of it was read yet; and since its request set out over this connection, which is as it was
 -- dialed, and so as an earlier exchange left it, where one did, the connection has given nothing.
 abbrev pub BeginsClean : {O : Type 0} → Wire O → End → (dialed : O) → (origin : Option O) → Option (Box Arrival Global) → Type 0
-BeginsClean o (ends.Sent true) dialed (Some origin) (Some message) = HasCome [] message.value.side × ((taken : List ℕ) × Grown (o.past dialed) (o.past origin) [] taken)
+BeginsClean o (ends.Sent true) dialed (Some origin) (Some message) =
+    HasCome [] message.value.side × ((taken : List ℕ) × Grown (o.past dialed) (o.past origin) [] taken)
 BeginsClean o (ends.Sent true) dialed origin message = ⊥
 BeginsClean o end dialed origin message = ⊤
 

@@ -70,17 +70,20 @@ abbrev pub told_of : Config → Option Ipv4Addr → Option Ipv4Addr
 told_of config user = if config.client_ip then user else None
 
 -- a request is offered by what this service says; it is told the address `from`, where there is one
-pub record IsRequestOffer (service : Option ServicePoint) (said : Option Options) (limits : Limits) (from : Option Ipv4Addr) (user : RequestParts) (offer : Offered) : Type 0 where
+pub record IsRequestOffer (service : Option ServicePoint) (said : Option Options) (limits : Limits) (from : Option Ipv4Addr)
+    (user : RequestParts) (offer : Offered) : Type 0 where
   pub plan : IsPlanned (options_for service said) limits Reqmod (bare_path user.target) (known_length (request_framing user)) offer.plan
   pub text : AsksFor service from [] (offered_request user) [] offer
 
 -- so is a response, whose service is told the field lines that are carried on as well
-pub record IsResponseOffer (service : Option ServicePoint) (said : Option Options) (limits : Limits) (from : Option Ipv4Addr) (carried : List ℕ) (user : RequestParts) (answer : ResponseParts) (offer : Offered) : Type 0 where
+pub record IsResponseOffer (service : Option ServicePoint) (said : Option Options) (limits : Limits) (from : Option Ipv4Addr)
+    (carried : List ℕ) (user : RequestParts) (answer : ResponseParts) (offer : Offered) : Type 0 where
   pub plan : IsPlanned (options_for service said) limits Respmod (bare_path user.target) (known_length (response_framing answer)) offer.plan
   pub text : AsksFor service from carried (offered_request user) (offered_response answer) offer
 
 -- a message is offered by what this service says
-abbrev pub IsOffer : Option ServicePoint → Option Options → Limits → (from : Option Ipv4Addr) → (carried : List ℕ) → Heads → Offered → Type 0
+abbrev pub IsOffer : Option ServicePoint → Option Options → Limits → (from : Option Ipv4Addr) → (carried : List ℕ) → Heads → Offered
+    → Type 0
 IsOffer service said limits from carried (request user) offer = IsRequestOffer service said limits from user offer
 IsOffer service said limits from carried (response user answer) offer = IsResponseOffer service said limits from carried user answer offer
 IsOffer service said limits from carried missing offer = ⊥
@@ -117,13 +120,15 @@ abbrev pub IsAskedFirst : Grounds → Arrival → Type 0
 IsAskedFirst by m = IsStale (service_of by.config (point_of m.user)) by.book by.now by.asked
 
 -- a message by what its point's service said: where there is a service, it did say something
-pub record IsOfferBy (service : Option ServicePoint) (said : Option Options) (limits : Limits) (from : Option Ipv4Addr) (carried : List ℕ) (heads : Heads) (offer : Offered) : Type 0 where
+pub record IsOfferBy (service : Option ServicePoint) (said : Option Options) (limits : Limits) (from : Option Ipv4Addr) (carried : List ℕ)
+    (heads : Heads) (offer : Offered) : Type 0 where
   pub offer_is : IsOffer service said limits from carried heads offer
   pub heard : is_some service ≡ true → is_some said ≡ true
 
 -- the plan of a message
 pub record IsPlan (by : Grounds) (m : Arrival) (planned : Planned) : Type 0 where
-  pub offer : IsOfferBy (service_of by.config (point_of m.user)) by.book.said by.limits (told_of by.config by.user) m.carried (heads_of m) planned.offer
+  pub offer : IsOfferBy (service_of by.config (point_of m.user)) by.book.said by.limits (told_of by.config by.user) m.carried (heads_of m)
+      planned.offer
   pub goes : GoesTo by.config (heads_of m) planned.route
   pub current : IsAskedFirst by m → ⊥
 
@@ -159,8 +164,11 @@ Plans by m old new (Err unplanned) = (new ≡ old) × HasNoPlan by m unplanned
 
 -- A message is planned by what its surroundings are said to have: their configuration, limits, books and moment, and the
 -- user's address.
-abbrev pub PlansBy : (config_is : Config → Type 0) → (limits_is : Limits → Type 0) → (book_is : Point → PointBook → Type 0) → (now_is : ℕ → Type 0)
-    → (user_is : Option Ipv4Addr → Type 0) → (asked : Bool) → Arrival → (old new : Option (Box Planned Global)) → Result Marks Unplanned → Type 0
-PlansBy config_is limits_is book_is now_is user_is asked m old new result = (config : Config) × config_is config × (limits : Limits) × limits_is limits
+abbrev pub PlansBy : (config_is : Config → Type 0) → (limits_is : Limits → Type 0) → (book_is : Point → PointBook → Type 0)
+    → (now_is : ℕ → Type 0)
+    → (user_is : Option Ipv4Addr → Type 0) → (asked : Bool) → Arrival → (old new : Option (Box Planned Global)) → Result Marks Unplanned
+    → Type 0
+PlansBy config_is limits_is book_is now_is user_is asked m old new result =
+    (config : Config) × config_is config × (limits : Limits) × limits_is limits
     × (book : PointBook) × book_is (point_of m.user) book × (now : ℕ) × now_is now
     × (user : Option Ipv4Addr) × user_is user × Plans (grounds config limits book now asked user) m old new result

@@ -45,16 +45,19 @@ Adds (rounds.Moved n) rounds.Over round = round ≡ rounds.Over
 Adds _ _ _ = ⊥
 
 -- These turns, one of each side in their order, up to the first one with which the transaction is over or broken.
-abbrev pub IsRound : {T : Type 0} → (turn : T → Side → TurnAnswer → T → Type 0) → (over : T → Bool) → List Side → (old new : T) → Round → Type 0
+abbrev pub IsRound : {T : Type 0} → (turn : T → Side → TurnAnswer → T → Type 0) → (over : T → Bool) → List Side → (old new : T) → Round
+    → Type 0
 IsRound turn over [] old new round = (new ≡ old) × (round ≡ rounds.Waiting)
 IsRound {T} turn over (side ∷ later) old new round =
     (mid : T) × (answer : TurnAnswer) × (turned : Round) × turn old side answer mid × IsTurned (over mid) answer turned ×
-    (((ends_round turned ≡ true) × (new ≡ mid) × (round ≡ turned)) ⊎ ((ends_round turned ≡ false) × ((rest : Round) × IsRound turn over later mid new rest × Adds turned rest round)))
+    (((ends_round turned ≡ true) × (new ≡ mid) × (round ≡ turned)) ⊎ ((ends_round turned ≡ false)
+    × ((rest : Round) × IsRound turn over later mid new rest × Adds turned rest round)))
 
 -- Where the service's connection broke: the request begins anew, over a connection that was opened for that, and not over the broken
 -- one; or it fails for want of one.
 abbrev pub IsRenewed : {V W : Type 0} → (opened : W → Type 0) → (old new : Holding) → Option (ServiceEnd V W) → Outcome → Round → Type 0
-IsRenewed {V} {W} opened old new service outcome rounds.Broken = (new ≡ moved old Retry []) × ((wire : W) × opened wire × IfSome service (λ line. line.wire ≡ Some wire))
+IsRenewed {V} {W} opened old new service outcome rounds.Broken =
+    (new ≡ moved old Retry []) × ((wire : W) × opened wire × IfSome service (λ line. line.wire ≡ Some wire))
 IsRenewed opened old new service outcome rounds.Over = (outcome ≡ Fail Memory) ⊎ (outcome ≡ Fail causes.Service)
 IsRenewed opened old new service outcome rounds.Waiting = ⊥
 IsRenewed opened old new service outcome (rounds.Moved framing) = ⊥
@@ -69,4 +72,5 @@ is_broken _ = false
 
 -- A round: what its turns did, and where these end with a broken connection, what came of that.
 abbrev pub ComesTo : {T : Type 0} → (turns : T → Round → Type 0) → (renewed : T → Round → Type 0) → (new : T) → Round → Type 0
-ComesTo {T} turns renewed new round = (turns new round × (is_broken round ≡ false)) ⊎ ((mid : T) × turns mid rounds.Broken × renewed mid round)
+ComesTo {T} turns renewed new round = (turns new round × (is_broken round ≡ false))
+    ⊎ ((mid : T) × turns mid rounds.Broken × renewed mid round)

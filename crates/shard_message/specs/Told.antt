@@ -41,7 +41,8 @@ IsResponseTo request message = (message.user ≡ Some request) × HasCome [] mes
 -- this message is this request again, whose head was read once more: its bytes are a text that is just that head, and then those that were
 -- left over
 abbrev pub IsRequestAgain : SourceSide → Arrival → Type 0
-IsRequestAgain request message = (message.user ≡ None) × ((bytes : List ℕ) × ComesAgain request.head request.raw.items bytes × HasCome bytes message.side)
+IsRequestAgain request message = (message.user ≡ None) × ((bytes : List ℕ) × ComesAgain request.head request.raw.items bytes
+    × HasCome bytes message.side)
 
 -- this message is the next request on the connection of this one: it begins with the bytes that were left over
 abbrev pub IsRequestAfter : SourceSide → Arrival → Type 0

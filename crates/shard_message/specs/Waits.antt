@@ -8,4 +8,5 @@ GivesNone before after = (p : Past) → before p → (q : Past) × after q × (p
 
 -- it answered Wait to a read or to a write, unless nothing was left to do
 abbrev pub MovesNone : (done : Type 0) → (before after : Past → Type 0) → Type 0
-MovesNone done before after = (p : Past) → before p → (q : Past) × after q × ((p.read_waits < q.read_waits) ⊎ ((p.write_waits < q.write_waits) ⊎ done))
+MovesNone done before after = (p : Past) → before p
+    → (q : Past) × after q × ((p.read_waits < q.read_waits) ⊎ ((p.write_waits < q.write_waits) ⊎ done))

@@ -6,10 +6,13 @@ use Rattle.exchange_report.specs.declared.verdict.Reply.TheVariants.{Plain, Unch
 use Rattle.exchange_report.specs.declared.why.Why.{Why}
 use Rattle.exchange_report.specs.declared.why.Why.TheVariants.{Served, UserGone, Failed}
 use Rattle.shard_report.specs.Indexes.{index_of}
-use Rattle.shard_report.specs.declared.tally.Bound.TheVariants.{Milliseconds5, Milliseconds10, Milliseconds25, Milliseconds50, Milliseconds100, Milliseconds250, Milliseconds500, Seconds1, Milliseconds2500, Seconds5, Seconds10, None}
+use Rattle.shard_report.specs.declared.tally.Bound.TheVariants.{Milliseconds5, Milliseconds10, Milliseconds25, Milliseconds50}
+use Rattle.shard_report.specs.declared.tally.Bound.TheVariants.{Milliseconds100, Milliseconds250, Milliseconds500, Seconds1}
+use Rattle.shard_report.specs.declared.tally.Bound.TheVariants.{Milliseconds2500, Seconds5, Seconds10, None}
 use Rattle.shard_report.specs.declared.tally.Class.TheVariants.{Informational, Successful, Redirection, ClientError, ServerError, Other}
 use Rattle.shard_report.specs.declared.tally.Count.{Count}
-use Rattle.shard_report.specs.declared.tally.Count.TheVariants.{Requests, Retries, Read, Sent, Users, Milliseconds, Answers, Messages, Refusals, Failures, Times, Origins}
+use Rattle.shard_report.specs.declared.tally.Count.TheVariants.{Requests, Retries, Read, Sent, Users, Milliseconds, Answers, Messages}
+use Rattle.shard_report.specs.declared.tally.Count.TheVariants.{Refusals, Failures, Times, Origins}
 use Rattle.shard_report.specs.declared.tally.Dealing.TheVariants.{Opened, Reused, BegunAnew, Idle}
 use Rattle.trace_core.specs.declared.history.Point.TheVariants.{Reqmod, Respmod}
 
@@ -23,7 +26,8 @@ all = Requests ∷ Retries ∷ Read ∷ Sent ∷ Users ∷ Milliseconds
     ∷ Answers Informational ∷ Answers Successful ∷ Answers Redirection ∷ Answers ClientError ∷ Answers ServerError ∷ Answers Other
     ∷ Messages Reqmod Plain ∷ Messages Reqmod Unchanged ∷ Messages Reqmod Changed ∷ Messages Reqmod Missing
     ∷ Messages Respmod Plain ∷ Messages Respmod Unchanged ∷ Messages Respmod Changed ∷ Messages Respmod Missing
-    ∷ Times Milliseconds5 ∷ Times Milliseconds10 ∷ Times Milliseconds25 ∷ Times Milliseconds50 ∷ Times Milliseconds100 ∷ Times Milliseconds250
+    ∷ Times Milliseconds5 ∷ Times Milliseconds10 ∷ Times Milliseconds25 ∷ Times Milliseconds50 ∷ Times Milliseconds100 ∷ Times
+    Milliseconds250
     ∷ Times Milliseconds500 ∷ Times Seconds1 ∷ Times Milliseconds2500 ∷ Times Seconds5 ∷ Times Seconds10 ∷ Times None
     ∷ Origins Opened ∷ Origins Reused ∷ Origins BegunAnew ∷ Origins Idle
     ∷ (map (Refusals Reqmod) REASONS ++ map (Refusals Respmod) REASONS ++ map (Failures Reqmod) ends ++ map (Failures Respmod) ends)

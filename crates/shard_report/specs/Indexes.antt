@@ -6,11 +6,14 @@ use Rattle.exchange_report.specs.declared.verdict.Reply.TheVariants.{Plain, Unch
 use Rattle.exchange_report.specs.declared.why.Why.{Why}
 use Rattle.exchange_report.specs.declared.why.Why.TheVariants.{Served, UserGone, Failed}
 use Rattle.shard_report.specs.declared.tally.Bound.{Bound}
-use Rattle.shard_report.specs.declared.tally.Bound.TheVariants.{Milliseconds5, Milliseconds10, Milliseconds25, Milliseconds50, Milliseconds100, Milliseconds250, Milliseconds500, Seconds1, Milliseconds2500, Seconds5, Seconds10, None}
+use Rattle.shard_report.specs.declared.tally.Bound.TheVariants.{Milliseconds5, Milliseconds10, Milliseconds25, Milliseconds50}
+use Rattle.shard_report.specs.declared.tally.Bound.TheVariants.{Milliseconds100, Milliseconds250, Milliseconds500, Seconds1}
+use Rattle.shard_report.specs.declared.tally.Bound.TheVariants.{Milliseconds2500, Seconds5, Seconds10, None}
 use Rattle.shard_report.specs.declared.tally.Class.{Class}
 use Rattle.shard_report.specs.declared.tally.Class.TheVariants.{Informational, Successful, Redirection, ClientError, ServerError, Other}
 use Rattle.shard_report.specs.declared.tally.Count.{Count}
-use Rattle.shard_report.specs.declared.tally.Count.TheVariants.{Requests, Retries, Read, Sent, Users, Milliseconds, Answers, Messages, Refusals, Failures, Times, Origins}
+use Rattle.shard_report.specs.declared.tally.Count.TheVariants.{Requests, Retries, Read, Sent, Users, Milliseconds, Answers, Messages}
+use Rattle.shard_report.specs.declared.tally.Count.TheVariants.{Refusals, Failures, Times, Origins}
 use Rattle.shard_report.specs.declared.tally.Dealing.{Dealing}
 use Rattle.shard_report.specs.declared.tally.Dealing.TheVariants.{Opened, Reused, BegunAnew, Idle}
 use Rattle.shard_report.specs.declared.tally.TheConstants.{REASON_COUNT, END_COUNT}

@@ -33,4 +33,13 @@ put_by false = Some put.Fault
 
 -- a past without the answers that the wire waits: the system isn't asked for all of these
 abbrev pub but_waits : Past → Past
-but_waits p = record { read = p.read; taken = p.taken; ends = p.ends; read_waits = 0; write_waits = 0; faults = p.faults; reads = p.reads; writes = p.writes }
+but_waits p = record {
+  read = p.read;
+  taken = p.taken;
+  ends = p.ends;
+  read_waits = 0;
+  write_waits = 0;
+  faults = p.faults;
+  reads = p.reads;
+  writes = p.writes;
+}

@@ -1,10 +1,12 @@
 -- Bytes on pages.
-use Rattle.std.proofs.Common.{◌≡◌, ℕ, ◌+◌, ◌-◌, ◌*◌, ◌/◌, ◌%◌, ◌≤◌, ◌<◌, min, List, [], ◌∷◌, ◌++◌, length, take, drop, refl, sym, ap, ◌∙◌, subst, arith, length-append, append_assoc, append-nil, suc, inl, inr}
+use Rattle.std.proofs.Common.{◌≡◌, ℕ, ◌+◌, ◌-◌, ◌*◌, ◌/◌, ◌%◌, ◌≤◌, ◌<◌, min, List, [], ◌∷◌, ◌++◌, length, take, drop, refl, sym, ap, ◌∙◌}
+use Rattle.std.proofs.Common.{subst, arith, length-append, append_assoc, append-nil, suc, inl, inr}
 use Rattle.std.specs.Prelude.{nat_lt, true, if◌then◌else◌}
 use Rattle.std.proofs.lemmas.Bool.Decides.{leb_tells}
 use Rattle.span_bank.specs.Chain.{text_of, down_of}
 use Rattle.span_tape.specs.Tape.{Tape, end_of, from_place}
-use Rattle.std.proofs.lemmas.List.{drop-drop, drop_at, take_at, drop-append-le, drop-take, take-take, length-take, length-drop, take_all, take-append-drop, take-append-le}
+use Rattle.std.proofs.lemmas.List.{drop-drop, drop_at, take_at, drop-append-le, drop-take, take-take, length-take, length-drop, take_all}
+use Rattle.std.proofs.lemmas.List.{take-append-drop, take-append-le}
 use Rattle.std.proofs.Math.Seq.{take-append-add, drop-append-add}
 
 abbrev tape_of : ℕ → ℕ → List ℕ → Tape
@@ -19,20 +21,23 @@ next_page T p r i n e =
 between : (T : List ℕ) (start len gone : ℕ) → gone ≤ len → drop gone (take len (drop start T)) ≡ take (len - gone) (drop (start + gone) T)
 between T start len gone le =
     let parts : len ≡ gone + (len - gone) = omega (arith, le) in
-    ap (λ k. drop gone (take k (drop start T))) parts ∙ drop-take gone (len - gone) (drop start T) ∙ ap (λ l. take (len - gone) l) (drop-drop gone start T)
+    ap (λ k. drop gone (take k (drop start T))) parts ∙ drop-take gone (len - gone) (drop start T)
+    ∙ ap (λ l. take (len - gone) l) (drop-drop gone start T)
 
 pub dropped : (T : List ℕ) (start len gone : ℕ) → gone ≤ len
     → take (len - gone) (drop ((start + gone) % 4096) (drop (4096 * ((start + gone) / 4096)) T)) ≡ drop gone (take len (drop start T))
 dropped T start len gone le =
     let whole : 4096 * ((start + gone) / 4096) + (start + gone) % 4096 ≡ start + gone = omega arith in
-    ap (λ l. take (len - gone) l) (drop-drop ((start + gone) % 4096) (4096 * ((start + gone) / 4096)) T ∙ ap (λ k. drop k T) whole) ∙ sym (between T start len gone le)
+    ap (λ l. take (len - gone) l) (drop-drop ((start + gone) % 4096) (4096 * ((start + gone) / 4096)) T ∙ ap (λ k. drop k T) whole)
+    ∙ sym (between T start len gone le)
 
 pub copied : (T : List ℕ) (start len skipped count : ℕ) → skipped ≤ len → count ≤ len - skipped
     → take count (drop (start + skipped) T) ≡ take count (drop skipped (take len (drop start T)))
 copied T start len skipped count le few =
     sym (ap (λ l. take count l) (between T start len skipped le) ∙ take-take count (len - skipped) (drop (start + skipped) T) few)
 
-pub appended : (old new more : List ℕ) (start len : ℕ) → start + len ≤ length old → take (start + len + length more) new ≡ take (start + len) old ++ more
+pub appended : (old new more : List ℕ) (start len : ℕ) → start + len ≤ length old
+    → take (start + len + length more) new ≡ take (start + len) old ++ more
     → take (len + length more) (drop start new) ≡ take len (drop start old) ++ more
 appended old new more start len le e =
     let there : start + (len + length more) ≡ start + len + length more = omega arith in
@@ -41,7 +46,8 @@ appended old new more start len le e =
     ∙ drop-append-le start (take (start + len) old) more long ∙ ap (λ l. l ++ more) (drop-take start len old)
 
 -- what is behind a place, of a tape that is known by its parts
-pub copied_of : (v : Tape) (base start len from count : ℕ) (T : List ℕ) → record { base = base; start = start; bytes = take len (drop start T) } ≡ v → from ≤ end_of v → count ≤ len - (from - base)
+pub copied_of : (v : Tape) (base start len from count : ℕ) (T : List ℕ)
+    → record { base = base; start = start; bytes = take len (drop start T) } ≡ v → from ≤ end_of v → count ≤ len - (from - base)
     → take count (drop (start + (from - base)) T) ≡ take count (drop (from - v.base) v.bytes)
 copied_of v base start len from count T e high few =
     let P : Tape → Type 0 = λ x. take count (drop (start + (from - base)) T) ≡ take count (drop (from - x.base) x.bytes) in
@@ -51,22 +57,27 @@ copied_of v base start len from count T e high few =
     subst P e (copied T start len (from - base) count le few)
 
 -- the tape from a place on, of one that is known by its parts
-pub dropped_of : (v : Tape) (base start len place : ℕ) (T new : List ℕ) → record { base = base; start = start; bytes = take len (drop start T) } ≡ v
+pub dropped_of : (v : Tape) (base start len place : ℕ) (T new : List ℕ)
+    → record { base = base; start = start; bytes = take len (drop start T) } ≡ v
     → place - base ≤ len → nat_lt place (base + length (take len (drop start T))) ≡ true
     → new ≡ drop (4096 * ((start + (place - base)) / 4096)) T
-    → tape_of place ((start + (place - base)) % 4096) (take (len - (place - base)) (drop ((start + (place - base)) % 4096) new)) ≡ from_place v place
+    → tape_of place ((start + (place - base)) % 4096) (take (len - (place - base)) (drop ((start + (place - base)) % 4096) new))
+    ≡ from_place v place
 dropped_of v base start len place T new e le lt is =
     let gone = place - base in
     let old : Tape = record { base = base; start = start; bytes = take len (drop start T) } in
-    let P : Tape → Type 0 = λ x. tape_of place ((start + gone) % 4096) (take (len - gone) (drop ((start + gone) % 4096) new)) ≡ from_place x place in
+    let P : Tape → Type 0 = λ x. tape_of place ((start + gone) % 4096) (take (len - gone) (drop ((start + gone) % 4096) new))
+    ≡ from_place x place in
     let bytes : take (len - gone) (drop ((start + gone) % 4096) new) ≡ drop gone (take len (drop start T)) =
     ap (λ l. take (len - gone) (drop ((start + gone) % 4096) l)) is ∙ dropped T start len gone le in
-    let first : (if nat_lt place (base + length (take len (drop start T))) then (start + gone) % 4096 else 0) ≡ (start + gone) % 4096 = ap (λ b. if b then (start + gone) % 4096 else 0) lt in
+    let first : (if nat_lt place (base + length (take len (drop start T))) then (start + gone) % 4096 else 0) ≡ (start + gone) % 4096 =
+    ap (λ b. if b then (start + gone) % 4096 else 0) lt in
     let Q : ℕ → List ℕ → Tape = λ n l. record { base = place; start = n; bytes = l } in
     subst P e (ap (λ l. Q ((start + gone) % 4096) l) bytes ∙ sym (ap (λ n. Q n (drop gone (take len (drop start T)))) first))
 
 -- a part of a page more, behind bytes that fill theirs
-pub another_page : (T D rest bytes : List ℕ) (at w n : ℕ) → at + w ≡ length D → w + n ≤ length bytes → take (at + w) D ≡ take at T ++ take w bytes
+pub another_page : (T D rest bytes : List ℕ) (at w n : ℕ) → at + w ≡ length D → w + n ≤ length bytes
+    → take (at + w) D ≡ take at T ++ take w bytes
     → take (at + (w + n)) (D ++ (take n (drop w bytes) ++ rest)) ≡ take at T ++ take (w + n) bytes
 another_page T D rest bytes at w n full le e =
     let piece = take n (drop w bytes) in
@@ -75,12 +86,14 @@ another_page T D rest bytes at w n full le e =
     let whole : take (at + w) D ≡ D = take_all (at + w) D (omega (arith, full)) in
     let front : w ≤ w + n = omega arith in
     let more : take w bytes ++ piece ≡ take (w + n) bytes =
-    ap (λ l. l ++ piece) (sym (take-take w (w + n) bytes front)) ∙ ap (λ l. take w (take (w + n) bytes) ++ l) (sym (drop-take w n bytes)) ∙ take-append-drop w (take (w + n) bytes) in
+    ap (λ l. l ++ piece) (sym (take-take w (w + n) bytes front)) ∙ ap (λ l. take w (take (w + n) bytes) ++ l) (sym (drop-take w n bytes))
+    ∙ take-append-drop w (take (w + n) bytes) in
     ap (λ l. take (at + (w + n)) l) (sym (append_assoc D piece rest)) ∙ take_at (D ++ piece) rest (at + (w + n)) ends
     ∙ ap (λ l. l ++ piece) (sym whole ∙ e) ∙ append_assoc (take at T) (take w bytes) piece ∙ ap (λ l. take at T ++ l) more
 
 -- a place before a tape's end
-pub before_end : (T : List ℕ) (base start len place : ℕ) → start + len ≤ length T → place - base < len → nat_lt place (base + length (take len (drop start T))) ≡ true
+pub before_end : (T : List ℕ) (base start len place : ℕ) → start + len ≤ length T → place - base < len
+    → nat_lt place (base + length (take len (drop start T))) ≡ true
 before_end T base start len place long lt =
     let size : length (take len (drop start T)) ≡ len = omega (arith, length-take len (drop start T), length-drop start T, long) in
     elim (leb_tells (suc place) (base + length (take len (drop start T)))) [
@@ -91,10 +104,12 @@ before_end T base start len place long lt =
 take_on : (xs : List ℕ) (w n : ℕ) → take w xs ++ take n (drop w xs) ≡ take (w + n) xs
 take_on xs w n =
     let front : w ≤ w + n = omega arith in
-    ap (λ l. l ++ take n (drop w xs)) (sym (take-take w (w + n) xs front)) ∙ ap (λ l. take w (take (w + n) xs) ++ l) (sym (drop-take w n xs)) ∙ take-append-drop w (take (w + n) xs)
+    ap (λ l. l ++ take n (drop w xs)) (sym (take-take w (w + n) xs front))
+    ∙ ap (λ l. take w (take (w + n) xs) ++ l) (sym (drop-take w n xs)) ∙ take-append-drop w (take (w + n) xs)
 
 -- a part of a page is copied behind what was copied before
-pub another_copied : (T P N out more : List ℕ) (at from done m : ℕ) → length P ≡ 4096 → from + m ≤ 4096 → drop from (P ++ N) ≡ drop (at + done) T → take done out ≡ take done (drop at T)
+pub another_copied : (T P N out more : List ℕ) (at from done m : ℕ) → length P ≡ 4096 → from + m ≤ 4096
+    → drop from (P ++ N) ≡ drop (at + done) T → take done out ≡ take done (drop at T)
     → more ≡ take done out ++ take m (drop from P) → more ≡ take (done + m) (drop at T)
 another_copied T P N out more at from done m size fits e before is =
     let low : from ≤ length P = omega (arith, size, fits) in
@@ -103,11 +118,13 @@ another_copied T P N out more at from done m size fits e before is =
     sym (take-append-le m (drop from P) N few) ∙ ap (λ l. take m l) (sym (drop-append-le from P N low) ∙ e ∙ sym (drop-drop done at T)) in
     is ∙ ap (λ l. l ++ take m (drop from P)) before ∙ ap (λ l. take done (drop at T) ++ l) here ∙ take_on (drop at T) done m
 
-pub next_text : (T P N : List ℕ) (at from done m : ℕ) → length P ≡ 4096 → from + m ≡ 4096 → drop from (P ++ N) ≡ drop (at + done) T → drop 0 N ≡ drop (at + (done + m)) T
+pub next_text : (T P N : List ℕ) (at from done m : ℕ) → length P ≡ 4096 → from + m ≡ 4096 → drop from (P ++ N) ≡ drop (at + done) T
+    → drop 0 N ≡ drop (at + (done + m)) T
 next_text T P N at from done m size full e =
     let whole : length P ≡ from + m = omega (arith, size, full) in
     let on : at + done + m ≡ at + (done + m) = omega arith in
-    sym (drop_at P N (from + m) whole) ∙ sym (drop-drop m from (P ++ N)) ∙ ap (λ l. drop m l) e ∙ drop-drop m (at + done) T ∙ ap (λ k. drop k T) on
+    sym (drop_at P N (from + m) whole) ∙ sym (drop-drop m from (P ++ N)) ∙ ap (λ l. drop m l) e ∙ drop-drop m (at + done) T
+    ∙ ap (λ k. drop k T) on
 
 -- bytes on a page that is filled in part
 pub first_page : (D page piece rest : List ℕ) (at used : ℕ) → length D + used ≡ at → used ≤ length page
@@ -116,7 +133,8 @@ first_page D page piece rest at used e low =
     let front = D ++ take used page in
     let size : length front ≡ at = omega (arith, length-append D (take used page), length-take used page, low, e) in
     let ends : length (front ++ piece) ≡ at + length piece = omega (arith, length-append front piece, size) in
-    let split : D ++ page ≡ front ++ drop used page = ap (λ l. D ++ l) (sym (take-append-drop used page)) ∙ sym (append_assoc D (take used page) (drop used page)) in
+    let split : D ++ page ≡ front ++ drop used page =
+    ap (λ l. D ++ l) (sym (take-append-drop used page)) ∙ sym (append_assoc D (take used page) (drop used page)) in
     ap (λ l. take (at + length piece) l) (sym (append_assoc D (take used page) (piece ++ rest)) ∙ sym (append_assoc front piece rest))
     ∙ take_at (front ++ piece) rest (at + length piece) ends
     ∙ ap (λ l. l ++ piece) (sym (take_at front (drop used page) at size) ∙ ap (λ l. take at l) (sym split))
@@ -141,7 +159,8 @@ on_last_page D N P R p n j e at le =
     ∙ take-take n (n + rest) (drop p D) few
 
 -- a part of a page is copied before what was copied already
-pub copied_before : (D N P out done : List ℕ) (R at todo left m j n : ℕ) → N ++ P ≡ take R D → left + n ≡ todo → todo ≤ m → at + left ≡ length N + j → at + todo ≤ R
+pub copied_before : (D N P out done : List ℕ) (R at todo left m j n : ℕ) → N ++ P ≡ take R D → left + n ≡ todo → todo ≤ m
+    → at + left ≡ length N + j → at + todo ≤ R
     → done ≡ take (m - todo) (drop (at + todo) D) → out ≡ take n (drop j P) ++ done → out ≡ take (m - left) (drop (at + left) D)
 copied_before D N P out done R at todo left m j n e parts most place within before is =
     let X = drop (at + left) D in
@@ -181,5 +200,6 @@ both_parts F B at some m le least =
           let is : some ≡ length X = omega (arith, least, size, e.1) in
           let long : m ≡ length X + (m - some) = omega (arith, is, size, least, e.1) in
           let whole : take some X ≡ X = take_all some X (omega (arith, is)) in
-          ap (λ l. l ++ take (m - some) B) whole ∙ sym (take-append-add X B (m - some)) ∙ ap (λ k. take k (X ++ B)) (sym long) ∙ ap (λ l. take m l) (sym all)
+          ap (λ l. l ++ take (m - some) B) whole ∙ sym (take-append-add X B (m - some)) ∙ ap (λ k. take k (X ++ B)) (sym long)
+          ∙ ap (λ l. take m l) (sym all)
     ]

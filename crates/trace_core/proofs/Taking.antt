@@ -3,7 +3,8 @@ use Rattle.std.proofs.Common.{◌≡◌, ℕ, ◌+◌, Bool, true, false, None, 
 use Rattle.std.specs.Prelude.{if◌then◌else◌, ◌&&◌}
 use Rattle.std.proofs.Math.Nat.{zero-add, add_comm}
 use Rattle.trace_core.specs.declared.history.Event.{Event}
-use Rattle.trace_core.specs.declared.history.Event.TheVariants.{In, End, Svc, Stop, Heard, Continue, NoMod, Mod, Ad, AdEnd, Usr, Done, Fail, Retry}
+use Rattle.trace_core.specs.declared.history.Event.TheVariants.{In, End, Svc, Stop, Heard, Continue, NoMod, Mod, Ad, AdEnd, Usr, Done, Fail}
+use Rattle.trace_core.specs.declared.history.Event.TheVariants.{Retry}
 use Rattle.trace_core.specs.declared.history.Cause.{Cause}
 use Rattle.trace_core.specs.declared.history.Payload.{Payload}
 use Rattle.trace_core.specs.declared.history.Payload.TheVariants.{Body, NullBody}
@@ -53,50 +54,61 @@ pub taken_svc : (a : Inside) (n : ℕ) → seen_of (record a { sent = a.sent + n
 taken_svc a n = ap (λ r. record (seen_of a) { sent = r }) (add_comm a.sent n) ∙ simp (zero-add, none_either, fails_after)
 
 pub taken_ad : (a : Inside) (n : ℕ) → seen_of (record a { adapted_received = a.adapted_received + n }) ≡ after (seen_of a) (Ad n)
-taken_ad a n = ap (λ r. record (seen_of a) { adapted_received = r }) (add_comm a.adapted_received n) ∙ simp (zero-add, none_either, fails_after)
+taken_ad a n = ap (λ r. record (seen_of a) { adapted_received = r }) (add_comm a.adapted_received n)
+    ∙ simp (zero-add, none_either, fails_after)
 
 pub taken_usr : (a : Inside) (n : ℕ) → seen_of (record a { delivered = a.delivered + n }) ≡ after (seen_of a) (Usr n)
 taken_usr a n = simp (sum_where, zero-add, fails_after)
 
-pub taken_end : (a : Inside) (p : Phases) (m : Mode) → IsInRange a → p ≡ phases_of a.mode → m ≡ Open (record p { source = Ended }) → first_fault (seen_of a) End ≡ None
+pub taken_end : (a : Inside) (p : Phases) (m : Mode) → IsInRange a → p ≡ phases_of a.mode → m ≡ Open (record p { source = Ended })
+    → first_fault (seen_of a) End ≡ None
     → seen_of (record a { mode = m }) ≡ after (seen_of a) End
 taken_end a p m r at is none = grind (arith, at, is, none)
 
-pub taken_heard : (a : Inside) (p : Phases) (m : Mode) → IsInRange a → p ≡ phases_of a.mode → m ≡ Open (record p { response = Awaited }) → first_fault (seen_of a) Heard ≡ None
+pub taken_heard : (a : Inside) (p : Phases) (m : Mode) → IsInRange a → p ≡ phases_of a.mode → m ≡ Open (record p { response = Awaited })
+    → first_fault (seen_of a) Heard ≡ None
     → seen_of (record a { mode = m }) ≡ after (seen_of a) Heard
 taken_heard a p m r at is none = grind (arith, at, is, none)
 
-pub taken_continue : (a : Inside) (p : Phases) (m : Mode) → IsInRange a → p ≡ phases_of a.mode → m ≡ Open (record p { request = Resumed }) → first_fault (seen_of a) Continue ≡ None
+pub taken_continue : (a : Inside) (p : Phases) (m : Mode) → IsInRange a → p ≡ phases_of a.mode → m ≡ Open (record p { request = Resumed })
+    → first_fault (seen_of a) Continue ≡ None
     → seen_of (record a { mode = m }) ≡ after (seen_of a) Continue
 taken_continue a p m r at is none = grind (arith, at, is, none)
 
-pub taken_no_mod : (a : Inside) (p : Phases) (m : Mode) → IsInRange a → p ≡ phases_of a.mode → m ≡ Open (record p { response = Unmodified }) → first_fault (seen_of a) NoMod ≡ None
+pub taken_no_mod : (a : Inside) (p : Phases) (m : Mode) → IsInRange a → p ≡ phases_of a.mode → m ≡ Open (record p { response = Unmodified })
+    → first_fault (seen_of a) NoMod ≡ None
     → seen_of (record a { mode = m }) ≡ after (seen_of a) NoMod
 taken_no_mod a p m r at is none = grind (arith, at, is, none)
 
-pub taken_body : (a : Inside) (p : Phases) (m : Mode) → IsInRange a → p ≡ phases_of a.mode → m ≡ Open (record p { response = Adapting }) → first_fault (seen_of a) (Mod Body) ≡ None
+pub taken_body : (a : Inside) (p : Phases) (m : Mode) → IsInRange a → p ≡ phases_of a.mode → m ≡ Open (record p { response = Adapting })
+    → first_fault (seen_of a) (Mod Body) ≡ None
     → seen_of (record a { mode = m }) ≡ after (seen_of a) (Mod Body)
 taken_body a p m r at is none = grind (arith, at, is, none)
 
-pub taken_null_body : (a : Inside) (p : Phases) (m : Mode) → IsInRange a → p ≡ phases_of a.mode → m ≡ Open (record p { response = Headed }) → first_fault (seen_of a) (Mod NullBody) ≡ None
+pub taken_null_body : (a : Inside) (p : Phases) (m : Mode) → IsInRange a → p ≡ phases_of a.mode → m ≡ Open (record p { response = Headed })
+    → first_fault (seen_of a) (Mod NullBody) ≡ None
     → seen_of (record a { mode = m }) ≡ after (seen_of a) (Mod NullBody)
 taken_null_body a p m r at is none = grind (arith, at, is, none)
 
-pub taken_adapted_end : (a : Inside) (p : Phases) (m : Mode) → IsInRange a → p ≡ phases_of a.mode → m ≡ Open (record p { response = Adapted }) → first_fault (seen_of a) AdEnd ≡ None
+pub taken_adapted_end : (a : Inside) (p : Phases) (m : Mode) → IsInRange a → p ≡ phases_of a.mode
+    → m ≡ Open (record p { response = Adapted }) → first_fault (seen_of a) AdEnd ≡ None
     → seen_of (record a { mode = m }) ≡ after (seen_of a) AdEnd
 taken_adapted_end a p m r at is none = grind (arith, at, is, none)
 
-pub taken_last_stop : (a : Inside) (p : Phases) (m : Mode) → IsInRange a → p ≡ phases_of a.mode → m ≡ Open (record p { request = Over }) → first_fault (seen_of a) Stop ≡ None
+pub taken_last_stop : (a : Inside) (p : Phases) (m : Mode) → IsInRange a → p ≡ phases_of a.mode → m ≡ Open (record p { request = Over })
+    → first_fault (seen_of a) Stop ≡ None
     → is_early (seen_of a) ≡ false
     → seen_of (record a { mode = m }) ≡ after (seen_of a) Stop
 taken_last_stop a p m r at is none early = grind (arith, at, is, none)
 
-pub taken_whole_stop : (a : Inside) (p : Phases) (m : Mode) → IsInRange a → p ≡ phases_of a.mode → m ≡ Open (record p { request = PreviewedWhole }) → first_fault (seen_of a) Stop ≡ None
+pub taken_whole_stop : (a : Inside) (p : Phases) (m : Mode) → IsInRange a → p ≡ phases_of a.mode
+    → m ≡ Open (record p { request = PreviewedWhole }) → first_fault (seen_of a) Stop ≡ None
     → is_early (seen_of a) ≡ true → is_all_sent (seen_of a) ≡ true
     → seen_of (record a { mode = m }) ≡ after (seen_of a) Stop
 taken_whole_stop a p m r at is none early all = grind (arith, at, is, none)
 
-pub taken_first_stop : (a : Inside) (p : Phases) (m : Mode) → IsInRange a → p ≡ phases_of a.mode → m ≡ Open (record p { request = Previewed }) → first_fault (seen_of a) Stop ≡ None
+pub taken_first_stop : (a : Inside) (p : Phases) (m : Mode) → IsInRange a → p ≡ phases_of a.mode
+    → m ≡ Open (record p { request = Previewed }) → first_fault (seen_of a) Stop ≡ None
     → is_early (seen_of a) ≡ true → is_all_sent (seen_of a) ≡ false
     → seen_of (record a { mode = m }) ≡ after (seen_of a) Stop
 taken_first_stop a p m r at is none early all = grind (arith, at, is, none)
@@ -104,7 +116,8 @@ taken_first_stop a p m r at is none early all = grind (arith, at, is, none)
 pub taken_done : (a : Inside) (p : Phases) → p ≡ phases_of a.mode → seen_of (record a { mode = Closed p }) ≡ after (seen_of a) Done
 taken_done a p at = grind (arith, at)
 
-pub taken_fail : (a : Inside) (p : Phases) (cause : Cause) → p ≡ phases_of a.mode → seen_of (record a { mode = Closed p }) ≡ after (seen_of a) (Fail cause)
+pub taken_fail : (a : Inside) (p : Phases) (cause : Cause) → p ≡ phases_of a.mode
+    → seen_of (record a { mode = Closed p }) ≡ after (seen_of a) (Fail cause)
 taken_fail a p cause at = grind (arith, at)
 
 pub taken_retry : (a : Inside) (p : Phases) → IsInRange a → p ≡ phases_of a.mode → first_fault (seen_of a) Retry ≡ None

@@ -33,16 +33,79 @@ FitsPut len _ = ⊤
 
 -- after a read that left these bytes in its buffer
 abbrev pub after_read : Past → List ℕ → Got → Past
-after_read p buf (got.Bytes n) = record { read = p.read ++ take n buf; taken = p.taken; ends = p.ends; read_waits = p.read_waits; write_waits = p.write_waits; faults = p.faults; reads = p.reads + 1; writes = p.writes }
-after_read p buf got.Ended = record { read = p.read; taken = p.taken; ends = p.ends + 1; read_waits = p.read_waits; write_waits = p.write_waits; faults = p.faults; reads = p.reads; writes = p.writes }
-after_read p buf got.Wait = record { read = p.read; taken = p.taken; ends = p.ends; read_waits = p.read_waits + 1; write_waits = p.write_waits; faults = p.faults; reads = p.reads; writes = p.writes }
-after_read p buf got.Fault = record { read = p.read; taken = p.taken; ends = p.ends; read_waits = p.read_waits; write_waits = p.write_waits; faults = p.faults + 1; reads = p.reads; writes = p.writes }
+after_read p buf (got.Bytes n) = record {
+  read = p.read ++ take n buf;
+  taken = p.taken;
+  ends = p.ends;
+  read_waits = p.read_waits;
+  write_waits = p.write_waits;
+  faults = p.faults;
+  reads = p.reads + 1;
+  writes = p.writes;
+}
+after_read p buf got.Ended = record {
+  read = p.read;
+  taken = p.taken;
+  ends = p.ends + 1;
+  read_waits = p.read_waits;
+  write_waits = p.write_waits;
+  faults = p.faults;
+  reads = p.reads;
+  writes = p.writes;
+}
+after_read p buf got.Wait = record {
+  read = p.read;
+  taken = p.taken;
+  ends = p.ends;
+  read_waits = p.read_waits + 1;
+  write_waits = p.write_waits;
+  faults = p.faults;
+  reads = p.reads;
+  writes = p.writes;
+}
+after_read p buf got.Fault = record {
+  read = p.read;
+  taken = p.taken;
+  ends = p.ends;
+  read_waits = p.read_waits;
+  write_waits = p.write_waits;
+  faults = p.faults + 1;
+  reads = p.reads;
+  writes = p.writes;
+}
 
 -- after these bytes were offered
 abbrev pub after_write : Past → List ℕ → Put → Past
-after_write p bytes (put.Took n) = record { read = p.read; taken = p.taken ++ take n bytes; ends = p.ends; read_waits = p.read_waits; write_waits = p.write_waits; faults = p.faults; reads = p.reads; writes = p.writes + 1 }
-after_write p bytes put.Wait = record { read = p.read; taken = p.taken; ends = p.ends; read_waits = p.read_waits; write_waits = p.write_waits + 1; faults = p.faults; reads = p.reads; writes = p.writes }
-after_write p bytes put.Fault = record { read = p.read; taken = p.taken; ends = p.ends; read_waits = p.read_waits; write_waits = p.write_waits; faults = p.faults + 1; reads = p.reads; writes = p.writes }
+after_write p bytes (put.Took n) = record {
+  read = p.read;
+  taken = p.taken ++ take n bytes;
+  ends = p.ends;
+  read_waits = p.read_waits;
+  write_waits = p.write_waits;
+  faults = p.faults;
+  reads = p.reads;
+  writes = p.writes + 1;
+}
+after_write p bytes put.Wait = record {
+  read = p.read;
+  taken = p.taken;
+  ends = p.ends;
+  read_waits = p.read_waits;
+  write_waits = p.write_waits + 1;
+  faults = p.faults;
+  reads = p.reads;
+  writes = p.writes;
+}
+after_write p bytes put.Fault = record {
+  read = p.read;
+  taken = p.taken;
+  ends = p.ends;
+  read_waits = p.read_waits;
+  write_waits = p.write_waits;
+  faults = p.faults + 1;
+  reads = p.reads;
+  writes = p.writes;
+}
 
 -- the part of the offered bytes that was taken
 abbrev pub part_taken : Put → List ℕ → List ℕ
@@ -67,7 +130,16 @@ pub record Offers (before after : Past → Type 0) (bytes : List ℕ) (answer : 
 
 -- after a read that gave these bytes, on a wire that may have had each of these pasts
 abbrev pub Gave : (Past → Type 0) → (Past → Type 0) → List ℕ → Type 0
-Gave before after given = (p : Past) → before p → after (record { read = p.read ++ given; taken = p.taken; ends = p.ends; read_waits = p.read_waits; write_waits = p.write_waits; faults = p.faults; reads = p.reads + 1; writes = p.writes })
+Gave before after given = (p : Past) → before p → after (record {
+  read = p.read ++ given;
+  taken = p.taken;
+  ends = p.ends;
+  read_waits = p.read_waits;
+  write_waits = p.write_waits;
+  faults = p.faults;
+  reads = p.reads + 1;
+  writes = p.writes;
+})
 
 -- One read at most: after an answer that gave these bytes, or after none.
 abbrev pub after_ask : Past → List ℕ → Option Got → Past

@@ -1,5 +1,6 @@
 -- The bank's steps are the world's events.
-use Rattle.std.proofs.Common.{◌≡◌, ℕ, ◌+◌, ◌≤◌, Bool, true, false, not, ◌||◌, ◌&&◌, List, [], ◌∷◌, ◌++◌, Option, Some, None, IfSome, arith, refl, ap, ◌∙◌}
+use Rattle.std.proofs.Common.{◌≡◌, ℕ, ◌+◌, ◌≤◌, Bool, true, false, not, ◌||◌, ◌&&◌, List, [], ◌∷◌, ◌++◌, Option, Some, None, IfSome, arith}
+use Rattle.std.proofs.Common.{refl, ap, ◌∙◌}
 use Rattle.std.specs.Prelude.{◌==◌, nat_lt, cond, is_some, sum_by}
 use Rattle.std.proofs.lemmas.Bool.Decides.{nat_tests}
 use Rattle.std.proofs.lemmas.Bool.{cond_both, eq-eqb}
@@ -14,7 +15,8 @@ use Rattle.world_core.specs.declared.event.WorldEvent.{WorldEvent}
 use Rattle.world_core.specs.declared.event.WorldEvent.TheVariants.{Lease, Open, Of, Back, Reclaim, Close, Limit, Capacity}
 use Rattle.world_core.specs.declared.event.WorldFault.TheVariants.{Twice, NoRoom, OverClaim, NotClosed}
 use Rattle.world_core.specs.declared.leases.LeaseState.{LeaseState}
-use Rattle.world_core.specs.WorldHistory.{Setting, Opened, open_at, opened, was_opened, claimed, claim_in, capacity_of, lease_of, with_event, with_claim}
+use Rattle.world_core.specs.WorldHistory.{Setting, Opened, open_at, opened, was_opened, claimed, claim_in, capacity_of, lease_of}
+use Rattle.world_core.specs.WorldHistory.{with_event, with_claim}
 use Rattle.world_core.specs.WorldFaults.{IsLegalWorld, shown, opened_event_fault, opened_claim_fault, opened_close_fault, found_at}
 use Rattle.world_core.specs.WorldSound.{held_at, held_in}
 use Rattle.world_core.proofs.Standing.{Sane, stands, row_1, row_3}
@@ -30,7 +32,9 @@ pub was_open : (t : ℕ) (events : List WorldEvent) → is_some (open_at t event
 was_open t [] h = absurd cc
 was_open t (Open u plan claim ∷ before) h = by_case (u == t) (open_at t before) (was_opened t before) h (was_open t before)
   where
-    by_case : (b : Bool) (x : Option Opened) (o : Bool) → is_some (cond b (Some (record { plan = plan; part = []; claim = claim })) x) ≡ true → (is_some x ≡ true → o ≡ true) → (b || o) ≡ true
+    by_case : (b : Bool) (x : Option Opened) (o : Bool)
+        → is_some (cond b (Some (record { plan = plan; part = []; claim = claim })) x) ≡ true → (is_some x ≡ true → o ≡ true)
+        → (b || o) ≡ true
     by_case true x o h rest = refl
     by_case false x o h rest = rest h
 was_open t (Of u event ∷ before) h = was_open t before (by_case (u == t) (open_at t before) h)
@@ -65,7 +69,8 @@ at_other true x y e = absurd cc
 at_other false x y e = refl
 
 -- what is said of each transaction, once one that is open is changed
-pub changed_sum : (w : Setting) (u : ℕ) (before : List WorldEvent) (f : Option Opened → ℕ) (c : Option Opened → Option Opened) → IsLegalWorld w before → is_some (open_at u before) ≡ true
+pub changed_sum : (w : Setting) (u : ℕ) (before : List WorldEvent) (f : Option Opened → ℕ) (c : Option Opened → Option Opened)
+    → IsLegalWorld w before → is_some (open_at u before) ≡ true
     → sum_by (λ t. f (cond (u == t) (c (open_at t before)) (open_at t before))) (opened before) + f (open_at u before)
     ≡ sum_by (λ t. f (open_at t before)) (opened before) + f (c (open_at u before))
 changed_sum w u before f c l o =
@@ -78,12 +83,14 @@ changed_sum w u before f c l o =
 
 -- the same once one is opened that never was
 pub opened_sum : (u : ℕ) (before : List WorldEvent) (f : Option Opened → ℕ) (o : Opened) → was_opened u before ≡ false
-    → sum_by (λ t. f (cond (u == t) (Some o) (open_at t before))) (opened before ++ u ∷ []) ≡ sum_by (λ t. f (open_at t before)) (opened before) + f (Some o)
+    → sum_by (λ t. f (cond (u == t) (Some o) (open_at t before))) (opened before ++ u ∷ [])
+    ≡ sum_by (λ t. f (open_at t before)) (opened before) + f (Some o)
 opened_sum u before f o n =
     let new : ℕ → ℕ = λ t. f (cond (u == t) (Some o) (open_at t before)) in
     let old : ℕ → ℕ = λ t. f (open_at t before) in
     let all = sum_by_push new (opened before) u in
-    let rest = sum_unless u new old (opened before) (in_opened u before ∙ n) (λ t no. ap f (at_other (u == t) (Some o) (open_at t before) no)) in
+    let rest = sum_unless u new old (opened before) (in_opened u before ∙ n)
+    (λ t no. ap f (at_other (u == t) (Some o) (open_at t before) no)) in
     let own = ap f (at_own u (Some o) (open_at u before)) in
     omega arith
 
@@ -125,7 +132,8 @@ pub lower : (o : Option Opened) (claim : ℕ) → opened_claim_fault o claim ≡
 lower None claim f = absurd cc
 lower (Some o) claim f =
     at_most (held_places (shown o)) o.claim claim (is_early (shown o) && nat_lt claim (least_claim o.plan))
-    (row_1 (nat_lt claim (held_places (shown o)) || nat_lt o.claim claim || (is_early (shown o) && nat_lt claim (least_claim o.plan))) OverClaim f)
+    (row_1 (nat_lt claim (held_places (shown o)) || nat_lt o.claim claim || (is_early (shown o) && nat_lt claim (least_claim o.plan)))
+    OverClaim f)
   where
     at_most : (held old new : ℕ) (b : Bool) → (nat_lt new held || nat_lt old new || b) ≡ false → new ≤ old
     at_most held old new b f = grind (arith, nat_tests)
@@ -169,14 +177,17 @@ row_open None h = absurd cc
 row_open (Some o) h = refl
 
 -- how the totals change, whatever the event
-pub record Changed (w : Setting) (before : List WorldEvent) (event : WorldEvent) (rows rows_off held held_off claim claim_off : ℕ) : Type 0 where
-  pub rows_are : rows_in (event ∷ before) + rows_off ≡ rows_in before + rows
-  pub held_is : held_in (event ∷ before) + held_off ≡ held_in before + held
-  pub claimed_is : claimed (event ∷ before) + claim_off ≡ claimed before + claim
+pub record Changed (w : Setting) (before : List WorldEvent) (event : WorldEvent) (rows rows_off held held_off claim claim_off : ℕ) : Type 0
+  where
+    pub rows_are : rows_in (event ∷ before) + rows_off ≡ rows_in before + rows
+    pub held_is : held_in (event ∷ before) + held_off ≡ held_in before + held
+    pub claimed_is : claimed (event ∷ before) + claim_off ≡ claimed before + claim
 
-pub by_open : (w : Setting) (before : List WorldEvent) (t claim : ℕ) (plan : Plan) → IsLegalWorld w (Open t plan claim ∷ before) → Changed w before (Open t plan claim) 1 0 0 0 claim 0
+pub by_open : (w : Setting) (before : List WorldEvent) (t claim : ℕ) (plan : Plan) → IsLegalWorld w (Open t plan claim ∷ before)
+    → Changed w before (Open t plan claim) 1 0 0 0 claim 0
 by_open w before t claim plan l =
-    let row = row_3 (was_opened t before) (nat_lt claim (least_claim plan)) (nat_lt (capacity_of w.capacity before) (claimed before + claim)) Twice OverClaim NoRoom l.0 in
+    let row = row_3 (was_opened t before) (nat_lt claim (least_claim plan))
+    (nat_lt (capacity_of w.capacity before) (claimed before + claim)) Twice OverClaim NoRoom l.0 in
     let o : Opened = record { plan = plan; part = []; claim = claim } in
     let rows = opened_sum t before row_in o row.0 in
     let held = opened_sum t before held_at o row.0 in

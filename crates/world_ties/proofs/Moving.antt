@@ -1,12 +1,14 @@
 -- How an event of a message changes the number of bytes held.
-use Rattle.std.proofs.Common.{◌≡◌, ℕ, ◌+◌, ◌-◌, ◌≤◌, zero, suc, Bool, false, List, ◌∷◌, Option, Some, None, arith, refl, sym, subst, ap, ◌∙◌}
+use Rattle.std.proofs.Common.{◌≡◌, ℕ, ◌+◌, ◌-◌, ◌≤◌, zero, suc, Bool, false, List, ◌∷◌, Option, Some, None, arith, refl, sym, subst, ap}
+use Rattle.std.proofs.Common.{◌∙◌}
 use Rattle.std.specs.Prelude.{nat_lt, cond}
 use Rattle.std.proofs.lemmas.Bool.Decides.{nat_tests}
 use Rattle.std.proofs.lemmas.Bool.{cond_both}
 use Rattle.trace_core.specs.declared.history.Cause.{Cause}
 use Rattle.trace_core.specs.declared.history.Payload.{Payload}
 use Rattle.trace_core.specs.declared.history.Event.{Event}
-use Rattle.trace_core.specs.declared.history.Event.TheVariants.{In, End, Svc, Stop, Heard, Continue, NoMod, Mod, Ad, AdEnd, Usr, Done, Fail, Retry}
+use Rattle.trace_core.specs.declared.history.Event.TheVariants.{In, End, Svc, Stop, Heard, Continue, NoMod, Mod, Ad, AdEnd, Usr, Done, Fail}
+use Rattle.trace_core.specs.declared.history.Event.TheVariants.{Retry}
 use Rattle.trace_core.specs.declared.history.Seen.{Seen}
 use Rattle.trace_core.specs.Held.{held_places, keeps_original}
 use Rattle.trace_core.specs.Legal.{Allows}
@@ -23,15 +25,18 @@ use Rattle.span_bank.specs.declared.step.BankStep.TheVariants as bank
 use Rattle.world_ties.specs.BankTie.{held_step, bank_step, brings, IsQuiet}
 
 -- bytes that come and are kept are held
-adds-in : (x : Seen) (n : ℕ) → Sound x → x.closed ≡ false → Allows x (In n) → held_places (after x (In n)) ≡ held_places x + cond (keeps_original x) n 0
+adds-in : (x : Seen) (n : ℕ) → Sound x → x.closed ≡ false → Allows x (In n)
+    → held_places (after x (In n)) ≡ held_places x + cond (keeps_original x) n 0
 adds-in x n s c a = grind (arith, nat_tests)
 
 adds-ad : (x : Seen) (n : ℕ) → Sound x → x.closed ≡ false → Allows x (Ad n) → held_places (after x (Ad n)) ≡ held_places x + n
 adds-ad x n s c a = grind (arith, nat_tests)
 
 -- and those that are dropped aren't
-adds-none : (x : Seen) (n : ℕ) → Sound x → x.closed ≡ false → Allows x (In n) → keeps_original x ≡ false → held_places (after x (In n)) ≡ held_places x
-adds-none x n s c a d = let e = subst (λ (keeps : Bool). held_places (after x (In n)) ≡ held_places x + cond keeps n 0) d (adds-in x n s c a) in omega arith
+adds-none : (x : Seen) (n : ℕ) → Sound x → x.closed ≡ false → Allows x (In n) → keeps_original x ≡ false
+    → held_places (after x (In n)) ≡ held_places x
+adds-none x n s c a d = let e = subst (λ (keeps : Bool). held_places (after x (In n)) ≡ held_places x + cond keeps n 0) d
+    (adds-in x n s c a) in omega arith
 
 -- these leave as many
 
@@ -53,7 +58,8 @@ stays-done x s c a = grind (arith, nat_tests)
 stays-retry : (x : Seen) → Sound x → x.closed ≡ false → Allows x Retry → held_places (after x Retry) ≡ held_places x
 stays-retry x s c a = grind (arith, nat_tests)
 
-stays : (x : Seen) (event : Event) → Sound x → x.closed ≡ false → Allows x event → IsQuiet event → held_places (after x event) ≡ held_places x
+stays : (x : Seen) (event : Event) → Sound x → x.closed ≡ false → Allows x event → IsQuiet event
+    → held_places (after x event) ≡ held_places x
 stays x End s c a q = stays-end x s c a
 stays x Stop s c a q = stays-stop x s c a
 stays x Heard s c a q = stays-heard x s c a
@@ -77,7 +83,8 @@ falls-svc x n s c a = grind (arith, nat_tests)
 falls-continue : (x : Seen) → Sound x → x.closed ≡ false → Allows x Continue → held_places (after x Continue) ≤ held_places x
 falls-continue x s c a = grind (arith, nat_tests)
 
-falls-mod : (x : Seen) (payload : Payload) → Sound x → x.closed ≡ false → Allows x (Mod payload) → held_places (after x (Mod payload)) ≤ held_places x
+falls-mod : (x : Seen) (payload : Payload) → Sound x → x.closed ≡ false → Allows x (Mod payload)
+    → held_places (after x (Mod payload)) ≤ held_places x
 falls-mod x payload s c a = grind (arith, nat_tests)
 
 falls-ad_end : (x : Seen) → Sound x → x.closed ≡ false → Allows x AdEnd → held_places (after x AdEnd) ≤ held_places x
@@ -86,7 +93,8 @@ falls-ad_end x s c a = grind (arith, nat_tests)
 falls-usr : (x : Seen) (n : ℕ) → Sound x → x.closed ≡ false → Allows x (Usr n) → held_places (after x (Usr n)) ≤ held_places x
 falls-usr x n s c a = grind (arith, nat_tests)
 
-falls-fail : (x : Seen) (cause : Cause) → Sound x → x.closed ≡ false → Allows x (Fail cause) → held_places (after x (Fail cause)) ≤ held_places x
+falls-fail : (x : Seen) (cause : Cause) → Sound x → x.closed ≡ false → Allows x (Fail cause)
+    → held_places (after x (Fail cause)) ≤ held_places x
 falls-fail x cause s c a = grind (arith, nat_tests)
 
 -- so at most what an event brings is held more, and all of it is where it brings any
@@ -125,7 +133,8 @@ record Taken (o : Opened) (event : Event) : Type 0 where
   unclosed : (shown o).closed ≡ false
   allowed : Allows (shown o) event
 
-taken : (w : Setting) (before : List WorldEvent) (t : ℕ) (event : Event) (o : Opened) → IsLegalWorld w (Of t event ∷ before) → open_at t before ≡ Some o → Taken o event
+taken : (w : Setting) (before : List WorldEvent) (t : ℕ) (event : Event) (o : Opened) → IsLegalWorld w (Of t event ∷ before)
+    → open_at t before ≡ Some o → Taken o event
 taken w before t event o l e =
     let s = sane_at w t before o l.1 e in
     let none = subst (λ (x : Option Opened). opened_event_fault x (found_at w t before) event ≡ None) e l.0 in
@@ -138,10 +147,12 @@ step_of before t event o e = ap (λ (x : Option Opened). held_step (held_at x) (
 
 grow_by : (old new n : ℕ) → 1 ≤ n → new ≡ old + n → held_step old new ≡ Some (bank.Grow n)
 grow_by old new n one e =
-    cond_both (nat_lt old new) (Some (bank.Grow (new - old))) (cond (nat_lt new old) (Some (bank.Shrink (old - new))) None) (λ step. step ≡ Some (bank.Grow n))
+    cond_both (nat_lt old new) (Some (bank.Grow (new - old))) (cond (nat_lt new old) (Some (bank.Shrink (old - new))) None)
+    (λ step. step ≡ Some (bank.Grow n))
     (λ more. ap (λ (k : ℕ). Some (bank.Grow k)) (omega arith)) (λ no. absurd (grind (arith, nat_tests)))
 
-pub grows : (w : Setting) (before : List WorldEvent) (t n : ℕ) (event : Event) (o : Opened) → IsLegalWorld w (Of t event ∷ before) → open_at t before ≡ Some o → brings o event ≡ n → 1 ≤ n
+pub grows : (w : Setting) (before : List WorldEvent) (t n : ℕ) (event : Event) (o : Opened) → IsLegalWorld w (Of t event ∷ before)
+    → open_at t before ≡ Some o → brings o event ≡ n → 1 ≤ n
     → bank_step before (Of t event) ≡ Some (bank.Grow n)
 grows w before t n event o l e b one =
     let is = taken w before t event o l e in
@@ -149,14 +160,17 @@ grows w before t n event o l e b one =
     step_of before t event o e ∙ grow_by (held_places (shown o)) (held_places (after (shown o) event)) n one (omega arith)
 
 no_grow : (old new n : ℕ) → new ≤ old → held_step old new ≡ Some (bank.Grow n) → ⊥
-no_grow old new n l = cond_both (nat_lt old new) (Some (bank.Grow (new - old))) (cond (nat_lt new old) (Some (bank.Shrink (old - new))) None) (λ step. step ≡ Some (bank.Grow n) → ⊥)
+no_grow old new n l = cond_both (nat_lt old new) (Some (bank.Grow (new - old)))
+    (cond (nat_lt new old) (Some (bank.Shrink (old - new))) None) (λ step. step ≡ Some (bank.Grow n) → ⊥)
     (λ more e. absurd (grind (arith, nat_tests)))
-    (λ no. cond_both (nat_lt new old) (Some (bank.Shrink (old - new))) None (λ step. step ≡ Some (bank.Grow n) → ⊥) (λ less e. absurd cc) (λ as_many e. absurd cc))
+    (λ no. cond_both (nat_lt new old) (Some (bank.Shrink (old - new))) None (λ step. step ≡ Some (bank.Grow n) → ⊥) (λ less e. absurd cc)
+    (λ as_many e. absurd cc))
 
 same_grow : (n k : ℕ) → Some (bank.Grow n) ≡ Some (bank.Grow k) → n ≡ k
 same_grow n k e = cc
 
-pub only_brought : (w : Setting) (before : List WorldEvent) (t n : ℕ) (event : Event) (o : Opened) → IsLegalWorld w (Of t event ∷ before) → open_at t before ≡ Some o
+pub only_brought : (w : Setting) (before : List WorldEvent) (t n : ℕ) (event : Event) (o : Opened) → IsLegalWorld w (Of t event ∷ before)
+    → open_at t before ≡ Some o
     → bank_step before (Of t event) ≡ Some (bank.Grow n) → brings o event ≡ n
 only_brought w before t n event o l e g = by_number (brings o event) refl
   where
@@ -164,26 +178,32 @@ only_brought w before t n event o l e g = by_number (brings o event) refl
     by_number zero b =
         let is = taken w before t event o l e in
         let most = (moves o event is.sane is.unclosed is.allowed).at_most in
-        absurd (no_grow (held_places (shown o)) (held_places (after (shown o) event)) n (omega arith) (sym (step_of before t event o e) ∙ g))
+        absurd (no_grow (held_places (shown o)) (held_places (after (shown o) event)) n (omega arith)
+        (sym (step_of before t event o e) ∙ g))
     by_number (suc came) b = b ∙ same_grow (suc came) n (sym (grows w before t (suc came) event o l e b (omega arith)) ∙ g)
 
 no_step : (n m : ℕ) → m ≡ n → held_step n m ≡ None
 no_step n m e =
     cond_both (nat_lt n m) (Some (bank.Grow (m - n))) (cond (nat_lt m n) (Some (bank.Shrink (n - m))) None) (λ step. step ≡ None)
     (λ more. absurd (grind (arith, nat_tests)))
-    (λ no. cond_both (nat_lt m n) (Some (bank.Shrink (n - m))) None (λ step. step ≡ None) (λ less. absurd (grind (arith, nat_tests))) (λ as_many. refl))
+    (λ no. cond_both (nat_lt m n) (Some (bank.Shrink (n - m))) None (λ step. step ≡ None) (λ less. absurd (grind (arith, nat_tests)))
+    (λ as_many. refl))
 
-pub quiet : (w : Setting) (before : List WorldEvent) (t : ℕ) (event : Event) → IsLegalWorld w (Of t event ∷ before) → IsQuiet event → bank_step before (Of t event) ≡ None
+pub quiet : (w : Setting) (before : List WorldEvent) (t : ℕ) (event : Event) → IsLegalWorld w (Of t event ∷ before) → IsQuiet event
+    → bank_step before (Of t event) ≡ None
 quiet w before t event l q = by_case (open_at t before) refl
   where
     by_case : (x : Option Opened) → open_at t before ≡ x → bank_step before (Of t event) ≡ None
     by_case None e = absurd (let none = subst (λ (y : Option Opened). opened_event_fault y (found_at w t before) event ≡ None) e l.0 in cc)
     by_case (Some o) e =
         let is = taken w before t event o l e in
-        step_of before t event o e ∙ no_step (held_places (shown o)) (held_places (after (shown o) event)) (stays (shown o) event is.sane is.unclosed is.allowed q)
+        step_of before t event o e ∙ no_step (held_places (shown o)) (held_places (after (shown o) event))
+        (stays (shown o) event is.sane is.unclosed is.allowed q)
 
-pub dropped : (w : Setting) (before : List WorldEvent) (t n : ℕ) (o : Opened) → IsLegalWorld w (Of t (In n) ∷ before) → open_at t before ≡ Some o → keeps_original (shown o) ≡ false
+pub dropped : (w : Setting) (before : List WorldEvent) (t n : ℕ) (o : Opened) → IsLegalWorld w (Of t (In n) ∷ before)
+    → open_at t before ≡ Some o → keeps_original (shown o) ≡ false
     → bank_step before (Of t (In n)) ≡ None
 dropped w before t n o l e d =
     let is = taken w before t (In n) o l e in
-    step_of before t (In n) o e ∙ no_step (held_places (shown o)) (held_places (after (shown o) (In n))) (adds-none (shown o) n is.sane is.unclosed is.allowed d)
+    step_of before t (In n) o e ∙ no_step (held_places (shown o)) (held_places (after (shown o) (In n)))
+    (adds-none (shown o) n is.sane is.unclosed is.allowed d)

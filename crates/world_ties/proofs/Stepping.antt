@@ -1,5 +1,6 @@
 -- Each event of the world that is taken is one step of the bank, or none.
-use Rattle.std.proofs.Common.{◌≡◌, ℕ, ◌+◌, ◌-◌, ◌<◌, ◌≤◌, Bool, true, false, List, [], ◌∷◌, ◌++◌, length, Option, Some, None, IfSome, arith, refl, sym, subst, ap, ◌∙◌}
+use Rattle.std.proofs.Common.{◌≡◌, ℕ, ◌+◌, ◌-◌, ◌<◌, ◌≤◌, Bool, true, false, List, [], ◌∷◌, ◌++◌, length, Option, Some, None, IfSome, arith}
+use Rattle.std.proofs.Common.{refl, sym, subst, ap, ◌∙◌}
 use Rattle.std.specs.Prelude.{◌==◌, nat_lt, cond, ◌↔◌}
 use Rattle.std.proofs.lemmas.Bool.Decides.{nat_tests}
 use Rattle.std.proofs.lemmas.Bool.{cond_both, ltb-false, eqb-true}
@@ -29,15 +30,18 @@ abbrev pub after_step : Numbers → Option BankStep → Numbers
 after_step b None = b
 after_step b (Some step) = after b step
 
-held_law : (b c : Numbers) (old new : ℕ) → c.rows ≡ b.rows → c.held + old ≡ b.held + new → c.claimed ≡ b.claimed → c.capacity ≡ b.capacity → after_step b (held_step old new) ≡ c
+held_law : (b c : Numbers) (old new : ℕ) → c.rows ≡ b.rows → c.held + old ≡ b.held + new → c.claimed ≡ b.claimed → c.capacity ≡ b.capacity
+    → after_step b (held_step old new) ≡ c
 held_law b c old new r h k m =
-    cond_both (nat_lt old new) (Some (bank.Grow (new - old))) (cond (nat_lt new old) (Some (bank.Shrink (old - new))) None) (λ step. after_step b step ≡ c)
+    cond_both (nat_lt old new) (Some (bank.Grow (new - old))) (cond (nat_lt new old) (Some (bank.Shrink (old - new))) None)
+    (λ step. after_step b step ≡ c)
     (λ more. same_numbers (after b (bank.Grow (new - old))) c (sym r) (grind (arith, nat_tests)) (sym k) (sym m))
     (λ no. cond_both (nat_lt new old) (Some (bank.Shrink (old - new))) None (λ step. after_step b step ≡ c)
     (λ less. same_numbers (after b (bank.Shrink (old - new))) c (sym r) (grind (arith, nat_tests)) (sym k) (sym m))
     (λ as_many. same_numbers b c (sym r) (grind (arith, nat_tests)) (sym k) (sym m)))
 
-claim_law : (b c : Numbers) (old new : ℕ) → new ≤ old → c.rows ≡ b.rows → c.held ≡ b.held → c.claimed + old ≡ b.claimed + new → c.capacity ≡ b.capacity
+claim_law : (b c : Numbers) (old new : ℕ) → new ≤ old → c.rows ≡ b.rows → c.held ≡ b.held → c.claimed + old ≡ b.claimed + new
+    → c.capacity ≡ b.capacity
     → after_step b (step_if (bank.Reclaim old new)) ≡ c
 claim_law b c old new l r h k m = by_case (old == new) refl
   where
@@ -46,34 +50,43 @@ claim_law b c old new l r h k m = by_case (old == new) refl
     by_case false e = same_numbers (after b (bank.Reclaim old new)) c (sym r) (sym h) (omega arith) (sym m)
 
 -- so the bank goes with the world
-pub goes_with : (w : Setting) (before : List WorldEvent) (event : WorldEvent) → IsLegalWorld w (event ∷ before) → after_step (book w before) (bank_step before event) ≡ book w (event ∷ before)
+pub goes_with : (w : Setting) (before : List WorldEvent) (event : WorldEvent) → IsLegalWorld w (event ∷ before)
+    → after_step (book w before) (bank_step before event) ≡ book w (event ∷ before)
 goes_with w before (Open t plan claim) l =
     let c = by_open w before t claim plan l in
     let rows = c.rows_are in let held = c.held_is in let claims = c.claimed_is in
-    same_numbers (after (book w before) (bank.Open claim)) (book w (Open t plan claim ∷ before)) (omega arith) (omega arith) (omega arith) refl
+    same_numbers (after (book w before) (bank.Open claim)) (book w (Open t plan claim ∷ before)) (omega arith) (omega arith) (omega arith)
+    refl
 goes_with w before (Of t e) l =
     let c = by_event w before t e l in
     let rows = c.rows_are in let claims = c.claimed_is in
-    held_law (book w before) (book w (Of t e ∷ before)) (held_at (open_at t before)) (held_at (with_event e (open_at t before))) (omega arith) c.held_is (omega arith) refl
+    held_law (book w before) (book w (Of t e ∷ before)) (held_at (open_at t before)) (held_at (with_event e (open_at t before)))
+    (omega arith) c.held_is (omega arith) refl
 goes_with w before (Reclaim t claim) l =
     let c = by_claim w before t claim l in
     let rows = c.rows_are in let held = c.held_is in
-    claim_law (book w before) (book w (Reclaim t claim ∷ before)) (claim_in (open_at t before)) claim (lower (open_at t before) claim l.0) (omega arith) (omega arith) c.claimed_is refl
+    claim_law (book w before) (book w (Reclaim t claim ∷ before)) (claim_in (open_at t before)) claim (lower (open_at t before) claim l.0)
+    (omega arith) (omega arith) c.claimed_is refl
 goes_with w before (Close t) l =
     let c = by_close w before t l in
     let rows = c.rows_are in let held = c.held_is in let claims = c.claimed_is in
-    same_numbers (after (book w before) (bank.Close (claim_in (open_at t before)))) (book w (Close t ∷ before)) (omega arith) (omega arith) (omega arith) refl
+    same_numbers (after (book w before) (bank.Close (claim_in (open_at t before)))) (book w (Close t ∷ before)) (omega arith) (omega arith)
+    (omega arith) refl
 goes_with w before (Capacity n) l = refl
 goes_with w before (Lease t s) l = refl
 goes_with w before (Back t kept) l = refl
 goes_with w before (Limit s n) l = refl
 
-pub step_goes : (w : Setting) (before : List WorldEvent) (event : WorldEvent) (step : BankStep) → IsLegalWorld w (event ∷ before) → bank_step before event ≡ Some step
+pub step_goes : (w : Setting) (before : List WorldEvent) (event : WorldEvent) (step : BankStep) → IsLegalWorld w (event ∷ before)
+    → bank_step before event ≡ Some step
     → after (book w before) step ≡ book w (event ∷ before)
-step_goes w before event step l e = subst (λ (o : Option BankStep). after_step (book w before) o ≡ book w (event ∷ before)) e (goes_with w before event l)
+step_goes w before event step l e = subst (λ (o : Option BankStep). after_step (book w before) o ≡ book w (event ∷ before)) e
+    (goes_with w before event l)
 
-pub none_stays : (w : Setting) (before : List WorldEvent) (event : WorldEvent) → IsLegalWorld w (event ∷ before) → bank_step before event ≡ None → book w before ≡ book w (event ∷ before)
-none_stays w before event l e = subst (λ (o : Option BankStep). after_step (book w before) o ≡ book w (event ∷ before)) e (goes_with w before event l)
+pub none_stays : (w : Setting) (before : List WorldEvent) (event : WorldEvent) → IsLegalWorld w (event ∷ before)
+    → bank_step before event ≡ None → book w before ≡ book w (event ∷ before)
+none_stays w before event l e = subst (λ (o : Option BankStep). after_step (book w before) o ≡ book w (event ∷ before)) e
+    (goes_with w before event l)
 
 -- making room in a journal changes no total
 
@@ -95,8 +108,10 @@ rebased_keeps j = by_case (length j.steps == j.room)
     by_case true = refl
     by_case false = refl
 
-pub journals_go : (w : Setting) (before : List WorldEvent) (event : WorldEvent) (step : BankStep) (j : Journaled) → IsLegalWorld w (event ∷ before) → bank_step before event ≡ Some step
-    → j.numbers ≡ book w before → ((stepped slid j step).numbers ≡ book w (event ∷ before)) × ((stepped rebased j step).numbers ≡ book w (event ∷ before))
+pub journals_go : (w : Setting) (before : List WorldEvent) (event : WorldEvent) (step : BankStep) (j : Journaled)
+    → IsLegalWorld w (event ∷ before) → bank_step before event ≡ Some step
+    → j.numbers ≡ book w before → ((stepped slid j step).numbers ≡ book w (event ∷ before))
+    × ((stepped rebased j step).numbers ≡ book w (event ∷ before))
 journals_go w before event step j l e h =
     let goes = step_goes w before event step l e in
     (ap (λ b. after b step) (slid_keeps j ∙ h) ∙ goes, ap (λ b. after b step) (rebased_keeps j ∙ h) ∙ goes)
@@ -105,7 +120,8 @@ journals_go w before event step j l e h =
 
 held_may : (b c : Numbers) (old new : ℕ) → c.held + old ≡ b.held + new → c.held ≤ b.claimed → IfSome (held_step old new) (MaySum b)
 held_may b c old new h l =
-    cond_both (nat_lt old new) (Some (bank.Grow (new - old))) (cond (nat_lt new old) (Some (bank.Shrink (old - new))) None) (λ step. IfSome step (MaySum b))
+    cond_both (nat_lt old new) (Some (bank.Grow (new - old))) (cond (nat_lt new old) (Some (bank.Shrink (old - new))) None)
+    (λ step. IfSome step (MaySum b))
     (λ more. (grind (arith, nat_tests), grind (arith, nat_tests)))
     (λ no. cond_both (nat_lt new old) (Some (bank.Shrink (old - new))) None (λ step. IfSome step (MaySum b))
     (λ less. (grind (arith, nat_tests), grind (arith, nat_tests))) (λ as_many. tt))
@@ -117,18 +133,22 @@ claim_may b old new l h = by_case (old == new)
     by_case true = tt
     by_case false = (l, h)
 
-room_for : (w : Setting) (before : List WorldEvent) (t claim : ℕ) (plan : Plan) → IsLegalWorld w (Open t plan claim ∷ before) → claimed before + claim ≤ capacity_of w.capacity before
+room_for : (w : Setting) (before : List WorldEvent) (t claim : ℕ) (plan : Plan) → IsLegalWorld w (Open t plan claim ∷ before)
+    → claimed before + claim ≤ capacity_of w.capacity before
 room_for w before t claim plan l =
     ltb-false (capacity_of w.capacity before) (claimed before + claim)
-    (row_3 (was_opened t before) (nat_lt claim (least_claim plan)) (nat_lt (capacity_of w.capacity before) (claimed before + claim)) Twice OverClaim NoRoom l.0).2
+    (row_3 (was_opened t before) (nat_lt claim (least_claim plan)) (nat_lt (capacity_of w.capacity before) (claimed before + claim)) Twice
+    OverClaim NoRoom l.0).2
 
-pub may_sum : (w : Setting) (before : List WorldEvent) (event : WorldEvent) → IsLegalWorld w (event ∷ before) → IsBankEvent event → IfSome (bank_step before event) (MaySum (book w before))
+pub may_sum : (w : Setting) (before : List WorldEvent) (event : WorldEvent) → IsLegalWorld w (event ∷ before) → IsBankEvent event
+    → IfSome (bank_step before event) (MaySum (book w before))
 may_sum w before (Open t plan claim) l i = i
 may_sum w before (Of t e) l i =
     let c = by_event w before t e l in
     let claims = c.claimed_is in
     let within = held_within w (Of t e ∷ before) l in
-    held_may (book w before) (book w (Of t e ∷ before)) (held_at (open_at t before)) (held_at (with_event e (open_at t before))) c.held_is (omega arith)
+    held_may (book w before) (book w (Of t e ∷ before)) (held_at (open_at t before)) (held_at (with_event e (open_at t before))) c.held_is
+    (omega arith)
 may_sum w before (Reclaim t claim) l i =
     let c = by_claim w before t claim l in
     let held = c.held_is in let claims = c.claimed_is in
@@ -144,7 +164,8 @@ may_sum w before (Lease t s) l i = tt
 may_sum w before (Back t kept) l i = tt
 may_sum w before (Limit s n) l i = tt
 
-pub may_sum_step : (w : Setting) (before : List WorldEvent) (event : WorldEvent) (step : BankStep) → IsLegalWorld w (event ∷ before) → IsBankEvent event → bank_step before event ≡ Some step
+pub may_sum_step : (w : Setting) (before : List WorldEvent) (event : WorldEvent) (step : BankStep) → IsLegalWorld w (event ∷ before)
+    → IsBankEvent event → bank_step before event ≡ Some step
     → MaySum (book w before) step
 may_sum_step w before event step l i e = subst (λ (o : Option BankStep). IfSome o (MaySum (book w before))) e (may_sum w before event l i)
 
@@ -156,11 +177,14 @@ HasRoom b (bank.Open claim) = b.claimed + claim ≤ b.capacity
 HasRoom b _ = Unit {0}
 
 -- a change of what is held, or of a claim, opens nothing
-held_free : (P : BankStep → Type 0) (old new : ℕ) → ((n : ℕ) → P (bank.Grow n)) → ((n : ℕ) → P (bank.Shrink n)) → IfSome (held_step old new) P
+held_free : (P : BankStep → Type 0) (old new : ℕ) → ((n : ℕ) → P (bank.Grow n)) → ((n : ℕ) → P (bank.Shrink n))
+    → IfSome (held_step old new) P
 held_free P old new grow shrink =
-    cond_both (nat_lt old new) (Some (bank.Grow (new - old))) (cond (nat_lt new old) (Some (bank.Shrink (old - new))) None) (λ step. IfSome step P)
+    cond_both (nat_lt old new) (Some (bank.Grow (new - old))) (cond (nat_lt new old) (Some (bank.Shrink (old - new))) None)
+    (λ step. IfSome step P)
     (λ more. grow (new - old))
-    (λ no. cond_both (nat_lt new old) (Some (bank.Shrink (old - new))) None (λ step. IfSome step P) (λ less. shrink (old - new)) (λ as_many. tt))
+    (λ no. cond_both (nat_lt new old) (Some (bank.Shrink (old - new))) None (λ step. IfSome step P) (λ less. shrink (old - new))
+    (λ as_many. tt))
 
 claim_free : (P : BankStep → Type 0) (old new : ℕ) → P (bank.Reclaim old new) → IfSome (step_if (bank.Reclaim old new)) P
 claim_free P old new reclaim = by_case (old == new)
@@ -169,9 +193,11 @@ claim_free P old new reclaim = by_case (old == new)
     by_case true = tt
     by_case false = reclaim
 
-has_room : (w : Setting) (before : List WorldEvent) (event : WorldEvent) → IsLegalWorld w (event ∷ before) → IfSome (bank_step before event) (HasRoom (book w before))
+has_room : (w : Setting) (before : List WorldEvent) (event : WorldEvent) → IsLegalWorld w (event ∷ before)
+    → IfSome (bank_step before event) (HasRoom (book w before))
 has_room w before (Open t plan claim) l = room_for w before t claim plan l
-has_room w before (Of t e) l = held_free (HasRoom (book w before)) (held_at (open_at t before)) (held_at (with_event e (open_at t before))) (λ n. tt) (λ n. tt)
+has_room w before (Of t e) l = held_free (HasRoom (book w before)) (held_at (open_at t before)) (held_at (with_event e (open_at t before)))
+    (λ n. tt) (λ n. tt)
 has_room w before (Reclaim t claim) l = claim_free (HasRoom (book w before)) (claim_in (open_at t before)) claim tt
 has_room w before (Close t) l = tt
 has_room w before (Capacity n) l = tt
@@ -187,7 +213,8 @@ fits_by v (bank.Reclaim old new) room row = tt
 fits_by v (bank.Close claim) room row = tt
 fits_by v (bank.Capacity n) room row = tt
 
-pub step_fits : (w : Setting) (before : List WorldEvent) (event : WorldEvent) (step : BankStep) (v : Budget) → IsLegalWorld w (event ∷ before) → bank_step before event ≡ Some step
+pub step_fits : (w : Setting) (before : List WorldEvent) (event : WorldEvent) (step : BankStep) (v : Budget)
+    → IsLegalWorld w (event ∷ before) → bank_step before event ≡ Some step
     → v.journal.numbers ≡ book w before → v.journal.numbers.rows < v.most_rows → Fits v step
 step_fits w before event step v l e h r =
     let room = subst (λ (o : Option BankStep). IfSome o (HasRoom (book w before))) e (has_room w before event l) in
@@ -199,9 +226,11 @@ abbrev IsRowFor : Numbers → BankStep → Type 0
 IsRowFor b (bank.Open claim) = b.rows < MAX_ROWS
 IsRowFor b _ = Unit {0}
 
-has_row : (w : Setting) (before : List WorldEvent) (event : WorldEvent) → HasRow before event → IfSome (bank_step before event) (IsRowFor (book w before))
+has_row : (w : Setting) (before : List WorldEvent) (event : WorldEvent) → HasRow before event
+    → IfSome (bank_step before event) (IsRowFor (book w before))
 has_row w before (Open t plan claim) r = r
-has_row w before (Of t e) r = held_free (IsRowFor (book w before)) (held_at (open_at t before)) (held_at (with_event e (open_at t before))) (λ n. tt) (λ n. tt)
+has_row w before (Of t e) r = held_free (IsRowFor (book w before)) (held_at (open_at t before)) (held_at (with_event e (open_at t before)))
+    (λ n. tt) (λ n. tt)
 has_row w before (Reclaim t claim) r = claim_free (IsRowFor (book w before)) (claim_in (open_at t before)) claim tt
 has_row w before (Close t) r = tt
 has_row w before (Capacity n) r = tt
@@ -231,29 +260,35 @@ replay_with : (b : Numbers) (steps : List BankStep) (o : Option BankStep) → re
 replay_with b steps None = refl
 replay_with b steps (Some step) = replay_push b steps step
 
-pub replays : (w : Setting) (events : List WorldEvent) → IsLegalWorld w events → replay (none_open w.capacity) (bank_steps events) ≡ book w events
+pub replays : (w : Setting) (events : List WorldEvent) → IsLegalWorld w events
+    → replay (none_open w.capacity) (bank_steps events) ≡ book w events
 replays w [] l = refl
 replays w (event ∷ before) l =
     replay_with (none_open w.capacity) (bank_steps before) (bank_step before event)
     ∙ ap (λ (b : Numbers). after_step b (bank_step before event)) (replays w before l.1)
     ∙ goes_with w before event l
 
-allowed_push : (b : Numbers) (steps : List BankStep) (step : BankStep) → AreAllowed b steps → IsAllowed (replay b steps) step → AreAllowed b (steps ++ step ∷ [])
+allowed_push : (b : Numbers) (steps : List BankStep) (step : BankStep) → AreAllowed b steps → IsAllowed (replay b steps) step
+    → AreAllowed b (steps ++ step ∷ [])
 allowed_push b [] step all m = (m, tt)
 allowed_push b (s ∷ steps) step all m = (all.0, allowed_push (after b s) steps step all.1 m)
 
-allowed_with : (b : Numbers) (steps : List BankStep) (o : Option BankStep) → AreAllowed b steps → IfSome o (IsAllowed (replay b steps)) → AreAllowed b (with_step steps o)
+allowed_with : (b : Numbers) (steps : List BankStep) (o : Option BankStep) → AreAllowed b steps → IfSome o (IsAllowed (replay b steps))
+    → AreAllowed b (with_step steps o)
 allowed_with b steps None all m = all
 allowed_with b steps (Some step) all m = allowed_push b steps step all m
 
-pub all_allowed : (w : Setting) (events : List WorldEvent) → IsLegalWorld w events → AreBankEvents events → AreAllowed (none_open w.capacity) (bank_steps events)
+pub all_allowed : (w : Setting) (events : List WorldEvent) → IsLegalWorld w events → AreBankEvents events
+    → AreAllowed (none_open w.capacity) (bank_steps events)
 all_allowed w [] l a = tt
 all_allowed w (event ∷ before) l a =
-    let own = all_of (book w before) (bank_step before event) (may_sum w before event l a.0) (has_room w before event l) (has_row w before event a.1) in
+    let own = all_of (book w before) (bank_step before event) (may_sum w before event l a.0) (has_room w before event l)
+    (has_row w before event a.1) in
     allowed_with (none_open w.capacity) (bank_steps before) (bank_step before event) (all_allowed w before l.1 a.2)
     (subst (λ (b : Numbers). IfSome (bank_step before event) (IsAllowed b)) (sym (replays w before l.1)) own)
 
-pub journal_shows : (w : Setting) (events : List WorldEvent) (j : Journaled) → IsLegalWorld w events → HasLast (none_open w.capacity) (bank_steps events) j → j.numbers ≡ book w events
+pub journal_shows : (w : Setting) (events : List WorldEvent) (j : Journaled) → IsLegalWorld w events
+    → HasLast (none_open w.capacity) (bank_steps events) j → j.numbers ≡ book w events
 journal_shows w events j l h = h.numbers ∙ replays w events l
 
 -- Want of room is one condition.
@@ -262,7 +297,8 @@ full_row : (twice : Bool) (claim least room sum : ℕ) → twice ≡ false → l
     → ((first_of ((twice, Twice) ∷ (nat_lt claim least, OverClaim) ∷ (nat_lt room sum, NoRoom) ∷ []) ≡ Some NoRoom) ↔ (room < sum))
 full_row twice claim least room sum t l = grind (arith, nat_tests)
 
-pub full_where : (w : Setting) (before : List WorldEvent) (t claim sum : ℕ) (plan : Plan) (v : Budget) → v.journal.numbers ≡ book w before → was_opened t before ≡ false → least_claim plan ≤ claim
+pub full_where : (w : Setting) (before : List WorldEvent) (t claim sum : ℕ) (plan : Plan) (v : Budget) → v.journal.numbers ≡ book w before
+    → was_opened t before ≡ false → least_claim plan ≤ claim
     → (((world_fault w before (Open t plan claim) ≡ Some NoRoom) × (sum ≡ claimed before)) ↔ Refuses v (bank.Open claim) (Full sum))
 full_where w before t claim sum plan v h n l =
     let row = full_row (was_opened t before) claim (least_claim plan) (capacity_of w.capacity before) (claimed before + claim) n l in
@@ -275,13 +311,15 @@ full_where w before t claim sum plan v h n l =
 low_row : (n sum : ℕ) → ((first_of ((nat_lt n sum, TooLow) ∷ []) ≡ Some TooLow) ↔ (n < sum))
 low_row n sum = grind (arith, nat_tests)
 
-pub too_low_where : (w : Setting) (before : List WorldEvent) (n : ℕ) → ((world_fault w before (Capacity n) ≡ Some TooLow) ↔ (n < (book w before).claimed))
+pub too_low_where : (w : Setting) (before : List WorldEvent) (n : ℕ)
+    → ((world_fault w before (Capacity n) ≡ Some TooLow) ↔ (n < (book w before).claimed))
 too_low_where w before n = low_row n (claimed before)
 
 high_row : (n sum : ℕ) → ((first_of ((nat_lt n sum, TooLow) ∷ []) ≡ None) ↔ (sum ≤ n))
 high_row n sum = grind (arith, nat_tests)
 
-pub low_where : (w : Setting) (before : List WorldEvent) (n : ℕ) → 1 ≤ n → n ≤ MAX_CAPACITY → ((world_fault w before (Capacity n) ≡ None) ↔ MaySum (book w before) (bank.Capacity n))
+pub low_where : (w : Setting) (before : List WorldEvent) (n : ℕ) → 1 ≤ n → n ≤ MAX_CAPACITY
+    → ((world_fault w before (Capacity n) ≡ None) ↔ MaySum (book w before) (bank.Capacity n))
 low_where w before n one most =
     let row = high_row n (claimed before) in
     (λ f. (one, most, row.0 f), λ may. row.1 may.2)

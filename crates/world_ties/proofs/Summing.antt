@@ -8,7 +8,8 @@ use Rattle.world_core.proofs.Claiming.{is_in}
 use Rattle.world_core.proofs.Showing.{AreApart}
 
 -- a sum of numbers that are the same is the same
-pub sum_unless : (u : ℕ) (f g : ℕ → ℕ) (xs : List ℕ) → is_in u xs ≡ false → ((t : ℕ) → (u == t) ≡ false → f t ≡ g t) → sum_by f xs ≡ sum_by g xs
+pub sum_unless : (u : ℕ) (f g : ℕ → ℕ) (xs : List ℕ) → is_in u xs ≡ false → ((t : ℕ) → (u == t) ≡ false → f t ≡ g t)
+    → sum_by f xs ≡ sum_by g xs
 sum_unless u f g [] n h = refl
 sum_unless u f g (x ∷ xs) n h =
     let a = sum_by-cons f x xs in let b = sum_by-cons g x xs in
@@ -32,7 +33,8 @@ sum_changed u f g (x ∷ xs) a i h = by_case (x == u) refl (λ j. sum_changed u 
     later : (u x : ℕ) (b : Bool) → (x == u) ≡ false → ((x == u) || b) ≡ true → b ≡ true
     later u x b n i = grind (arith, nat_tests)
 
-    by_case : (b : Bool) → (x == u) ≡ b → (is_in u xs ≡ true → sum_by f xs + g u ≡ sum_by g xs + f u) → sum_by f (x ∷ xs) + g u ≡ sum_by g (x ∷ xs) + f u
+    by_case : (b : Bool) → (x == u) ≡ b → (is_in u xs ≡ true → sum_by f xs + g u ≡ sum_by g xs + f u)
+        → sum_by f (x ∷ xs) + g u ≡ sum_by g (x ∷ xs) + f u
     by_case true e rest =
         let all = sum_by-cons f x xs in let old = sum_by-cons g x xs in
         let own = eqb-true x u e in

@@ -13,6 +13,7 @@ loop-byte-preserved c =
     let more = digits_value_more c.args.base c.args.bytes.now c.loop-byte.byte-index c.loop-byte-test.true in
     let is = c.loop-byte.invariant.value in
     record {
-      digits = digits_more c.args.base c.args.bytes.now c.loop-byte.byte-index c.loop-byte-test.true c.loop-byte.invariant.digits c.in_ok-value.ensures.0.0;
+      digits = digits_more c.args.base c.args.bytes.now c.loop-byte.byte-index c.loop-byte-test.true c.loop-byte.invariant.digits
+          c.in_ok-value.ensures.0.0;
       value = c.in_ok-value.ensures.1 ∙ rw is (sym more);
     }

@@ -8,15 +8,18 @@ returns-in-empty-clause-stepped g t c = none_left_at c.args.hold.now c.args.even
 
 pub step_all-requires : goal.step_all-requires
 step_all-requires g t c κs within =
-    let less : length (take (length c.args.events.now - 1) (drop 1 c.args.events.now)) < length c.args.events.now = shorter c.args.events.now c.in-len1-up.len_at_least in
+    let less : length (take (length c.args.events.now - 1) (drop 1 c.args.events.now)) < length c.args.events.now =
+    shorter c.args.events.now c.in-len1-up.len_at_least in
     let run : MayRun c.step_one.new.hold (take (length c.args.events.now - 1) (drop 1 c.args.events.now)) c.split_at.result.1.now =
-    run_rest_at c.args.hold.now c.step_one.new.hold c.args.events.now c.args.bytes.now c.split_at.result.0.now c.split_at.result.1.now c.brought.result
+    run_rest_at c.args.hold.now c.step_one.new.hold c.args.events.now c.args.bytes.now c.split_at.result.0.now c.split_at.result.1.now
+    c.brought.result
     c.state-state.ensures.tied c.requires c.in-len1-up.len_at_least c.brought.ensures c.split_at.ensures.front c.split_at.ensures.back
     c.step_one.ensures.stepped c.step_one.ensures.roomy in
     search rules
 
 pub returns-in-len1-up-clause-stepped : goal.returns-in-len1-up-clause-stepped
 returns-in-len1-up-clause-stepped g t c =
-    one_more_at c.args.hold.now c.step_one.new.hold c.step_all.new.hold c.args.events.now c.args.bytes.now c.split_at.result.0.now c.split_at.result.1.now c.brought.result
+    one_more_at c.args.hold.now c.step_one.new.hold c.step_all.new.hold c.args.events.now c.args.bytes.now c.split_at.result.0.now
+    c.split_at.result.1.now c.brought.result
     c.in-len1-up.len_at_least c.brought.ensures c.split_at.ensures.front c.split_at.ensures.back
     c.step_one.ensures.stepped c.step_all.ensures.stepped

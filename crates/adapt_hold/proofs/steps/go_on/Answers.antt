@@ -5,4 +5,5 @@ pub unreachable-requires : goal.unreachable-requires
 unreachable-requires g c = never c.args.hold.now c.args.event c.in-Err.field-0 c.state-state.ensures.tied c.requires.may c.in-Err.ensures.0
 
 pub returns-clause-roomy : goal.returns-clause-roomy
-returns-clause-roomy g c = gone_on_roomy c.args.hold.now c.move_on.new.self c.args.event c.state-state.ensures.tied c.requires.roomy c.requires.none c.requires.may c.in-Ok.ensures.1
+returns-clause-roomy g c = gone_on_roomy c.args.hold.now c.move_on.new.self c.args.event c.state-state.ensures.tied c.requires.roomy
+    c.requires.none c.requires.may c.in-Ok.ensures.1

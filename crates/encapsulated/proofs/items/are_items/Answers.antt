@@ -12,9 +12,11 @@ Reads text item = IsItem text item.0 item.1
 
 pub returns-then-is_none-clause-not : goal.returns-then-is_none-clause-not
 returns-then-is_none-clause-not c = λ no items all.
-    let turn = YieldsList-turn (YieldsList-from_first (λ x. x.now) parts_left (comma_parts c.args.list.now) cc) c.loop-item.yielded _ c.loop-item.yielded_by _ _ c.in-Some.item c.in-Some.is c.next.ensures.steps in
+    let turn = YieldsList-turn (YieldsList-from_first (λ x. x.now) parts_left (comma_parts c.args.list.now) cc) c.loop-item.yielded _
+    c.loop-item.yielded_by _ _ c.in-Some.item c.in-Some.is c.next.ensures.steps in
     let there = AllZip-at Reads (comma_parts c.args.list.now) items (length c.loop-item.yielded) c.in-Some.item.now all turn.0 in
-    from_none _ c.read_item.result (search rules) c.read_item.ensures.none there.0.0 there.0.1 (subst (λ t. Reads t there.0) (sym turn.1) there.1)
+    from_none _ c.read_item.result (search rules) c.read_item.ensures.none there.0.0 there.0.1
+    (subst (λ t. Reads t there.0) (sym turn.1) there.1)
 
 pub loop-item-preserved : goal.loop-item-preserved
 loop-item-preserved c =
@@ -24,5 +26,9 @@ loop-item-preserved c =
     record {
       can = tt;
       ends = tt;
-      items = (h.0 ++ (r.0.0.now, r.0.1) ∷ [], rw (map-append {A = Bor (List ℕ)} {B = List ℕ} (λ x. x.now) c.loop-item.yielded (c.in-Some.item ∷ [])) more);
+      items = (
+        h.0 ++ (r.0.0.now, r.0.1) ∷ [],
+        rw (map-append {A = Bor (List ℕ)} {B = List ℕ} (λ x. x.now) c.loop-item.yielded
+            (c.in-Some.item ∷ [])) more,
+      );
     }

@@ -8,4 +8,5 @@ pub returns-clause-parts : goal.returns-clause-parts
 returns-clause-parts c = parts_unique
 
 pub returns-clause-layout : goal.returns-clause-layout
-returns-clause-layout c = λ text method other direction opposite layout same is also. layout_unique layout same (parts_unique text _ _ is.parts also.parts)
+returns-clause-layout c = λ text method other direction opposite layout same is also.
+    layout_unique layout same (parts_unique text _ _ is.parts also.parts)

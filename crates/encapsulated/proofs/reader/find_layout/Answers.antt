@@ -39,7 +39,8 @@ returns-then-rises-clause-ok c =
     record {
       parts = subst (AreParts c.args.list.now) same c.in_ok-seen.ensures.ok;
       may = record {
-        whole = whole_layout c.args.method c.args.direction l (subst (λ p. IsFront (allowed c.args.method c.args.direction) (names p)) same (any_front-sound _ _ front));
+        whole = whole_layout c.args.method c.args.direction l (subst (λ p. IsFront (allowed c.args.method c.args.direction) (names p)) same
+            (any_front-sound _ _ front));
         rises = search rules;
       };
     }
@@ -53,7 +54,8 @@ returns-else-rises-clause-err c =
       parts_of l,
       subst (AreParts c.args.list.now) same c.in_ok-seen.ensures.ok,
       (
-        whole_layout c.args.method c.args.direction l (subst (λ p. IsFront (allowed c.args.method c.args.direction) (names p)) same (any_front-sound _ _ front)),
+        whole_layout c.args.method c.args.direction l (subst (λ p. IsFront (allowed c.args.method c.args.direction) (names p)) same
+            (any_front-sound _ _ front)),
         search rules,
       ),
     )

@@ -18,7 +18,8 @@ returns-in_default-clause-err c =
       items.0,
       items.1,
       λ parts all.
-          let turn = YieldsList-turn (YieldsList-from_first (λ x. x.now) parts_left (comma_parts c.args.list.now) cc) c.loop-item.yielded _ c.loop-item.yielded_by _ _ c.in-Some.item c.in-Some.is c.next.ensures.steps in
+          let turn = YieldsList-turn (YieldsList-from_first (λ x. x.now) parts_left (comma_parts c.args.list.now) cc) c.loop-item.yielded _
+          c.loop-item.yielded_by _ _ c.in-Some.item c.in-Some.is c.next.ensures.steps in
           let there = AllZip-at Reads (comma_parts c.args.list.now) parts (length c.loop-item.yielded) c.in-Some.item.now all turn.0 in
           c.in_default.ensures.none there.0.0 there.0.1 (subst (λ t. Reads t there.0) (sym turn.1) there.1),
     )
@@ -32,11 +33,17 @@ loop-item-preserved c =
     record {
       can = tt;
       ends = tt;
-      parts = (h.0 ++ (part, offset) ∷ [], rw (map-append {A = Bor (List ℕ)} {B = List ℕ} (λ x. x.now) c.loop-item.yielded (c.in-Some.item ∷ [])) more, c.add_part-seen.ensures h.0 h.2);
+      parts = (
+        h.0 ++ (part, offset) ∷ [],
+        rw (map-append {A = Bor (List ℕ)} {B = List ℕ} (λ x. x.now) c.loop-item.yielded
+            (c.in-Some.item ∷ [])) more,
+        c.add_part-seen.ensures h.0 h.2,
+      );
     }
 
 pub returns-clause-err : goal.returns-clause-err
 returns-clause-err c =
     let h = c.loop-item.invariant.parts in
-    let last = YieldsList-end (YieldsList-from_first (λ x. x.now) parts_left (comma_parts c.args.list.now) cc) c.loop-item.yielded _ c.loop-item.yielded_by _ _ c.in-None.is c.next.ensures.steps in
+    let last = YieldsList-end (YieldsList-from_first (λ x. x.now) parts_left (comma_parts c.args.list.now) cc) c.loop-item.yielded _
+    c.loop-item.yielded_by _ _ c.in-None.is c.next.ensures.steps in
     rw c.ok_or.ensures.value (finish c.loop-item.seen c.args.list.now h.0 (subst (λ parts. AllZip Reads parts h.0) last.0 h.1) h.2)

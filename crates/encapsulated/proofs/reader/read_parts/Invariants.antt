@@ -9,5 +9,6 @@ abbrev pub invariant-loop-item : goal.invariant-loop-item
 invariant-loop-item l = record {
   can : (goal.iterator-loop-item).can_next l.item-iterator;
   ends : (goal.iterator-loop-item).is_finite l.item-iterator;
-  parts : (parts : List (Part × ℕ)) × AllZip (λ item part. IsPart item part.0 part.1) (map (λ x. x.now) l.yielded) parts × HasSeen l.seen parts;
+  parts : (parts : List (Part × ℕ)) × AllZip (λ item part. IsPart item part.0 part.1) (map (λ x. x.now) l.yielded) parts
+      × HasSeen l.seen parts;
 }

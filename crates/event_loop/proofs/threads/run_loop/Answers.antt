@@ -9,12 +9,14 @@ some_none e = cc
 
 pub returns-in-Ok-new : goal.returns-in-Ok-new
 returns-in-Ok-new g c =
-    ran_same g.K.Work c.args.work c.in-Ok-new.one.work c.run_out-fault.new.self.work c.into_work.result c.in-Ok-new.ensures.work c.into_work.ensures
+    ran_same g.K.Work c.args.work c.in-Ok-new.one.work c.run_out-fault.new.self.work c.into_work.result c.in-Ok-new.ensures.work
+    c.into_work.ensures
     (λ deeds halted none. halted) (c.run_out-fault.ensures c.in-Ok-new.ensures.tied)
 
 pub returns-in-Ok-2 : goal.returns-in-Ok-2
 returns-in-Ok-2 g c =
-    ran_same g.K.Work c.args.work c.in-Ok-new.one.work c.in-Ok-new.one.work c.into_work-in-Ok-2.result c.in-Ok-new.ensures.work c.into_work-in-Ok-2.ensures
+    ran_same g.K.Work c.args.work c.in-Ok-new.one.work c.in-Ok-new.one.work c.into_work-in-Ok-2.result c.in-Ok-new.ensures.work
+    c.into_work-in-Ok-2.ensures
     (λ deeds p. p) (ran_nothing g.K.Work c.in-Ok-new.one.work (λ none. absurd (some_none none)))
 
 pub returns-in-Err : goal.returns-in-Err

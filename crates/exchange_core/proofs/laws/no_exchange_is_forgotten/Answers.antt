@@ -1,4 +1,5 @@
-use Rattle.exchange_core.proofs.Going.{over_means_nothing, nothing_means_over, goes_on, wait_has_deadline, user_holds_nothing, queue_is_free}
+use Rattle.exchange_core.proofs.Going.{over_means_nothing, nothing_means_over, goes_on, wait_has_deadline, user_holds_nothing}
+use Rattle.exchange_core.proofs.Going.{queue_is_free}
 use Rattle.exchange_core.proofs.Doing.{fails_there}
 use Rattle.exchange_core.proofs.Dials.{queue_has_no_origin}
 use Rattle.exchange_core.proofs.laws.no_exchange_is_forgotten.Goals as goal

@@ -14,5 +14,6 @@ returns-in_err-digits-clause-none c =
 pub returns-in_err-read_decimal-clause-none : goal.returns-in_err-read_decimal-clause-none
 returns-in_err-read_decimal-clause-none c =
     let cut = c.in_ok-digits.ensures.found in
-    let nothing = no_part c.args.text.now c.in_ok-digits.digits.now c.in_ok-digits.rest.now cut.0 cut.1 c.in_err-read_decimal.ensures.none in
+    let nothing = no_part c.args.text.now c.in_ok-digits.digits.now c.in_ok-digits.rest.now cut.0 cut.1
+    c.in_err-read_decimal.ensures.none in
     rw c.from_residual-in_err-read_decimal.ensures nothing

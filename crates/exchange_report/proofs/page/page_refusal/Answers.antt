@@ -14,13 +14,16 @@ pub returns-then-to_head : goal.returns-then-to_head
 returns-then-to_head c =
     let body : c.in_ok-body.body.items ≡ filled (why_word c.args.why) (numeral 10 c.args.number) c.args.page.now =
     c.in_ok-body.ensures ∙ ap (λ w. filled w (numeral 10 c.args.number) c.args.page.now) c.word.ensures in
-    let head = headed c.args.status c.len.result _ _ _ _ c.new-text.ensures.items body (omega (arith, c.len.ensures, c.in_ok-body.body.ok.0)) c.in_ok-write_page_head.ensures in
+    let head = headed c.args.status c.len.result _ _ _ _ c.new-text.ensures.items body
+    (omega (arith, c.len.ensures, c.in_ok-body.body.ok.0)) c.in_ok-write_page_head.ensures in
     rw c.if-to_head.true (head ∙ sym (append-nil _))
 
 pub returns : goal.returns
 returns c =
     let body : c.in_ok-body.body.items ≡ filled (why_word c.args.why) (numeral 10 c.args.number) c.args.page.now =
     c.in_ok-body.ensures ∙ ap (λ w. filled w (numeral 10 c.args.number) c.args.page.now) c.word.ensures in
-    let head = headed c.args.status c.len.result _ _ _ _ c.new-text.ensures.items body (omega (arith, c.len.ensures, c.in_ok-body.body.ok.0)) c.in_ok-write_page_head.ensures in
+    let head = headed c.args.status c.len.result _ _ _ _ c.new-text.ensures.items body
+    (omega (arith, c.len.ensures, c.in_ok-body.body.ok.0)) c.in_ok-write_page_head.ensures in
     rw c.if-to_head.false (c.in_ok-extend_from_slice.ensures.items ∙ ap (λ h. h ++ c.as_slice.result.now) head
-    ∙ ap (λ b. page_head c.args.status (length (filled (why_word c.args.why) (numeral 10 c.args.number) c.args.page.now)) ++ b) (c.as_slice.ensures.value ∙ body))
+    ∙ ap (λ b. page_head c.args.status (length (filled (why_word c.args.why) (numeral 10 c.args.number) c.args.page.now)) ++ b)
+    (c.as_slice.ensures.value ∙ body))

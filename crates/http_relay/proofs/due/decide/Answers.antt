@@ -8,8 +8,10 @@ use Rattle.http_relay.proofs.Chosen.{fewer, some_of}
 use Rattle.http_relay.proofs.due.decide.Goals as goal
 
 pub returns-then-not-fits_length-clause-none : goal.returns-then-not-fits_length-clause-none
-returns-then-not-fits_length-clause-none c h =
-    (sym c.is_begun.ensures ∙ c.if-not-is_begun.false, subst (λ (y : Seen). BreaksLength y c.args.framing) c.seen-seen.ensures (c.fits_length.ensures.breaks c.if-not-fits_length.true))
+returns-then-not-fits_length-clause-none c h = (
+  sym c.is_begun.ensures ∙ c.if-not-is_begun.false,
+  subst (λ (y : Seen). BreaksLength y c.args.framing) c.seen-seen.ensures (c.fits_length.ensures.breaks c.if-not-fits_length.true),
+)
 
 pub returns-clause-next : goal.returns-clause-next
 returns-clause-next c =
@@ -30,12 +32,18 @@ returns-clause-next c =
           (begun, all.0, fewer x c.fit-count.result c.deliverable.result some (omega (arith, fit.most)) all.1);
       greatest = λ m n o a t f. fit.greatest n (omega (arith, t, c.deliverable.ensures.bound n (o, a))) f;
       some = λ m n o a. fit.some (omega (arith, c.requires, some_of x n a, c.deliverable.ensures.bound n (o, a)));
-      room = λ some. subst (λ (y : Seen). IfSome (length_of length) (λ n. chosen_received y ≤ n)) here (fits.within c.if-not-fits_length.false);
+      room = λ some. subst (λ (y : Seen). IfSome (length_of length) (λ n. chosen_received y ≤ n)) here
+          (fits.within c.if-not-fits_length.false);
       ends = λ i.
-          let e = end.ends i in
-          (begun, ap (λ (y : Seen). y.closed) (sym here) ∙ e.0, ap chosen_over (sym here) ∙ e.1, ap (λ (y : Seen). chosen_delivered y + c.fit-count.result) (sym here) ∙ (e.2 ∙ ap chosen_received here));
+          let e = end.ends i in (
+            begun,
+            ap (λ (y : Seen). y.closed) (sym here) ∙ e.0,
+            ap chosen_over (sym here) ∙ e.1,
+            ap (λ (y : Seen). chosen_delivered y + c.fit-count.result) (sym here) ∙ (e.2 ∙ ap chosen_received here),
+          );
       text = end.text;
-      exact = λ i. subst (λ (y : Seen). IfSome (length_of length) (λ n. chosen_received y ≡ n)) here (fits.exact c.if-not-fits_length.false (end.ends i).1);
+      exact = λ i. subst (λ (y : Seen). IfSome (length_of length) (λ n. chosen_received y ≡ n)) here
+          (fits.exact c.if-not-fits_length.false (end.ends i).1);
       no_end = λ m i o v a.
           end.never i (ap (λ (y : Seen). y.closed) here ∙ o) (ap chosen_over here ∙ v)
           (ap (λ (y : Seen). chosen_delivered y + c.fit-count.result) here ∙ (a ∙ ap chosen_received (sym here)));

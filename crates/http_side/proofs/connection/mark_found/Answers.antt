@@ -7,5 +7,7 @@ pub returns-else-not-named-from-clause-marked : goal.returns-else-not-named-from
 returns-else-not-named-from-clause-marked c =
     let fields = c.args.fields.now in
     let marked : slice_index_or c.args.named.now c.from.result false ≡ true = search rules in
-    front_marked fields c.args.named.now c.names_from-behind.result.now c.args.item.now _ c.requires.alike (c.names_from-behind.ensures.within fields c.requires.placed)
-    (c.names_from-behind.ensures.front fields c.requires.placed) (omega arith) (subst (λ p. slice_index_or c.args.named.now p false ≡ true) c.from.ensures marked)
+    front_marked fields c.args.named.now c.names_from-behind.result.now c.args.item.now _ c.requires.alike
+    (c.names_from-behind.ensures.within fields c.requires.placed)
+    (c.names_from-behind.ensures.front fields c.requires.placed) (omega arith)
+    (subst (λ p. slice_index_or c.args.named.now p false ≡ true) c.from.ensures marked)

@@ -14,5 +14,7 @@ invariant-loop-item l = record {
   size : length l.named ≡ length l.initial.named;
   alike : AreAlike l.fields l.named;
   rest : (i : ℕ) → i < length l.fields → i < length l.initial.named
-      → (slice_index_or l.initial.named i false || has_item (name_at l.fields i) l.value) ≡ (slice_index_or l.named i false || list_any (λ item. str_eq_ignore_ascii_case item (name_at l.fields i)) (items_left l.item-iterator));
+      → (slice_index_or l.initial.named i false || has_item (name_at l.fields i) l.value)
+      ≡ (slice_index_or l.named i false || list_any (λ item. str_eq_ignore_ascii_case item (name_at l.fields i))
+      (items_left l.item-iterator));
 }

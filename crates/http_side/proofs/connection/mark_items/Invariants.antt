@@ -12,5 +12,7 @@ invariant-loop-item l = record {
   ends : (goal.iterator-loop-item).is_finite l.item-iterator;
   size : length l.named ≡ length l.initial.named;
   rest : (i : ℕ) → i < length l.fields → i < length l.initial.named
-      → (slice_index_or l.initial.named i false || has_item (name_at l.fields i) l.value) ≡ (slice_index_or l.named i false || list_any (λ item. str_eq_ignore_ascii_case item (name_at l.fields i)) (items_left l.item-iterator));
+      → (slice_index_or l.initial.named i false || has_item (name_at l.fields i) l.value)
+      ≡ (slice_index_or l.named i false || list_any (λ item. str_eq_ignore_ascii_case item (name_at l.fields i))
+      (items_left l.item-iterator));
 }

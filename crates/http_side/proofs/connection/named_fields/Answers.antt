@@ -7,7 +7,8 @@ use Rattle.http_side.proofs.ForwardLemmas.{or_false}
 use Rattle.http_side.proofs.connection.named_fields.Goals as goal
 
 pub returns-in-None : goal.returns-in-None
-returns-in-None c i l m = get_or-replicate 100 i false false m ∙ sym (ap (list_any (has_item (name_at c.args.fields.now i))) c.in-None.ensures)
+returns-in-None c i l m = get_or-replicate 100 i false false m ∙ sym (ap (list_any (has_item (name_at c.args.fields.now i)))
+    c.in-None.ensures)
 
 pub returns-in-One : goal.returns-in-One
 returns-in-One c i l m =

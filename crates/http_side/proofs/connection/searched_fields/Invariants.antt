@@ -8,6 +8,7 @@ use Rattle.http_side.proofs.connection.searched_fields.Given as goal
 abbrev pub invariant-loop-at : goal.invariant-loop-at
 invariant-loop-at l = record {
   size : length l.named ≡ 100;
-  each : (i : ℕ) → i < length l.fields → i < length l.named → slice_index_or l.named i false ≡ is_named_by (take l.at l.fields) (name_at l.fields i);
+  each : (i : ℕ) → i < length l.fields → i < length l.named
+      → slice_index_or l.named i false ≡ is_named_by (take l.at l.fields) (name_at l.fields i);
   alike : AreAlike l.fields l.named;
 }

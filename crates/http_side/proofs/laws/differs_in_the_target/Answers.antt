@@ -13,7 +13,8 @@ use Rattle.http_side.proofs.laws.differs_in_the_target.Goals as goal
 -- the text of a request, in the one form or the other
 text_of : (m : Message) (r : RequestParts) (authority : List ℕ) (absolute : Bool) (extra : Extra) → IsRequestOf r m
     → written_head m authority absolute extra
-    ≡ head_text (request_line r.method (target_form absolute authority r.target)) (passed_fields authority m ++ added_fields extra (minor_of m))
+    ≡ head_text (request_line r.method (target_form absolute authority r.target))
+    (passed_fields authority m ++ added_fields extra (minor_of m))
 text_of (Request x) r authority absolute extra e =
     ap (λ (z : RequestParts). head_text (request_line z.method (target_form absolute authority z.target))
     (passed_fields authority (Request x) ++ added_fields extra (minor_of (Request x)))) e

@@ -17,7 +17,8 @@ returns-clause-front c fields placed =
     let from = c.partition_point-from.result in
     let behind = take (length names - from) (drop from names) in
     let is : behind ≡ drop from names = take_all (length names - from) (drop from names) (omega (arith, length-drop from names)) in
-    let less = c.partition_point-from.ensures.partitioned (λ n. is_lt (name_order n.name.now name)) (always_returns_same _ _ _ (λ a r f k. search (rules, of_calls)))
+    let less = c.partition_point-from.ensures.partitioned (λ n. is_lt (name_order n.name.now name))
+    (always_returns_same _ _ _ (λ a r f k. search (rules, of_calls)))
     (parted_less fields names name placed) in
     let test = λ (n : PlacedName). str_eq_ignore_ascii_case name n.name.now in
     run_has fields names name placed from behind is less (prefix_len test behind) (prefix_len-le-length test behind)

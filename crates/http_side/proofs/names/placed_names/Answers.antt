@@ -16,5 +16,6 @@ loop-at-preserved c =
     record {
       few = omega arith;
       places = subst (All P) (sym c.push.ensures.items) (All-push P names n c.loop-at.invariant.places (omega arith, c.name.ensures));
-      all = subst (λ xs. (i : ℕ) → i < at + 1 → (m : PlacedName) × Contains xs m × (m.place ≡ i)) (sym c.push.ensures.items) (all_more names at n c.loop-at.invariant.all refl);
+      all = subst (λ xs. (i : ℕ) → i < at + 1 → (m : PlacedName) × Contains xs m × (m.place ≡ i)) (sym c.push.ensures.items)
+          (all_more names at n c.loop-at.invariant.all refl);
     }

@@ -13,7 +13,8 @@ returns c =
     let fields = c.args.fields.now in
     let names = c.placed_names-names.result in
     let after = c.sort_unstable_by.new.self in
-    let moved : IsPermutation names.items after = subst (λ xs. IsPermutation xs after) c.deref_mut.ensures.value c.sort_unstable_by.ensures.permutation in
+    let moved : IsPermutation names.items after = subst (λ xs. IsPermutation xs after) c.deref_mut.ensures.value
+    c.sort_unstable_by.ensures.permutation in
     let order = ranks_by nat_list_cmp_total (λ (n : PlacedName). str_to_ascii_lowercase n.name.now) in
     let same : length after ≡ length names.items = c.sort_unstable_by.ensures.len ∙ ap length c.deref_mut.ensures.value in
     subst (ArePlaced fields) (sym (refilled names.items after same)) (record {

@@ -5,7 +5,8 @@ use Rattle.http_side.proofs.request.find_request.Goals as goal
 
 pub returns-in-Err-judge-clause-fault : goal.returns-in-Err-judge-clause-fault
 returns-in-Err-judge-clause-fault c =
-    refused_at c.args.adapted c.args.text.now c.judged-front.result.now c.parse_request.new.headers c.in-Ok-Complete.spans c.in-Err-judge.fault c.judged-front.ensures c.parse_request.auto.headers
+    refused_at c.args.adapted c.args.text.now c.judged-front.result.now c.parse_request.new.headers c.in-Ok-Complete.spans
+    c.in-Err-judge.fault c.judged-front.ensures c.parse_request.auto.headers
     (rw c.in-Ok-Complete.field-0-is at c.in-Ok-Complete.ensures.complete) c.in-Err-judge.ensures.refused
 
 pub returns-else-text-lt-MAX_HEAD-clause-fault : goal.returns-else-text-lt-MAX_HEAD-clause-fault
@@ -18,4 +19,5 @@ returns-else-text-lt-MAX_HEAD-clause-fault c =
 
 pub judge-requires-clause-there : goal.judge-requires-clause-there
 judge-requires-clause-there c =
-    there_at c.judged-front.result.now c.parse_request.new.headers c.in-Ok-Complete.spans (rw c.in-Ok-Complete.field-0-is at c.in-Ok-Complete.ensures.complete)
+    there_at c.judged-front.result.now c.parse_request.new.headers c.in-Ok-Complete.spans
+    (rw c.in-Ok-Complete.field-0-is at c.in-Ok-Complete.ensures.complete)

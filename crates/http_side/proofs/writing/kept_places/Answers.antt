@@ -14,9 +14,11 @@ loop-at-preserved-then-seen c =
     let beside = c.args.beside in
     let i = c.loop-at.at in
     let marked = c.named_fields-named.ensures i (omega arith) (omega arith) ∙ ap (is_named_by fields) (sym c.name-name.ensures) in
-    let stay = not_removed (sym (c.is_removed.ensures fields marked ∙ ap (is_removed beside fields) c.name-name.ensures) ∙ c.if-is_removed.false) in
+    let stay = not_removed (sym (c.is_removed.ensures fields marked ∙ ap (is_removed beside fields) c.name-name.ensures)
+    ∙ c.if-is_removed.false) in
     let named : is_length (field_at fields i) ≡ c.is_named.result = sym c.is_named.ensures in
-    let again = length_again beside fields i (omega arith) stay (named ∙ c.if-is_named.true) (sym c.loop-at.invariant.seen ∙ c.if-seen.true) in
+    let again = length_again beside fields i (omega arith) stay (named ∙ c.if-is_named.true)
+    (sym c.loop-at.invariant.seen ∙ c.if-seen.true) in
     record {
       seen = c.if-seen.true ∙ sym again.1;
       few = omega arith;
@@ -32,10 +34,12 @@ loop-at-preserved c =
     let old : Bool = list_any is_length (filter (stays beside fields) (take i fields)) in
     let n : Bool = is_length (field_at fields i) in
     let marked = c.named_fields-named.ensures i (omega arith) (omega arith) ∙ ap (is_named_by fields) (sym c.name-name.ensures) in
-    let stay = not_removed (sym (c.is_removed.ensures fields marked ∙ ap (is_removed beside fields) c.name-name.ensures) ∙ c.if-is_removed.false) in
+    let stay = not_removed (sym (c.is_removed.ensures fields marked ∙ ap (is_removed beside fields) c.name-name.ensures)
+    ∙ c.if-is_removed.false) in
     let named : n ≡ c.is_named.result = sym c.is_named.ensures in
     let first : ((n && old) ≡ false) × ((old || n) ≡ c.if-is_named.seen) = elim c.if-is_named.branch [
-      | then-is_named+else-seen w ↦ first_length n old c.if-is_named.seen (named ∙ w.if-is_named.true) (sym c.loop-at.invariant.seen ∙ w.if-seen.false) w.seen-is
+      | then-is_named+else-seen w ↦ first_length n old c.if-is_named.seen (named ∙ w.if-is_named.true)
+          (sym c.loop-at.invariant.seen ∙ w.if-seen.false) w.seen-is
       | else-is_named w ↦ no_length n old c.if-is_named.seen (named ∙ w.if-is_named.false) (w.seen-is ∙ c.loop-at.invariant.seen)
     ] in
     let on = goes_on beside fields i (omega arith) stay first.0 in
@@ -43,7 +47,8 @@ loop-at-preserved c =
     record {
       seen = sym first.1 ∙ sym on.1;
       few = omega arith;
-      within = subst P (sym c.push.ensures.items) (All-push (λ at. at < length fields) c.loop-at.places.items i c.loop-at.invariant.within (omega arith));
+      within = subst P (sym c.push.ensures.items) (All-push (λ at. at < length fields) c.loop-at.places.items i c.loop-at.invariant.within
+          (omega arith));
       kept =
           ap (map (field_at fields)) c.push.ensures.items
           ∙ map-append (field_at fields) c.loop-at.places.items (i ∷ [])

@@ -12,7 +12,10 @@ put_line-requires c =
     let change = hosted (option_copied c.args.authority) in
     let pair : change (c.name-name.result.now, c.value.result.now) ≡ change (field_at fields at)
     = ap (λ t. change (t, c.value.result.now)) c.name-name.ensures ∙ ap (λ t. change (name_at fields at, t)) c.value.ensures in
-    let line : length (field_line (c.name-name.result.now, c.hosted_value.result.now)) ≡ length (field_line (change (field_at fields at))) = ap (λ f. length (field_line f)) (c.hosted_value.ensures ∙ pair) in
-    let here : length (field_line (change (field_at fields c.from-at.result))) ≡ length (field_line (change (field_at fields (get_or c.args.places.now c.loop-place.place-index 0)))) = ap (λ k. length (field_line (change (field_at fields k)))) c.from-at.ensures in
+    let line : length (field_line (c.name-name.result.now, c.hosted_value.result.now)) ≡ length (field_line (change (field_at fields at))) =
+    ap (λ f. length (field_line f)) (c.hosted_value.ensures ∙ pair) in
+    let here : length (field_line (change (field_at fields c.from-at.result)))
+    ≡ length (field_line (change (field_at fields (get_or c.args.places.now c.loop-place.place-index 0)))) =
+    ap (λ k. length (field_line (change (field_at fields k)))) c.from-at.ensures in
     let next = next_fits fields (option_copied c.args.authority) c.args.places.now c.loop-place.place-index 0 (omega arith) in
     omega (arith, line, here, next, c.loop-place.invariant.left, c.requires.room)

@@ -6,4 +6,5 @@ use Rattle.http_side.proofs.writing.put_framing.Goals as goal
 pub returns : goal.returns
 returns c =
     let x = c.args.extra in
-    puts_lines (when x.empty (codes "Content-Length", codes "0")) (when x.chunked (codes "Transfer-Encoding", codes "chunked")) c.put_when.ensures c.put_when-2.ensures
+    puts_lines (when x.empty (codes "Content-Length", codes "0")) (when x.chunked (codes "Transfer-Encoding", codes "chunked"))
+    c.put_when.ensures c.put_when-2.ensures

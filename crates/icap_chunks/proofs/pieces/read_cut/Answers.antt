@@ -17,7 +17,8 @@ pub returns-in-Some-2 : goal.returns-in-Some-2
 returns-in-Some-2 c =
     let text = c.args.text.now in
     let P : Option Outcome → Type 0 = λ o. IfSome o (λ outcome. IsReading text c.read_to-2.new.self.body.items outcome) in
-    reading_as text c.read_to-2.new.self.body.items c.reading-in-Some-2.result.body.items c.in-Some-2.outcome c.reading-in-Some-2.result.outcome
+    reading_as text c.read_to-2.new.self.body.items c.reading-in-Some-2.result.body.items c.in-Some-2.outcome
+    c.reading-in-Some-2.result.outcome
     (subst P c.in-Some-2.is c.in_ok-outcome-2.ensures.found) c.reading-in-Some-2.ensures.body c.reading-in-Some-2.ensures.outcome
 
 pub returns-in-None : goal.returns-in-None

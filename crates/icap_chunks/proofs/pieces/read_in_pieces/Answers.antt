@@ -7,4 +7,5 @@ pub returns : goal.returns
 returns c =
     let collector = c.loop-collector.collector in
     reading_as c.args.text.now collector.body.items c.reading-2.result.body.items More c.reading-2.result.outcome
-    (collected c.args.text.now collector c.loop-collector.invariant c.loop-collector-test.false) c.reading-2.ensures.body c.reading-2.ensures.outcome
+    (collected c.args.text.now collector c.loop-collector.invariant c.loop-collector-test.false) c.reading-2.ensures.body
+    c.reading-2.ensures.outcome

@@ -9,6 +9,8 @@ returns c =
     let x = c.args.seen.now in
     let replied = c.has_final-replied.result in
     c.answered_by.ensures
-    ∙ (ap (λ (b : Bool). is_preview x.plan.kind && (not (x.continued || b) && ((x.no_mod || x.modified) || replied))) c.has_continue-continued.ensures
-    ∙ (ap (λ (b : Bool). is_preview x.plan.kind && (not (x.continued || list_any is_continue c.args.events.now) && ((x.no_mod || x.modified) || b))) c.has_final-replied.ensures
+    ∙ (ap (λ (b : Bool). is_preview x.plan.kind && (not (x.continued || b) && ((x.no_mod || x.modified) || replied)))
+    c.has_continue-continued.ensures
+    ∙ (ap (λ (b : Bool). is_preview x.plan.kind && (not (x.continued || list_any is_continue c.args.events.now) &&
+    ((x.no_mod || x.modified) || b))) c.has_final-replied.ensures
     ∙ answered_after x c.args.events.now))

@@ -17,16 +17,22 @@ returns-then-part-out-clause-none c =
       refl,
       next_is_body c.args.chunks.now c.feed.new.self c.args.raw.now c.front-piece.result.now c.in-Ok.fed.used c.part_of-part.result.now
           (c.front-piece.ensures.front ∙ ap (λ (n : ℕ). take n c.args.raw.now) one) used w.2 some
-          (subst (λ (p : List ℕ). ReadsOn c.args.chunks.now c.front-piece.result.now c.in-Ok.fed.used p c.feed.new.self) (sym c.part_of-part.ensures.part) c.in-Ok.ensures.read),
+          (subst (λ (p : List ℕ). ReadsOn c.args.chunks.now c.front-piece.result.now c.in-Ok.fed.used p c.feed.new.self)
+          (sym c.part_of-part.ensures.part) c.in-Ok.ensures.read),
     )
 
 pub returns-else-part-out-clause-reads : goal.returns-else-part-out-clause-reads
 returns-else-part-out-clause-reads c =
     let put = c.put_front.ensures in
-    let on = subst (λ (p : List ℕ). ReadsOn c.args.chunks.now c.front-piece.result.now c.in-Ok.fed.used p c.feed.new.self) (sym c.part_of-part.ensures.part) c.in-Ok.ensures.read in
-    let all = reads_whole c.args.chunks.now c.feed.new.self c.args.raw.now c.front-piece.result.now c.max.result c.in-Ok.fed.used c.part_of-part.result.now c.front-piece.ensures.front c.in-Ok.ensures.within.2 on in
+    let on = subst (λ (p : List ℕ). ReadsOn c.args.chunks.now c.front-piece.result.now c.in-Ok.fed.used p c.feed.new.self)
+    (sym c.part_of-part.ensures.part) c.in-Ok.ensures.read in
+    let all = reads_whole c.args.chunks.now c.feed.new.self c.args.raw.now c.front-piece.result.now c.max.result c.in-Ok.fed.used
+    c.part_of-part.result.now c.front-piece.ensures.front c.in-Ok.ensures.within.2 on in
     subst (λ (p : List ℕ). ReadsOn c.args.chunks.now c.args.raw.now c.in-Ok.fed.used p c.feed.new.self) (sym put) all
 
 pub returns-in-Err-clause-fault : goal.returns-in-Err-clause-fault
-returns-in-Err-clause-fault c =
-    (refl, breaks_whole c.args.chunks.now c.args.raw.now c.front-piece.result.now c.max.result c.in-Err.fault c.front-piece.ensures.front c.in-Err.ensures.fault)
+returns-in-Err-clause-fault c = (
+  refl,
+  breaks_whole c.args.chunks.now c.args.raw.now c.front-piece.result.now c.max.result c.in-Err.fault c.front-piece.ensures.front
+      c.in-Err.ensures.fault,
+)

@@ -7,4 +7,5 @@ use Rattle.icap_client.proofs.options.body_of.Goals as goal
 pub returns-in-Some-None-clause-none : goal.returns-in-Some-None-clause-none
 returns-in-Some-None-clause-none c =
     let one : values_of (codes "Encapsulated") (field_list c.args.fields.now) ≡ c.in-Some-None.list.now ∷ [] = search rules in
-    subst (λ (lists : List (List ℕ)). IfNone c.body_in.result ((body : Bool) → HasOptionsBody lists body → ⊥)) (sym one) c.body_in.ensures.none
+    subst (λ (lists : List (List ℕ)). IfNone c.body_in.result ((body : Bool) → HasOptionsBody lists body → ⊥)) (sym one)
+    c.body_in.ensures.none

@@ -17,7 +17,8 @@ returns-in-Some c =
     let seen = c.args.seen.now in
     let start = c.args.start in
     let end = c.in-Some.end in
-    let e = subst (λ (t : List ℕ). (0 < end) × (end ≤ length t) × (line_count (take end t) ≡ 101) × (get_or t (end - 1) 0 ≡ 10)) (take_rest seen start) c.in-Some.ensures.some in
+    let e = subst (λ (t : List ℕ). (0 < end) × (end ≤ length t) × (line_count (take end t) ≡ 101) × (get_or t (end - 1) 0 ≡ 10))
+    (take_rest seen start) c.in-Some.ensures.some in
     λ len h. cut_stands c.lines_fault.result len seen start end c.requires.inside e.0 e.1 e.2 e.3 c.lines_fault.ensures
 
 pub returns-in-None : goal.returns-in-None

@@ -16,6 +16,11 @@ returns c =
     let same = compared c.trim.result.now value c.eq.result c.eq.ensures in (
       λ is.
           let both = is_trimmed value (sym c.trim.ensures ∙ same.0 is) in
-          record { name = token_name name (c.if-not-is_token.ensures.0 refl); value = c.if-not-are_value_bytes.ensures.0 refl; front = both.0; back = both.1 },
+          record {
+            name = token_name name (c.if-not-is_token.ensures.0 refl);
+            value = c.if-not-are_value_bytes.ensures.0 refl;
+            front = both.0;
+            back = both.1;
+          },
       λ h. same.1 (c.trim.ensures ∙ trimmed_is value h.front h.back),
     )

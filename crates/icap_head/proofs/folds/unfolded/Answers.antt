@@ -18,8 +18,10 @@ loop-byte-preserved c =
     let seen = c.judged-seen.result.now in
     let k = c.loop-byte.byte-index in
     let place = c.loop-byte.invariant.1 in (
-      c.add-place.ensures.added ∙ ap₂ (λ t p. t ++ added p (get_or seen k 0)) c.loop-byte.invariant.0 place ∙ sym (added_more StartLine seen k c.loop-byte-test.true),
-      c.add-place.ensures.place ∙ ap (λ p. place_after p (head_byte (get_or seen k 0))) place ∙ sym (place_more StartLine seen k c.loop-byte-test.true),
+      c.add-place.ensures.added ∙ ap₂ (λ t p. t ++ added p (get_or seen k 0)) c.loop-byte.invariant.0 place
+          ∙ sym (added_more StartLine seen k c.loop-byte-test.true),
+      c.add-place.ensures.place ∙ ap (λ p. place_after p (head_byte (get_or seen k 0))) place
+          ∙ sym (place_more StartLine seen k c.loop-byte-test.true),
     )
 
 pub put-requires : goal.put-requires
@@ -37,9 +39,11 @@ pub returns-then-text-ge-MAX_HEAD : goal.returns-then-text-ge-MAX_HEAD
 returns-then-text-ge-MAX_HEAD c =
     let seen = c.judged-seen.result.now in
     let text = c.args.text.now in
-    let all : take c.loop-byte.byte-index seen ≡ take 16384 text = take_all c.loop-byte.byte-index seen c.loop-byte-test.false ∙ c.judged-seen.ensures.front in
+    let all : take c.loop-byte.byte-index seen ≡ take 16384 text =
+    take_all c.loop-byte.byte-index seen c.loop-byte-test.false ∙ c.judged-seen.ensures.front in
     c.put.ensures
-    ∙ ap₂ (λ t h. t ++ h) (c.loop-byte.invariant.0 ∙ ap (all_added StartLine) all) (c.held.ensures ∙ ap held (c.loop-byte.invariant.1 ∙ ap (place_behind StartLine) all))
+    ∙ ap₂ (λ t h. t ++ h) (c.loop-byte.invariant.0 ∙ ap (all_added StartLine) all)
+    (c.held.ensures ∙ ap held (c.loop-byte.invariant.1 ∙ ap (place_behind StartLine) all))
     ∙ sym (unfolded_long text c.if-text-ge-MAX_HEAD.true)
 
 pub returns-else-text-ge-MAX_HEAD : goal.returns-else-text-ge-MAX_HEAD
@@ -48,5 +52,6 @@ returns-else-text-ge-MAX_HEAD c =
     let text = c.args.text.now in
     let short = c.if-text-ge-MAX_HEAD.false in
     let all : take c.loop-byte.byte-index seen ≡ text =
-    take_all c.loop-byte.byte-index seen c.loop-byte-test.false ∙ c.judged-seen.ensures.front ∙ take_all 16384 text (omega (arith, short)) in
+    take_all c.loop-byte.byte-index seen c.loop-byte-test.false ∙ c.judged-seen.ensures.front
+    ∙ take_all 16384 text (omega (arith, short)) in
     c.loop-byte.invariant.0 ∙ ap (all_added StartLine) all ∙ sym (unfolded_short text short)

@@ -4,4 +4,5 @@ use Rattle.icap_head.specs.Folds.{place_behind, all_added}
 use Rattle.icap_head.proofs.folds.unfolded.Given as goal
 
 abbrev pub invariant-loop-byte : goal.invariant-loop-byte
-invariant-loop-byte l = (l.out.items ≡ all_added StartLine (take l.byte-index l.seen)) × (l.place ≡ place_behind StartLine (take l.byte-index l.seen))
+invariant-loop-byte l = (l.out.items ≡ all_added StartLine (take l.byte-index l.seen))
+    × (l.place ≡ place_behind StartLine (take l.byte-index l.seen))

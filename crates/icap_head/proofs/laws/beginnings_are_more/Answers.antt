@@ -5,7 +5,9 @@ use Rattle.icap_head.proofs.Folding.{folded_front_is_more}
 use Rattle.icap_head.proofs.laws.beginnings_are_more.Goals as goal
 
 pub returns-clause-requests : goal.returns-clause-requests
-returns-clause-requests c = λ text value. front_is_more RequestForm (StartsRequest value) (λ line l. (value.method, value.uri, l)) text value.fields
+returns-clause-requests c = λ text value. front_is_more RequestForm (StartsRequest value) (λ line l. (value.method, value.uri, l)) text
+    value.fields
 
 pub returns-clause-responses : goal.returns-clause-responses
-returns-clause-responses c = λ text value. folded_front_is_more StatusForm (StartsResponse value) (λ line l. (value.status, value.phrase, l)) text value.fields
+returns-clause-responses c = λ text value. folded_front_is_more StatusForm (StartsResponse value)
+    (λ line l. (value.status, value.phrase, l)) text value.fields

@@ -7,7 +7,8 @@ use Rattle.icap_head.proofs.Folding.{head_stays}
 use Rattle.icap_head.proofs.laws.reads_what_it_writes.Goals as goal
 
 pub returns-clause-requests : goal.returns-clause-requests
-returns-clause-requests c = λ value more is few short. has_all (StartsRequest value) (request_text value) more value.fields few short (request_back value is)
+returns-clause-requests c = λ value more is few short. has_all (StartsRequest value) (request_text value) more value.fields few short
+    (request_back value is)
 
 pub returns-clause-responses : goal.returns-clause-responses
 returns-clause-responses c = λ value more is few short.

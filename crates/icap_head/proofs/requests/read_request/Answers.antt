@@ -18,4 +18,5 @@ pub returns-clause-fault : goal.returns-clause-fault
 returns-clause-fault c = request_fault c.args.text.now _ c.find_request.ensures.ok c.find_request.ensures.err
 
 pub returns-clause-writable : goal.returns-clause-writable
-returns-clause-writable c = ok_map c.find_request.result (λ head h. request_held (take head.length c.args.text.now) (request_parts head.value) h.head) c.find_request.ensures.ok
+returns-clause-writable c = ok_map c.find_request.result (λ head h. request_held (take head.length c.args.text.now)
+    (request_parts head.value) h.head) c.find_request.ensures.ok

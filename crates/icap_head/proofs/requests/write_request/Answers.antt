@@ -9,7 +9,8 @@ use Rattle.icap_head.proofs.requests.write_request.Goals as goal
 pub returns-clause-text : goal.returns-clause-text
 returns-clause-text c =
     let r = c.args.request.now in
-    let whole : c.put_fields.new.out.items ≡ (((request_method_name r.method ++ 32 ∷ []) ++ r.uri.items) ++ (codes " ICAP/1.0" ++ 13 ∷ 10 ∷ [])) ++ fields_text (field_list r.fields) = search rules in
+    let whole : c.put_fields.new.out.items ≡ (((request_method_name r.method ++ 32 ∷ []) ++ r.uri.items)
+    ++ (codes " ICAP/1.0" ++ 13 ∷ 10 ∷ [])) ++ fields_text (field_list r.fields) = search rules in
     whole ∙ request_text_is (request_parts r)
 
 pub returns-clause-again : goal.returns-clause-again

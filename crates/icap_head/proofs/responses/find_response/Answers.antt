@@ -11,5 +11,6 @@ returns-clause-ok c =
 
 pub returns-clause-err : goal.returns-clause-err
 returns-clause-err c =
-    let P : List ℕ → Type 0 = λ t. IfErr c.read_plain.result (λ fault. ((fault ≡ NoMemory) × ((value : Response) × (size : ℕ) × HasPlainResponse t value size)) ⊎ RefusesIcapHead StatusForm fault t) in
+    let P : List ℕ → Type 0 = λ t. IfErr c.read_plain.result (λ fault. ((fault ≡ NoMemory)
+    × ((value : Response) × (size : ℕ) × HasPlainResponse t value size)) ⊎ RefusesIcapHead StatusForm fault t) in
     subst P (c.as_slice.ensures.value ∙ c.unfolded-plain.ensures) c.read_plain.ensures.err

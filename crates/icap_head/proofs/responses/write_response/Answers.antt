@@ -9,10 +9,12 @@ use Rattle.icap_head.proofs.responses.write_response.Goals as goal
 pub returns-clause-text : goal.returns-clause-text
 returns-clause-text c =
     let r = c.args.response.now in
-    let whole : c.put_fields.new.out.items ≡ (((((codes "ICAP/1.0 " ++ three_digits r.status) ++ 32 ∷ []) ++ r.phrase.items) ++ 13 ∷ 10 ∷ []) ++ fields_text (field_list r.fields)) = search rules in
+    let whole : c.put_fields.new.out.items ≡ (((((codes "ICAP/1.0 " ++ three_digits r.status) ++ 32 ∷ []) ++ r.phrase.items)
+    ++ 13 ∷ 10 ∷ []) ++ fields_text (field_list r.fields)) = search rules in
     whole ∙ response_text_is (response_parts r)
 
 pub returns-clause-again : goal.returns-clause-again
 returns-clause-again c =
     let text = returns-clause-text c in
-    subst (λ t. IsResponseHead t (response_parts c.args.response.now)) (sym text) (response_back (response_parts c.args.response.now) c.requires)
+    subst (λ t. IsResponseHead t (response_parts c.args.response.now)) (sym text)
+    (response_back (response_parts c.args.response.now) c.requires)

@@ -8,7 +8,8 @@ returns-then-is_ascii_digit c = (
   λ yes. record {
     major = get_or c.args.text.now 5 0;
     minor = get_or c.args.text.now 7 0;
-    text_is = version_from c.args.text.now (omega arith) (search rules) (search rules) (search rules) (search rules) (search rules) (search rules);
+    text_is = version_from c.args.text.now (omega arith) (search rules) (search rules) (search rules) (search rules) (search rules)
+        (search rules);
     major_digit = search rules;
     minor_digit = search rules;
   },

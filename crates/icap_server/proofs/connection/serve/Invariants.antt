@@ -3,4 +3,5 @@ use Rattle.icap_server.specs.Connection.{ServesOn}
 use Rattle.icap_server.proofs.connection.serve.Given as goal
 
 abbrev pub invariant-loop : goal.invariant-loop
-invariant-loop g l = ServesOn (shown l.fn.settings) (g.R.Read.remaining l.fn.reader) (g.R.Read.remaining l.reader) (g.W.Write.contents l.fn.writer) (g.W.Write.contents l.writer) l.side
+invariant-loop g l = ServesOn (shown l.fn.settings) (g.R.Read.remaining l.fn.reader) (g.R.Read.remaining l.reader)
+    (g.W.Write.contents l.fn.writer) (g.W.Write.contents l.writer) l.side

@@ -3,4 +3,5 @@ use Rattle.options_book.proofs.Exact.{has_reading}
 use Rattle.options_book.proofs.laws.has_a_reading.Goals as goal
 
 pub returns : goal.returns
-returns c = λ moment. has_reading c.args.point (response_parts c.args.response.now) moment c.judge-judged.result c.judge-judged.ensures.ok c.judge-judged.ensures.err
+returns c = λ moment. has_reading c.args.point (response_parts c.args.response.now) moment c.judge-judged.result c.judge-judged.ensures.ok
+    c.judge-judged.ensures.err

@@ -6,7 +6,8 @@ use Rattle.options_book.proofs.path.extension.Goals as goal
 
 pub returns-clause-none : goal.returns-clause-none
 returns-clause-none c =
-    elim c.behind_last.result as (λ r. IfNone r (Lacks 46 c.last_segment.result.now) → IfNone r ((found : List ℕ) → IsExtension c.args.path.now found → ⊥)) [
+    elim c.behind_last.result as (λ r. IfNone r (Lacks 46 c.last_segment.result.now)
+    → IfNone r ((found : List ℕ) → IsExtension c.args.path.now found → ⊥)) [
       | None ↦ λ lacks. no_extension c.args.path.now c.last_segment.result.now c.last_segment.ensures lacks
       | Some x ↦ λ lacks. tt
     ] c.behind_last.ensures.none

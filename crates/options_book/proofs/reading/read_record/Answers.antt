@@ -4,4 +4,5 @@ use Rattle.options_book.proofs.reading.read_record.Goals as goal
 
 pub returns-clause-fault : goal.returns-clause-fault
 returns-clause-fault c =
-    only_fault c.args.point (response_parts c.args.response.now) c.args.now c.find_record.result c.find_record.ensures.ok c.find_record.ensures.only
+    only_fault c.args.point (response_parts c.args.response.now) c.args.now c.find_record.result c.find_record.ensures.ok
+    c.find_record.ensures.only

@@ -1,6 +1,7 @@
 use Rattle.std.proofs.Common.{◌∙◌, sym, arith}
 use Rattle.proxy_commands.proofs.ArgumentForms.{size_is, not_a_size, no_number}
-use Rattle.proxy_commands.proofs.command.read_piece_size.Goals.{else-size-ge1-via-then-size-ge1+else-size-le-MAX_PIECE, else-size-ge1-via-else-size-ge1}
+use Rattle.proxy_commands.proofs.command.read_piece_size.Goals.{else-size-ge1-via-then-size-ge1+else-size-le-MAX_PIECE}
+use Rattle.proxy_commands.proofs.command.read_piece_size.Goals.{else-size-ge1-via-else-size-ge1}
 use Rattle.proxy_commands.proofs.command.read_piece_size.Goals as goal
 
 pub returns-in_err-size-clause-none : goal.returns-in_err-size-clause-none

@@ -9,13 +9,16 @@ pub returns-in_err-kind-clause-none : goal.returns-in_err-kind-clause-none
 returns-in_err-kind-clause-none c =
     let line = c.args.line.now in
     let none : parts_of line ≡ None = sym c.read_parts.ensures ∙ c.in_err-kind.was in
-    let nothing : (plan : AnyPlan) → SaysPlan line plan → ⊥ = λ plan h. says_no_parts line none plan.kind (plan.allow, plan.retry) plan.len h.parts in
+    let nothing : (plan : AnyPlan) → SaysPlan line plan → ⊥ =
+    λ plan h. says_no_parts line none plan.kind (plan.allow, plan.retry) plan.len h.parts in
     rw c.from_residual.ensures nothing
 
 pub returns-clause-found : goal.returns-clause-found
 returns-clause-found c =
-    plan_found c.args.line.now c.in_ok-kind.kind (c.in_ok-kind.allow, c.in_ok-kind.retry) c.in_ok-kind.len (sym c.read_parts.ensures ∙ c.in_ok-kind.was) c.new.result c.new.ensures.same c.new.ensures.in_range
+    plan_found c.args.line.now c.in_ok-kind.kind (c.in_ok-kind.allow, c.in_ok-kind.retry) c.in_ok-kind.len
+    (sym c.read_parts.ensures ∙ c.in_ok-kind.was) c.new.result c.new.ensures.same c.new.ensures.in_range
 
 pub returns-clause-none : goal.returns-clause-none
 returns-clause-none c =
-    plan_refused c.args.line.now c.in_ok-kind.kind (c.in_ok-kind.allow, c.in_ok-kind.retry) c.in_ok-kind.len (sym c.read_parts.ensures ∙ c.in_ok-kind.was) c.new.result c.new.ensures.in_range
+    plan_refused c.args.line.now c.in_ok-kind.kind (c.in_ok-kind.allow, c.in_ok-kind.retry) c.in_ok-kind.len
+    (sym c.read_parts.ensures ∙ c.in_ok-kind.was) c.new.result c.new.ensures.in_range

@@ -3,4 +3,5 @@ use Rattle.proxy_commands.proofs.Decimals.{decimal_of-answer}
 use Rattle.proxy_commands.proofs.reading.number.Goals as goal
 
 pub returns : goal.returns
-returns c = decimal_of-answer c.args.digits.now c.read_decimal.result c.read_decimal.ensures.found (search rules) c.read_decimal.ensures.none
+returns c = decimal_of-answer c.args.digits.now c.read_decimal.result c.read_decimal.ensures.found (search rules)
+    c.read_decimal.ensures.none

@@ -4,7 +4,8 @@ use Rattle.adapt_bytes.specs.declared.limits.TheConstants.{MAX_INPUT}
 use Rattle.proxy_commands.proofs.run.read_input.Goals as goal
 
 -- the bytes up to a limit, where they are known
-known : (r : Option (List ℕ)) (limit : ℕ) (empty items : List ℕ) → limit ≡ MAX_INPUT + 1 → empty ≡ [] → IfSome (option_map (take limit) r) (λ xs. items ≡ empty ++ xs)
+known : (r : Option (List ℕ)) (limit : ℕ) (empty items : List ℕ) → limit ≡ MAX_INPUT + 1 → empty ≡ []
+    → IfSome (option_map (take limit) r) (λ xs. items ≡ empty ++ xs)
     → IfSome r (λ bytes. items ≡ take (MAX_INPUT + 1) bytes)
 known None limit empty items l n h = tt
 known (Some bytes) limit empty items l n h = h ∙ ap (λ e. e ++ take limit bytes) n ∙ ap (λ k. take k bytes) l

@@ -24,7 +24,8 @@ loop-rest-preserved-in_ok-push c =
     record {
       left = (first.1, first.3);
       read = λ more h.
-          let here = c.loop-rest.invariant.read (c.in-Some.line ∷ more) (one_more rest text cut.result.1.now cut.ensures.cut c.in-Some.line more is h) in
+          let here = c.loop-rest.invariant.read (c.in-Some.line ∷ more)
+          (one_more rest text cut.result.1.now cut.ensures.cut c.in-Some.line more is h) in
           let e = c.in_ok-push.ensures.items in
           rw (e, append_assoc) here;
     }

@@ -10,7 +10,8 @@ returns-in-Some-first_other-clause-read c =
     let cut = c.cut_line in
     let plan = c.in-Some in (
       omega arith,
-      past.ensures.bad _ (bad_later past.result.1.now cut.result.0.now cut.result.1.now cut.ensures.cut past.result.0 _ plan.plan plan.ensures.found
+      past.ensures.bad _ (bad_later past.result.1.now cut.result.0.now cut.result.1.now cut.ensures.cut past.result.0 _ plan.plan
+          plan.ensures.found
           c.in-Some-first_other.ensures.other),
     )
 

@@ -6,11 +6,13 @@ use Rattle.proxy_commands.proofs.serve.read_configuration.Goals as goal
 pub returns-in-Ok-clause-ok : goal.returns-in-Ok-clause-ok
 returns-in-Ok-clause-ok g c =
     let known = g.R.Read.remaining c.args.reader in
-    let read = subst (λ (x : List ℕ). IfSome known (λ bytes. x ≡ take (MAX_INPUT + 1) bytes)) (sym c.as_slice.ensures.value) c.in-Ok.ensures.read in
+    let read = subst (λ (x : List ℕ). IfSome known (λ bytes. x ≡ take (MAX_INPUT + 1) bytes)) (sym c.as_slice.ensures.value)
+    c.in-Ok.ensures.read in
     configured known c.as_slice.result.now c.configuration_of.result read c.configuration_of.ensures.ok
 
 pub returns-in-Ok-clause-err : goal.returns-in-Ok-clause-err
 returns-in-Ok-clause-err g c =
     let known = g.R.Read.remaining c.args.reader in
-    let read = subst (λ (x : List ℕ). IfSome known (λ bytes. x ≡ take (MAX_INPUT + 1) bytes)) (sym c.as_slice.ensures.value) c.in-Ok.ensures.read in
+    let read = subst (λ (x : List ℕ). IfSome known (λ bytes. x ≡ take (MAX_INPUT + 1) bytes)) (sym c.as_slice.ensures.value)
+    c.in-Ok.ensures.read in
     unconfigured known c.as_slice.result.now c.configuration_of.result read c.configuration_of.ensures.err

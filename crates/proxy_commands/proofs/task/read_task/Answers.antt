@@ -1,6 +1,7 @@
 -- One argument is a word alone; of three a word may stand before `--config` and a path; else the first of several says the task.
 use Rattle.std.proofs.Common.{◌≡◌, ℕ, List, [], ◌∷◌, map, string_bytes, sym, ap, ◌∙◌, subst}
-use Rattle.proxy_commands.proofs.TaskForms.{four_words, none_alone, none_before, none_of_three, one_word, some_before, some_of_three, three_words, two_words, Others, ThreeWords}
+use Rattle.proxy_commands.proofs.TaskForms.{four_words, none_alone, none_before, none_of_three, one_word, some_before, some_of_three}
+use Rattle.proxy_commands.proofs.TaskForms.{three_words, two_words, Others, ThreeWords}
 use Rattle.proxy_commands.proofs.task.read_task.Goals.{After-task_before, After-task_before-in-len4-up, After-task_of_three}
 use Rattle.proxy_commands.proofs.task.read_task.Goals as goal
 
@@ -18,27 +19,34 @@ two c = subst (λ (w : List ℕ). Others (map string_bytes c.args.args.now) w) (
 pub returns-in-len2-clause-found : goal.returns-in-len2-clause-found
 returns-in-len2-clause-found c =
     let o = two c in
-    some_before (map string_bytes c.args.args.now) c.as_str-in-len2.result.now o.next o.rest o.are o.no_path c.task_before.result c.task_before.ensures.found
+    some_before (map string_bytes c.args.args.now) c.as_str-in-len2.result.now o.next o.rest o.are o.no_path c.task_before.result
+    c.task_before.ensures.found
 
 pub returns-in-len2-clause-none : goal.returns-in-len2-clause-none
 returns-in-len2-clause-none c =
     let o = two c in
-    none_before (map string_bytes c.args.args.now) c.as_str-in-len2.result.now o.next o.rest o.are o.no_path c.task_before.result c.task_before.ensures.none
+    none_before (map string_bytes c.args.args.now) c.as_str-in-len2.result.now o.next o.rest o.are o.no_path c.task_before.result
+    c.task_before.ensures.none
 
 three : (c : After-task_of_three) → ThreeWords (map string_bytes c.args.args.now) c.as_str-in-len3.result.now c.as_str-in-len3-2.result.now
-three c = subst (λ (w : List ℕ). ThreeWords (map string_bytes c.args.args.now) w c.as_str-in-len3-2.result.now) (sym c.as_str-in-len3.ensures.value)
-    (subst (λ (o : List ℕ). ThreeWords (map string_bytes c.args.args.now) (string_bytes c.word-item-then-args-lt4.result) o) (sym c.as_str-in-len3-2.ensures.value)
-    (three_words c.args.args.now c.word-item-then-args-lt4.result c.option-item.result c.in-len3.len_at_least c.in-len3.len_below c.word-item-then-args-lt4.is c.option-item.is))
+three c = subst (λ (w : List ℕ). ThreeWords (map string_bytes c.args.args.now) w c.as_str-in-len3-2.result.now)
+    (sym c.as_str-in-len3.ensures.value)
+    (subst (λ (o : List ℕ). ThreeWords (map string_bytes c.args.args.now) (string_bytes c.word-item-then-args-lt4.result) o)
+    (sym c.as_str-in-len3-2.ensures.value)
+    (three_words c.args.args.now c.word-item-then-args-lt4.result c.option-item.result c.in-len3.len_at_least c.in-len3.len_below
+    c.word-item-then-args-lt4.is c.option-item.is))
 
 pub returns-in-len3-clause-found : goal.returns-in-len3-clause-found
 returns-in-len3-clause-found c =
     let (path, are) = three c in
-    some_of_three (map string_bytes c.args.args.now) c.as_str-in-len3.result.now c.as_str-in-len3-2.result.now path are c.task_of_three.result c.task_of_three.ensures.found
+    some_of_three (map string_bytes c.args.args.now) c.as_str-in-len3.result.now c.as_str-in-len3-2.result.now path are
+    c.task_of_three.result c.task_of_three.ensures.found
 
 pub returns-in-len3-clause-none : goal.returns-in-len3-clause-none
 returns-in-len3-clause-none c =
     let (path, are) = three c in
-    none_of_three (map string_bytes c.args.args.now) c.as_str-in-len3.result.now c.as_str-in-len3-2.result.now path are c.task_of_three.result c.task_of_three.ensures.none
+    none_of_three (map string_bytes c.args.args.now) c.as_str-in-len3.result.now c.as_str-in-len3-2.result.now path are
+    c.task_of_three.result c.task_of_three.ensures.none
 
 four : (c : After-task_before-in-len4-up) → Others (map string_bytes c.args.args.now) c.as_str-in-len4-up.result.now
 four c = subst (λ (w : List ℕ). Others (map string_bytes c.args.args.now) w) (sym c.as_str-in-len4-up.ensures.value)

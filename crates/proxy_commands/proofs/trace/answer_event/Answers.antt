@@ -10,7 +10,8 @@ use Rattle.proxy_commands.proofs.trace.answer_event.Goals as goal
 pub returns-in-Ok-clause-answer : goal.returns-in-Ok-clause-answer
 returns-in-Ok-clause-answer c =
     let old = c.args.state.now in
-    let seen_then = ap shows c.in-Ok.ensures.taken ∙ taken_shows old.plan old.events c.args.event c.trace-legal.ensures.legal c.in-Ok.ensures.accepted in
+    let seen_then = ap shows c.in-Ok.ensures.taken ∙ taken_shows old.plan old.events c.args.event c.trace-legal.ensures.legal
+    c.in-Ok.ensures.accepted in
     let answer = taken_answer old.plan old.events c.args.event c.trace-legal.ensures.legal c.in-Ok.ensures.accepted in
     ap (λ r. Held r c.shown_adapted.result) (c.held_original.ensures.held ∙ ap held_original seen_then)
     ∙ ap (Held (held_original (after (shows old) c.args.event))) (c.shown_adapted.ensures ∙ ap shown_adapted seen_then)

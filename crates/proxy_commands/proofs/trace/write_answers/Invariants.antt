@@ -5,4 +5,5 @@ use Rattle.proxy_commands.proofs.trace.write_answers.Given as goal
 
 abbrev pub invariant-loop-line : goal.invariant-loop-line
 invariant-loop-line l =
-    l.out.items ++ output_from (shows l.state) (drop l.line-index l.script.lines.items) ≡ output_from (seen l.script.plan []) l.script.lines.items
+    l.out.items ++ output_from (shows l.state) (drop l.line-index l.script.lines.items)
+    ≡ output_from (seen l.script.plan []) l.script.lines.items

@@ -8,5 +8,6 @@ pub returns-clause-ok : goal.returns-clause-ok
 returns-clause-ok g c = record {
   named = c.take_hosts.new.config;
   names = c.in_ok-count.ensures.ok;
-  pages = subst (λ folder. HasPages folder c.take_hosts.new.config c.take_pages.new.config) (same_folder _ _ _ _ c.in_ok-count.ensures.ok) c.in_ok-take_pages.ensures.ok;
+  pages = subst (λ folder. HasPages folder c.take_hosts.new.config c.take_pages.new.config) (same_folder _ _ _ _ c.in_ok-count.ensures.ok)
+      c.in_ok-take_pages.ensures.ok;
 }

@@ -11,7 +11,8 @@ returns-clause-new c =
     let lowered : string_bytes c.make_ascii_lowercase.new.self ≡ str_to_ascii_lowercase c.args.name.now
     = c.make_ascii_lowercase.ensures.bytes ∙ ap (map to_ascii_lowercase) c.in_ok-lower.ensures.ok in
     elim c.match-insert.branch [
-      | in-Ok w ↦ rw w.result-is (is_new_name c.args.seen.now c.make_ascii_lowercase.new.self c.args.name.now w.in-Ok.is_new lowered w.in-Ok.ensures.added)
+      | in-Ok w ↦ rw w.result-is (is_new_name c.args.seen.now c.make_ascii_lowercase.new.self c.args.name.now w.in-Ok.is_new lowered
+          w.in-Ok.ensures.added)
       | in-Err w ↦ rw w.result-is tt
     ]
 
@@ -20,6 +21,7 @@ returns-clause-marks c =
     let lowered : string_bytes c.make_ascii_lowercase.new.self ≡ str_to_ascii_lowercase c.args.name.now
     = c.make_ascii_lowercase.ensures.bytes ∙ ap (map to_ascii_lowercase) c.in_ok-lower.ensures.ok in
     elim c.match-insert.branch [
-      | in-Ok w ↦ rw w.result-is (marks_name c.args.seen.now c.insert.new.self c.make_ascii_lowercase.new.self c.args.name.now lowered w.in-Ok.ensures.updates)
+      | in-Ok w ↦ rw w.result-is (marks_name c.args.seen.now c.insert.new.self c.make_ascii_lowercase.new.self c.args.name.now lowered
+          w.in-Ok.ensures.updates)
       | in-Err w ↦ rw w.result-is tt
     ]

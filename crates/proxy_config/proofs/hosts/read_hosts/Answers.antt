@@ -19,7 +19,8 @@ pub returns-clause-past : goal.returns-clause-past
 returns-clause-past c =
     let hosts : Hosts = record { all = c.in_ok-sorted.field-0; file = c.empty.result } in
     let (names, are_names, each) = c.in_ok-all.ensures.ok in
-    let are = tables (table_view c.args.table.now) names c.in_ok-all.all.items hosts are_names each c.in_ok-sorted.ensures.same c.empty.ensures in
+    let are = tables (table_view c.args.table.now) names c.in_ok-all.all.items hosts are_names each c.in_ok-sorted.ensures.same
+    c.empty.ensures in
     past (codes "hosts") host_table (table_view c.args.table.now) c.requires (hosts, are)
 
 pub returns-in_err-all-clause-err : goal.returns-in_err-all-clause-err

@@ -17,6 +17,8 @@ loop-word-preserved c =
     record {
       can = tt;
       ends = tt;
-      rest = adds_one c.args.address (words_left c.args.words) c.args.hosts.now.items c.in-Some.word.now (words_left c.loop-word.word-iterator) (words_left c.next.new.self)
-          c.loop-word.hosts.items c.push.new.self.items c.loop-word.is_named c.loop-word.invariant.rest word c.in_ok-host.host (search rules) (search rules) (search rules);
+      rest = adds_one c.args.address (words_left c.args.words) c.args.hosts.now.items c.in-Some.word.now
+          (words_left c.loop-word.word-iterator) (words_left c.next.new.self)
+          c.loop-word.hosts.items c.push.new.self.items c.loop-word.is_named c.loop-word.invariant.rest word c.in_ok-host.host
+          (search rules) (search rules) (search rules);
     }

@@ -14,7 +14,8 @@ overflow_add-number c =
 
 pub loop-rest-preserved : goal.loop-rest-preserved
 loop-rest-preserved c =
-    let split : lines_left c.loop-rest.rest ≡ c.cut_line.result.0.now ∷ lines_left c.cut_line.result.1 = ap lines_left c.in-Some.is ∙ c.cut_line.ensures in
+    let split : lines_left c.loop-rest.rest ≡ c.cut_line.result.0.now ∷ lines_left c.cut_line.result.1 =
+    ap lines_left c.in-Some.is ∙ c.cut_line.ensures in
     let added : AddsLine c.cut_line.result.0.now c.loop-rest.hosts.items c.add_line.new.hosts.items = search rules in
     reads_one (lines_of c.args.text.now) (lines_left c.loop-rest.rest) (lines_left c.cut_line.result.1) c.cut_line.result.0.now
     c.loop-rest.hosts.items c.add_line.new.hosts.items c.loop-rest.number c.loop-rest.invariant split added

@@ -38,6 +38,7 @@ loop-network-preserved c =
 
 pub returns : goal.returns
 returns c =
-    let past : drop c.loop-network.network-index c.args.networks.now ≡ [] = drop_all c.loop-network.network-index c.args.networks.now c.loop-network-test.false in
+    let past : drop c.loop-network.network-index c.args.networks.now ≡ [] =
+    drop_all c.loop-network.network-index c.args.networks.now c.loop-network-test.false in
     let P : List Network → Type 0 = λ rest. IsInOne rest c.args.address in
     (λ never. absurd (false≢true never), λ one. absurd (subst P past (c.loop-network.invariant.still one)))

@@ -25,7 +25,8 @@ pub returns-in-None-clause-past : goal.returns-in-None-clause-past
 returns-in-None-clause-past c =
     let document = table_view c.args.table.now in
     let P : Option (Vec Network Global) → Type 0 = λ found. SaysNetworks (codes "denied") document (option_map (λ vec. vec.items) found) in
-    let missing : get_member (codes "denied") document ≡ None = subst P c.in-None.is (some_at P c.in_ok-networks.ensures.ok c.in_ok-found.ensures.found) in
+    let missing : get_member (codes "denied") document ≡ None =
+    subst P c.in-None.is (some_at P c.in_ok-networks.ensures.ok c.in_ok-found.ensures.found) in
     let none : List Network = [] in
     past (codes "denied") denied_networks document c.requires (none, inl (missing, refl))
 

@@ -7,7 +7,8 @@ use Rattle.proxy_config.proofs.parent.reaches_key.Goals as goal
 pub returns-in-Some : goal.returns-in-Some
 returns-in-Some c = (
   λ is. (c.in-Some.listener, c.in-Some.ensures.found, c.reaches.ensures.0 is),
-  λ is. c.reaches.ensures.1 (at_its_address c.args.key.now (table_view c.args.table.now) c.args.to c.in-Some.listener c.in-Some.ensures.found is),
+  λ is. c.reaches.ensures.1 (at_its_address c.args.key.now (table_view c.args.table.now) c.args.to c.in-Some.listener
+      c.in-Some.ensures.found is),
 )
 
 pub returns-in-None : goal.returns-in-None

@@ -62,4 +62,5 @@ returns-then-is_proxy-clause-err c =
     let at : option_and_then as_table (get_member (codes "parent") document) ≡ Some table = search rules in
     let own : IsItsOwnParent document table = (c.in_ok-parent.parent, c.in_ok-parent.ensures.ok, c.is_proxy.ensures.0 c.if-is_proxy.true) in
     let says : IsParentFault document (codes "parent") = own_fault document table at own in
-    names_first (codes "parent") parent_proxy document c.requires c.at_key.result (names_it (codes "parent") (IsParentFault document) says c.at_key.result c.at_key.ensures)
+    names_first (codes "parent") parent_proxy document c.requires c.at_key.result
+    (names_it (codes "parent") (IsParentFault document) says c.at_key.result c.at_key.ensures)

@@ -33,7 +33,12 @@ returns-in_err-ip-clause-ok c = no_ok c.from_residual.result _ _ c.from_residual
 pub returns-in_err-port-clause-err : goal.returns-in_err-port-clause-err
 returns-in_err-port-clause-err c =
     let table = table_view c.args.table.now in
-    let host : HasHost table = (c.in_ok-ip._text.now, c.in_ok-ip.ip, some_at _ c.in_ok-ip.ensures.ok c.host.ensures.text, some_at _ c.in_ok-ip.ensures.ok c.host.ensures.ip) in
+    let host : HasHost table = (
+      c.in_ok-ip._text.now,
+      c.in_ok-ip.ip,
+      some_at _ c.in_ok-ip.ensures.ok c.host.ensures.text,
+      some_at _ c.in_ok-ip.ensures.ok c.host.ensures.ip,
+    ) in
     let bad : parent_port table ≡ None = sym c.port.ensures.number ∙ c.in_err-port.ensures.none in
     let first : IsFirstOfParent table (codes "port") = inr (host, inl (bad, refl)) in
     let says : IsInParent table (nested (codes "parent") (codes "port")) = (codes "port", first, refl) in

@@ -10,7 +10,8 @@ returns-in_err-admin-clause-none c = then_none c.from_residual.result (λ found 
 
 pub returns-then-shares_port-clause-none : goal.returns-then-shares_port-clause-none
 returns-then-shares_port-clause-none c =
-    no_admin (table_view c.args.table.now) c.args.listen c.in_ok-admin.admin c.requires c.in_ok-admin.ensures.found (c.shares_port.ensures.0 c.if-shares_port.true)
+    no_admin (table_view c.args.table.now) c.args.listen c.in_ok-admin.admin c.requires c.in_ok-admin.ensures.found
+    (c.shares_port.ensures.0 c.if-shares_port.true)
 
 pub returns-else-shares_port-clause-found : goal.returns-else-shares_port-clause-found
 returns-else-shares_port-clause-found c = (

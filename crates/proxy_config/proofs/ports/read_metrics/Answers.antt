@@ -9,7 +9,8 @@ use Rattle.proxy_config.proofs.ports.read_metrics.Goals as goal
 pub returns-clause-past : goal.returns-clause-past
 returns-clause-past c =
     let document = table_view c.args.table.now in
-    past_found (λ value. IsMetrics document value) c.metrics.result c.needed.result (codes "metrics") metrics_address document c.requires.next
+    past_found (λ value. IsMetrics document value) c.metrics.result c.needed.result (codes "metrics") metrics_address document
+    c.requires.next
     (λ value is. (value, is))
     c.metrics.ensures.found
     c.needed.ensures.ok
@@ -17,7 +18,8 @@ returns-clause-past c =
 pub returns-clause-err : goal.returns-clause-err
 returns-clause-err c =
     let document = table_view c.args.table.now in
-    fault_found (λ value. IsMetrics document value) c.metrics.result c.needed.result (codes "metrics") metrics_address document c.requires.next
+    fault_found (λ value. IsMetrics document value) c.metrics.result c.needed.result (codes "metrics") metrics_address document
+    c.requires.next
     (λ found none same. (λ good. none good.0 good.1, same))
     c.metrics.ensures.none
     c.needed.ensures.none

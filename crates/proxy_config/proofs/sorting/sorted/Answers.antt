@@ -7,7 +7,8 @@ use Rattle.proxy_config.proofs.sorting.sorted.Goals as goal
 
 pub invariant_of-result : goal.invariant_of-result
 invariant_of-result c = record {
-  rising = IsNonDecreasingBy-from_sort_by_key (λ (host : AnyHost). host.number) _ c.in_ok-sort_by_key.ensures.sorted (λ a r q k. search rules);
+  rising = IsNonDecreasingBy-from_sort_by_key (λ (host : AnyHost). host.number) _ c.in_ok-sort_by_key.ensures.sorted
+      (λ a r q k. search rules);
 }
 
 pub returns-clause-first : goal.returns-clause-first

@@ -9,7 +9,8 @@ use Rattle.proxy_config.proofs.Refusals.{names_it}
 use Rattle.proxy_config.proofs.UnknownKeys.{first_unknown_key}
 use Rattle.proxy_config.proofs.unknown.check_keys.Goals as goal
 
-first_texts : (a b d e found of_tables of_two one two three : Option (List ℕ)) → found ≡ first_text a of_tables → of_tables ≡ first_text one of_two
+first_texts : (a b d e found of_tables of_two one two three : Option (List ℕ)) → found ≡ first_text a of_tables
+    → of_tables ≡ first_text one of_two
     → of_two ≡ first_text two three → one ≡ b → two ≡ d → three ≡ e → found ≡ first_text a (first_text b (first_text d e))
 first_texts a b d e found of_tables of_two one two three is of of_both is_one is_two is_three =
     is ∙ ap (first_text a) (of ∙ ap (λ t. first_text t of_two) is_one
@@ -36,10 +37,12 @@ returns-in-Some-clause-err c =
     c.text_of.ensures
     c.text_of-2.ensures
     c.text_of-3.ensures in
-    let all = first_unknown_key document a b d e (option_copied c.first_of-2.result) found c.first_unknown.ensures c.in_ok-reqmod.ensures c.in_ok-respmod.ensures c.in_ok-parent.ensures in
+    let all = first_unknown_key document a b d e (option_copied c.first_of-2.result) found c.first_unknown.ensures c.in_ok-reqmod.ensures
+    c.in_ok-respmod.ensures c.in_ok-parent.ensures in
     let is : option_copied c.first_of-2.result ≡ Some c.in-Some.key.now = ap option_copied c.in-Some.is in
     let P : Option (List ℕ) → Type 0 = λ text. IsFirstOrNone (IsUnknown document) text in
-    names_it c.in-Some.key.now (IsFirstFault document) (first_unknown_fault document c.requires c.in-Some.key.now (subst P is all)) c.at_key.result c.at_key.ensures
+    names_it c.in-Some.key.now (IsFirstFault document) (first_unknown_fault document c.requires c.in-Some.key.now (subst P is all))
+    c.at_key.result c.at_key.ensures
 
 pub returns-clause-ok : goal.returns-clause-ok
 returns-clause-ok c =
@@ -62,7 +65,8 @@ returns-clause-ok c =
     c.text_of.ensures
     c.text_of-2.ensures
     c.text_of-3.ensures in
-    let all = first_unknown_key document a b d e (option_copied c.first_of-2.result) found c.first_unknown.ensures c.in_ok-reqmod.ensures c.in_ok-respmod.ensures c.in_ok-parent.ensures in
+    let all = first_unknown_key document a b d e (option_copied c.first_of-2.result) found c.first_unknown.ensures c.in_ok-reqmod.ensures
+    c.in_ok-respmod.ensures c.in_ok-parent.ensures in
     let is : option_copied c.first_of-2.result ≡ None = ap option_copied c.in-None.is in
     let P : Option (List ℕ) → Type 0 = λ text. IsFirstOrNone (IsUnknown document) text in
     subst P is all

@@ -23,11 +23,13 @@ returns-then-not-is_known c =
     let table = table_view c.args.table.now in
     let key = c.in-Some.key.now in
     let P : List (String Global) → Type 0 = λ rest. IsLooking known table rest in
-    let rest : c.loop-key.key-iterator ≡ key ∷ c.next.new.self = rest_more deref c.loop-key.key-iterator c.next.new.self c.next.result c.in-Some.key c.in-Some.is c.next.ensures.steps in
+    let rest : c.loop-key.key-iterator ≡ key ∷ c.next.new.self =
+    rest_more deref c.loop-key.key-iterator c.next.new.self c.next.result c.in-Some.key c.in-Some.is c.next.ensures.steps in
     let looking : IsLooking known table (key ∷ c.next.new.self) = subst P rest c.loop-key.invariant in
     let K : List ℕ → Type 0 = λ text. Contains known text in
     let not_known : c.is_known.result ≡ false = search rules in
-    let is_other : Contains known (string_bytes key) → ⊥ = λ contains. false≢true (sym not_known ∙ c.is_known.ensures.1 (subst K (sym c.as_str.ensures.value) contains)) in
+    let is_other : Contains known (string_bytes key) → ⊥ =
+    λ contains. false≢true (sym not_known ∙ c.is_known.ensures.1 (subst K (sym c.as_str.ensures.value) contains)) in
     let F : List ℕ → Type 0 = λ text. IsFirst (HasOther known table) text in
     subst F (sym c.as_str-then-not-is_known.ensures.value) (finds known table key c.next.new.self looking is_other)
 
@@ -37,7 +39,8 @@ loop-key-preserved c =
     let table = table_view c.args.table.now in
     let key = c.in-Some.key.now in
     let P : List (String Global) → Type 0 = λ rest. IsLooking known table rest in
-    let rest : c.loop-key.key-iterator ≡ key ∷ c.next.new.self = rest_more deref c.loop-key.key-iterator c.next.new.self c.next.result c.in-Some.key c.in-Some.is c.next.ensures.steps in
+    let rest : c.loop-key.key-iterator ≡ key ∷ c.next.new.self =
+    rest_more deref c.loop-key.key-iterator c.next.new.self c.next.result c.in-Some.key c.in-Some.is c.next.ensures.steps in
     let looking : IsLooking known table (key ∷ c.next.new.self) = subst P rest c.loop-key.invariant in
     let K : List ℕ → Type 0 = λ text. Contains known text in
     let is_known : Contains known (string_bytes key) = subst K c.as_str.ensures.value (c.is_known.ensures.0 (search rules)) in

@@ -15,4 +15,5 @@ returns-in_ok-nested-in-Some-first_unknown c =
     let table = table_view c.in-Some.inner.now in
     let at : option_and_then as_table (get_member name document) ≡ Some table = search rules in
     let F : List ℕ → Type 0 = λ text. IsFirst (IsUnknownOf known name document) text in
-    subst F (sym c.in_ok-nested-in-Some-first_unknown.ensures) (first_of_table known name document table c.in-Some-first_unknown.key.now at c.in-Some-first_unknown.ensures)
+    subst F (sym c.in_ok-nested-in-Some-first_unknown.ensures) (first_of_table known name document table c.in-Some-first_unknown.key.now at
+    c.in-Some-first_unknown.ensures)

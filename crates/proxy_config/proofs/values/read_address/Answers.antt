@@ -8,7 +8,8 @@ use Rattle.proxy_config.proofs.values.read_address.Goals as goal
 pub returns-clause-past : goal.returns-clause-past
 returns-clause-past c =
     let document = table_view c.args.table.now in
-    past_found (λ value. HasAddress c.args.key.now document value) c.address.result c.needed.result c.args.key.now address document c.requires
+    past_found (λ value. HasAddress c.args.key.now document value) c.address.result c.needed.result c.args.key.now address document
+    c.requires
     (λ value is. (value, is))
     c.address.ensures.found
     c.needed.ensures.ok
@@ -16,7 +17,8 @@ returns-clause-past c =
 pub returns-clause-err : goal.returns-clause-err
 returns-clause-err c =
     let document = table_view c.args.table.now in
-    fault_found (λ value. HasAddress c.args.key.now document value) c.address.result c.needed.result c.args.key.now address document c.requires
+    fault_found (λ value. HasAddress c.args.key.now document value) c.address.result c.needed.result c.args.key.now address document
+    c.requires
     (λ found none same. (λ good. none good.0 good.1, same))
     c.address.ensures.none
     c.needed.ensures.none

@@ -11,7 +11,8 @@ returns-clause-past c =
     let key = c.args.key.now in
     let document = table_view c.args.table.now in
     let says = number_at key c.args.low c.args.high c.args.other document in
-    past_found (λ n. says ≡ Some n) c.number_or.result c.needed.result key (number c.args.low c.args.high c.args.other) document c.requires.next
+    past_found (λ n. says ≡ Some n) c.number_or.result c.needed.result key (number c.args.low c.args.high c.args.other) document
+    c.requires.next
     (λ n is. (n, is))
     (said c.number_or.result says c.number_or.ensures.number)
     c.needed.ensures.ok
@@ -21,7 +22,8 @@ returns-clause-err c =
     let key = c.args.key.now in
     let document = table_view c.args.table.now in
     let says = number_at key c.args.low c.args.high c.args.other document in
-    fault_found (λ n. says ≡ Some n) c.number_or.result c.needed.result key (number c.args.low c.args.high c.args.other) document c.requires.next
+    fault_found (λ n. says ≡ Some n) c.number_or.result c.needed.result key (number c.args.low c.args.high c.args.other) document
+    c.requires.next
     (λ found none same. (λ good. none good.0 good.1, same))
     (unsaid c.number_or.result says c.number_or.ensures.number)
     c.needed.ensures.none

@@ -8,12 +8,14 @@ use Rattle.proxy_config.proofs.words.before.Goals as goal
 ends_at : (text : List ℕ) (byte end : ℕ) → end < length text → get_or text end 0 ≡ byte → ((k : ℕ) → k < end → get_or text k 0 ≢ byte)
     → take end text ≡ before_first (λ it. it == byte) text
 ends_at text byte end inside here before =
-    let is = position_or_len_is (λ it. it == byte) text end 0 (omega arith) (λ k below. ne_eqb _ byte (before k below)) (λ _. eq-eqb _ byte here) in
+    let is = position_or_len_is (λ it. it == byte) text end 0 (omega arith) (λ k below. ne_eqb _ byte (before k below))
+    (λ _. eq-eqb _ byte here) in
     ap (λ n. take n text) (sym is)
 
 is_whole : (text : List ℕ) (byte : ℕ) → ((k : ℕ) → k < length text → get_or text k 0 ≢ byte) → text ≡ before_first (λ it. it == byte) text
 is_whole text byte none =
-    let is = position_or_len_is (λ it. it == byte) text (length text) 0 (omega arith) (λ k below. ne_eqb _ byte (none k below)) (λ less. absurd (omega arith)) in
+    let is = position_or_len_is (λ it. it == byte) text (length text) 0 (omega arith) (λ k below. ne_eqb _ byte (none k below))
+    (λ less. absurd (omega arith)) in
     sym (ap (λ n. take n text) is ∙ take_all (length text) text (omega arith))
 
 pub returns-in-Some : goal.returns-in-Some

@@ -6,7 +6,8 @@ use Rattle.proxy_header.specs.Lines.{IsConnection, words}
 use Rattle.proxy_header.proofs.WordCuts.{said_of}
 use Rattle.proxy_header.proofs.words.source_in.Goals as goal
 
-no_source : (text s t u v : List ℕ) (r : Option Ipv4Addr) → words text ≡ s ∷ t ∷ u ∷ v ∷ [] → IfNone r ((ip : Ipv4Addr) → IsIpv4Text s ip → ⊥)
+no_source : (text s t u v : List ℕ) (r : Option Ipv4Addr) → words text ≡ s ∷ t ∷ u ∷ v ∷ []
+    → IfNone r ((ip : Ipv4Addr) → IsIpv4Text s ip → ⊥)
     → IfNone r ((ip : Ipv4Addr) → IsConnection text ip → ⊥)
 no_source text s t u v None four none = λ ip h. none ip (said_of text s t u v ip four h).source_is
 no_source text s t u v (Some ip) four none = none

@@ -5,4 +5,5 @@ pub returns-clause-begins : goal.returns-clause-begins
 returns-clause-begins g c = λ ahead h. came_first g.W.Wire ahead c.args.message.now.side c.args.wire.now h
 
 pub returns-clause-beside : goal.returns-clause-beside
-returns-clause-beside g c = λ first old ahead since beside more grown came. came_beside g.W.Wire first ahead since beside more c.args.message.now.side old c.args.wire.now grown came
+returns-clause-beside g c = λ first old ahead since beside more grown came.
+    came_beside g.W.Wire first ahead since beside more c.args.message.now.side old c.args.wire.now grown came

@@ -22,7 +22,8 @@ of_service cause e = subst IsOfSide (sym e) tt
 of_next_hop : (cause : Cause) → cause ≡ causes.NextHop → IsOfSide cause
 of_next_hop cause e = subst IsOfSide (sym e) tt
 
-none_of : (source : SourceHead) (asked : RequestParts) (origin : OriginWay) (adapted : Option (List ℕ)) (is_response has_body : Bool) (cause : Cause)
+none_of : (source : SourceHead) (asked : RequestParts) (origin : OriginWay) (adapted : Option (List ℕ)) (is_response has_body : Bool)
+    (cause : Cause)
     → MakesNoneOf source asked origin adapted is_response has_body cause → IsOfSide cause
 none_of source asked origin None is_response has_body cause (inl e) = of_memory cause e
 none_of source asked origin None is_response has_body cause (inr (inl e)) = of_source cause e.0
@@ -33,7 +34,8 @@ none_of source asked origin (Some text) false has_body cause (inl e) = of_memory
 none_of source asked origin (Some text) false has_body cause (inr (inl e)) = of_service cause e.0
 none_of source asked origin (Some text) false has_body cause (inr (inr e)) = of_next_hop cause e.0
 
-of_side : (origin : OriginWay) (user : Option SourceSide) (source : SourceHead) (x : Seen) (adapted : Option (List ℕ)) (is_response : Bool) (cause : Cause)
+of_side : (origin : OriginWay) (user : Option SourceSide) (source : SourceHead) (x : Seen) (adapted : Option (List ℕ)) (is_response : Bool)
+    (cause : Cause)
     → MakesNone origin user source x adapted is_response cause → IsOfSide cause
 of_side origin user source x adapted is_response cause none = elim none [
   | inl e ↦ of_source cause e.0
@@ -41,7 +43,9 @@ of_side origin user source x adapted is_response cause none = elim none [
 ]
 
 pub returns-clause-deadline : goal.returns-clause-deadline
-returns-clause-deadline c = λ origin user source x adapted is_response none. of_side origin user source x adapted is_response causes.Deadline none
+returns-clause-deadline c = λ origin user source x adapted is_response none.
+    of_side origin user source x adapted is_response causes.Deadline none
 
 pub returns-clause-stopping : goal.returns-clause-stopping
-returns-clause-stopping c = λ origin user source x adapted is_response none. of_side origin user source x adapted is_response causes.Stopping none
+returns-clause-stopping c = λ origin user source x adapted is_response none.
+    of_side origin user source x adapted is_response causes.Stopping none

@@ -5,9 +5,11 @@ pub returns-clause-none : goal.returns-clause-none
 returns-clause-none g c = λ wire. gave_none g.W.SourceWire.Wire wire
 
 pub returns-clause-meanwhile : goal.returns-clause-meanwhile
-returns-clause-meanwhile g c = λ first old new texts left more grown gave. gave_meanwhile g.W.SourceWire.Wire first old new texts left more grown gave
+returns-clause-meanwhile g c = λ first old new texts left more grown gave.
+    gave_meanwhile g.W.SourceWire.Wire first old new texts left more grown gave
 
 pub returns-clause-further : goal.returns-clause-further
 returns-clause-further g c = λ s first texts since gave.
-    gave_message g.W.SourceWire.Wire g.W.ServiceWire.Wire g.W.NextWire.Wire s c.args.running.now.tx.ends c.args.running.now.tx.hold _ first texts
+    gave_message g.W.SourceWire.Wire g.W.ServiceWire.Wire g.W.NextWire.Wire s c.args.running.now.tx.ends c.args.running.now.tx.hold _ first
+    texts
     (c.a_running_transaction_takes_one_message.ensures.took s since) gave

@@ -18,8 +18,10 @@ returns-clause-took g c = λ request t s.
           hops_one tx.hold tx.ends.next tx.ends.back (MadeOf tx.ends tx.ends.next) (MadeOf tx.ends tx.ends.back)
           s.original s.adapted t.next_taken t.back_taken c.seen.ensures.tied s.original_is s.adapted_is s.hops_are;
       other =
-          other_one (shows tx.hold.history).plan.point tx.hold tx.ends.next tx.ends.back (MadeOf tx.ends tx.ends.next) (MadeOf tx.ends tx.ends.back)
-          s.original s.adapted t.next_taken t.back_taken c.seen.ensures.tied s.original_is s.adapted_is s.refuses_is.1 s.refuses_is.2 s.hops_are;
+          other_one (shows tx.hold.history).plan.point tx.hold tx.ends.next tx.ends.back (MadeOf tx.ends tx.ends.next)
+          (MadeOf tx.ends tx.ends.back)
+          s.original s.adapted t.next_taken t.back_taken c.seen.ensures.tied s.original_is s.adapted_is s.refuses_is.1 s.refuses_is.2
+          s.hops_are;
       done = λ d.
           whole_one tx.ends.next tx.ends.back (MadeOf tx.ends tx.ends.next) (MadeOf tx.ends tx.ends.back)
           tx.refusing (shows tx.hold.history) _ t.next_taken t.back_taken (s.done_is d);

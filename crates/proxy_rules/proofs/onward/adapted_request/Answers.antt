@@ -15,11 +15,15 @@ returns-then-head-text-clause-err c = inr (inl (
 ))
 
 pub returns-clause-ok : goal.returns-clause-ok
-returns-clause-ok c = widened c.request_onward.result c.args.asked.user.now c.args.asked.carries_on c.args.asked.origin c.part_of.result (part_of c.args.has_body)
+returns-clause-ok c = widened c.request_onward.result c.args.asked.user.now c.args.asked.carries_on c.args.asked.origin c.part_of.result
+    (part_of c.args.has_body)
     (IsRequest c.in-Ok.head.value) (IsAdaptedRequest c.args.text.now)
-    (adapted_request_is c.args.text.now c.in-Ok.head.value c.in-Ok.head.length c.in-Ok.ensures.ok c.if-head-text.false) c.part_of.ensures c.request_onward.ensures.ok
+    (adapted_request_is c.args.text.now c.in-Ok.head.value c.in-Ok.head.length c.in-Ok.ensures.ok c.if-head-text.false) c.part_of.ensures
+    c.request_onward.ensures.ok
 
 pub returns-clause-err : goal.returns-clause-err
-returns-clause-err c = unmade_of c.request_onward.result (NoAdaptedRequest c.args.text.now) c.args.asked.user.now c.args.asked.origin c.part_of.result
+returns-clause-err c = unmade_of c.request_onward.result (NoAdaptedRequest c.args.text.now) c.args.asked.user.now c.args.asked.origin
+    c.part_of.result
     (part_of c.args.has_body) (IsRequest c.in-Ok.head.value) (IsAdaptedRequest c.args.text.now)
-    (adapted_request_is c.args.text.now c.in-Ok.head.value c.in-Ok.head.length c.in-Ok.ensures.ok c.if-head-text.false) c.part_of.ensures c.request_onward.ensures.err
+    (adapted_request_is c.args.text.now c.in-Ok.head.value c.in-Ok.head.length c.in-Ok.ensures.ok c.if-head-text.false) c.part_of.ensures
+    c.request_onward.ensures.err

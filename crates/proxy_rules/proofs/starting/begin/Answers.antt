@@ -36,21 +36,32 @@ invariant_of-running g c =
     let source = c.into_sides-source in
     let plan = c.into_plan-side.result.0 in
     let read = source.ensures.arrives.read in
-    let begins = has_begun source.result.0 c.args.beginning.message.user source.ensures.arrives (λ e. may.read (sym (ap (λ (s : SourceSide). s.head) source.ensures.side) ∙ e)) in
+    let begins = has_begun source.result.0 c.args.beginning.message.user source.ensures.arrives
+    (λ e. may.read (sym (ap (λ (s : SourceSide). s.head) source.ensures.side) ∙ e)) in
     let unused : IfSome c.service_end.result (λ line. IsUnused (text_of c.args.beginning.offer.side) line.side) =
     subst (λ (side : Option Service). IfSome c.service_end.result (λ line. IsUnused (text_of side) line.side)) c.into_plan-side.ensures.side
-    (subst (λ (service : Option (ServiceEnd Service _)). IfSome service (λ line. IsUnused (text_of c.into_plan-side.result.1) line.side)) (sym c.service_end.ensures)
+    (subst (λ (service : Option (ServiceEnd Service _)). IfSome service (λ line. IsUnused (text_of c.into_plan-side.result.1) line.side))
+    (sym c.service_end.ensures)
     (unused_on plan c.into_plan-side.result.1 c.args.beginning.way.service c.into_plan-side.ensures.binds)) in
-    let line = ap (λ z. wire_of z.service) c.in-Ok.ensures.ends ∙ (ap (λ z. wire_of z) c.service_end.ensures ∙ line_is c.into_plan-side.result.1 c.args.beginning.way.service (ap is_some c.into_plan-side.ensures.side ∙ (may.line ∙ c.is_some-is_connected.ensures))) in
+    let line = ap (λ z. wire_of z.service) c.in-Ok.ensures.ends ∙ (ap (λ z. wire_of z) c.service_end.ensures
+    ∙ line_is c.into_plan-side.result.1 c.args.beginning.way.service
+    (ap is_some c.into_plan-side.ensures.side ∙ (may.line ∙ c.is_some-is_connected.ensures))) in
     record {
       runs = ∣ record {
-        start = first_snapshot (text_of c.args.beginning.offer.side) read [] c.args.beginning.way.source c.args.beginning.way.next c.args.beginning.way.service;
-        since_is = since_begun g.W.SourceWire.Wire g.W.ServiceWire.Wire g.W.NextWire.Wire (text_of c.args.beginning.offer.side) read read [] [] _ _ _ c.in-Ok.tx.ends.service _ _ _ _
-            (c.in-Ok.ensures.stands (record { bytes = read; ended = false }) (text_of c.args.beginning.offer.side) (begins (seen plan []) refl refl).0 (nothing_on (text_of c.args.beginning.offer.side) plan c.service_end.result unused)
-            (ap (λ (h : Hop). gift_of h.stage) c.with_turn.ensures.shows ∙ ap (λ (h : Hop). gift_of h.stage) c.new.ensures.shows) (c.with_turn.ensures.aside [] c.new.ensures.aside) (ap (λ (h : Hop). gift_of h.stage) c.with_turn-2.ensures.shows ∙ ap (λ (h : Hop). gift_of h.stage) c.new-2.ensures.shows) (c.with_turn-2.ensures.aside [] c.new-2.ensures.aside))
-            (sym (append-nil read)) (grown_none _) (ap (λ z. z.source_wire) c.in-Ok.ensures.ends) line (ap (λ z. z.next_wire) c.in-Ok.ensures.ends);
+        start = first_snapshot (text_of c.args.beginning.offer.side) read [] c.args.beginning.way.source c.args.beginning.way.next
+            c.args.beginning.way.service;
+        since_is = since_begun g.W.SourceWire.Wire g.W.ServiceWire.Wire g.W.NextWire.Wire (text_of c.args.beginning.offer.side) read read []
+            [] _ _ _ c.in-Ok.tx.ends.service _ _ _ _
+            (c.in-Ok.ensures.stands (record { bytes = read; ended = false }) (text_of c.args.beginning.offer.side)
+            (begins (seen plan []) refl refl).0 (nothing_on (text_of c.args.beginning.offer.side) plan c.service_end.result unused)
+            (ap (λ (h : Hop). gift_of h.stage) c.with_turn.ensures.shows ∙ ap (λ (h : Hop). gift_of h.stage) c.new.ensures.shows)
+            (c.with_turn.ensures.aside [] c.new.ensures.aside) (ap (λ (h : Hop). gift_of h.stage) c.with_turn-2.ensures.shows
+            ∙ ap (λ (h : Hop). gift_of h.stage) c.new-2.ensures.shows) (c.with_turn-2.ensures.aside [] c.new-2.ensures.aside))
+            (sym (append-nil read)) (grown_none _) (ap (λ z. z.source_wire) c.in-Ok.ensures.ends) line
+            (ap (λ z. z.next_wire) c.in-Ok.ensures.ends);
         faultless_is = λ going.
-            c.in-Ok.ensures.faultless (ap (λ (s : SourceSide). s.fault) source.ensures.side ∙ may.fault) (faultless_on (text_of c.args.beginning.offer.side) c.service_end.result unused)
+            c.in-Ok.ensures.faultless (ap (λ (s : SourceSide). s.fault) source.ensures.side ∙ may.fault)
+            (faultless_on (text_of c.args.beginning.offer.side) c.service_end.result unused)
             (ap (λ (h : Hop). h.fault) c.with_turn.ensures.shows ∙ ap (λ (h : Hop). h.fault) c.new.ensures.shows)
             (ap (λ (h : Hop). h.fault) c.with_turn-2.ensures.shows ∙ ap (λ (h : Hop). h.fault) c.new-2.ensures.shows);
         refused_is = λ over. not_both _ over (ap (λ (h : History). (shows h).closed) c.in-Ok.ensures.begun);
@@ -63,16 +74,28 @@ returns-clause-since g c = λ first ahead since beside came.
     let source = c.into_sides-source in
     let plan = c.into_plan-side.result.0 in
     let read = ahead ++ since in
-    let begins = has_begun source.result.0 c.args.beginning.message.user (record { read = read; has_come = subst (λ (s : SourceSide). HasCome read s) (sym source.ensures.side) came.has_come; asks = source.ensures.arrives.asks })
+    let begins = has_begun source.result.0 c.args.beginning.message.user
+    (record {
+      read = read;
+      has_come = subst (λ (s : SourceSide). HasCome read s) (sym source.ensures.side) came.has_come;
+      asks = source.ensures.arrives.asks;
+    })
     (λ e. may.read (sym (ap (λ (s : SourceSide). s.head) source.ensures.side) ∙ e)) in
     let unused : IfSome c.service_end.result (λ line. IsUnused (text_of c.args.beginning.offer.side) line.side) =
     subst (λ (side : Option Service). IfSome c.service_end.result (λ line. IsUnused (text_of side) line.side)) c.into_plan-side.ensures.side
-    (subst (λ (service : Option (ServiceEnd Service _)). IfSome service (λ line. IsUnused (text_of c.into_plan-side.result.1) line.side)) (sym c.service_end.ensures)
+    (subst (λ (service : Option (ServiceEnd Service _)). IfSome service (λ line. IsUnused (text_of c.into_plan-side.result.1) line.side))
+    (sym c.service_end.ensures)
     (unused_on plan c.into_plan-side.result.1 c.args.beginning.way.service c.into_plan-side.ensures.binds)) in
-    let line = ap (λ z. wire_of z.service) c.in-Ok.ensures.ends ∙ (ap (λ z. wire_of z) c.service_end.ensures ∙ line_is c.into_plan-side.result.1 c.args.beginning.way.service (ap is_some c.into_plan-side.ensures.side ∙ (may.line ∙ c.is_some-is_connected.ensures))) in
-    since_begun g.W.SourceWire.Wire g.W.ServiceWire.Wire g.W.NextWire.Wire (text_of c.args.beginning.offer.side) read ahead since beside _ _ _ c.in-Ok.tx.ends.service _ _ _ _
-    (c.in-Ok.ensures.stands (record { bytes = read; ended = false }) (text_of c.args.beginning.offer.side) (begins (seen plan []) refl refl).0 (nothing_on (text_of c.args.beginning.offer.side) plan c.service_end.result unused)
-    (ap (λ (h : Hop). gift_of h.stage) c.with_turn.ensures.shows ∙ ap (λ (h : Hop). gift_of h.stage) c.new.ensures.shows) (c.with_turn.ensures.aside [] c.new.ensures.aside) (ap (λ (h : Hop). gift_of h.stage) c.with_turn-2.ensures.shows ∙ ap (λ (h : Hop). gift_of h.stage) c.new-2.ensures.shows) (c.with_turn-2.ensures.aside [] c.new-2.ensures.aside))
+    let line = ap (λ z. wire_of z.service) c.in-Ok.ensures.ends ∙ (ap (λ z. wire_of z) c.service_end.ensures
+    ∙ line_is c.into_plan-side.result.1 c.args.beginning.way.service
+    (ap is_some c.into_plan-side.ensures.side ∙ (may.line ∙ c.is_some-is_connected.ensures))) in
+    since_begun g.W.SourceWire.Wire g.W.ServiceWire.Wire g.W.NextWire.Wire (text_of c.args.beginning.offer.side) read ahead since beside _ _
+    _ c.in-Ok.tx.ends.service _ _ _ _
+    (c.in-Ok.ensures.stands (record { bytes = read; ended = false }) (text_of c.args.beginning.offer.side)
+    (begins (seen plan []) refl refl).0 (nothing_on (text_of c.args.beginning.offer.side) plan c.service_end.result unused)
+    (ap (λ (h : Hop). gift_of h.stage) c.with_turn.ensures.shows ∙ ap (λ (h : Hop). gift_of h.stage) c.new.ensures.shows)
+    (c.with_turn.ensures.aside [] c.new.ensures.aside) (ap (λ (h : Hop). gift_of h.stage) c.with_turn-2.ensures.shows
+    ∙ ap (λ (h : Hop). gift_of h.stage) c.new-2.ensures.shows) (c.with_turn-2.ensures.aside [] c.new-2.ensures.aside))
     refl came.wire_is (ap (λ z. z.source_wire) c.in-Ok.ensures.ends) line (ap (λ z. z.next_wire) c.in-Ok.ensures.ends)
 
 pub returns-clause-stands : goal.returns-clause-stands
@@ -81,12 +104,17 @@ returns-clause-stands g c =
     let source = c.into_sides-source in
     let plan = c.into_plan-side.result.0 in
     let read = source.ensures.arrives.read in
-    let begins = has_begun source.result.0 c.args.beginning.message.user source.ensures.arrives (λ e. may.read (sym (ap (λ (s : SourceSide). s.head) source.ensures.side) ∙ e)) in
+    let begins = has_begun source.result.0 c.args.beginning.message.user source.ensures.arrives
+    (λ e. may.read (sym (ap (λ (s : SourceSide). s.head) source.ensures.side) ∙ e)) in
     let unused : IfSome c.service_end.result (λ line. IsUnused (text_of c.args.beginning.offer.side) line.side) =
     subst (λ (side : Option Service). IfSome c.service_end.result (λ line. IsUnused (text_of side) line.side)) c.into_plan-side.ensures.side
-    (subst (λ (service : Option (ServiceEnd Service _)). IfSome service (λ line. IsUnused (text_of c.into_plan-side.result.1) line.side)) (sym c.service_end.ensures)
+    (subst (λ (service : Option (ServiceEnd Service _)). IfSome service (λ line. IsUnused (text_of c.into_plan-side.result.1) line.side))
+    (sym c.service_end.ensures)
     (unused_on plan c.into_plan-side.result.1 c.args.beginning.way.service c.into_plan-side.ensures.binds)) in (
       read,
-      c.in-Ok.ensures.stands (record { bytes = read; ended = false }) (text_of c.args.beginning.offer.side) (begins (seen plan []) refl refl).0 (nothing_on (text_of c.args.beginning.offer.side) plan c.service_end.result unused)
-          (ap (λ (h : Hop). gift_of h.stage) c.with_turn.ensures.shows ∙ ap (λ (h : Hop). gift_of h.stage) c.new.ensures.shows) (c.with_turn.ensures.aside [] c.new.ensures.aside) (ap (λ (h : Hop). gift_of h.stage) c.with_turn-2.ensures.shows ∙ ap (λ (h : Hop). gift_of h.stage) c.new-2.ensures.shows) (c.with_turn-2.ensures.aside [] c.new-2.ensures.aside),
+      c.in-Ok.ensures.stands (record { bytes = read; ended = false }) (text_of c.args.beginning.offer.side)
+          (begins (seen plan []) refl refl).0 (nothing_on (text_of c.args.beginning.offer.side) plan c.service_end.result unused)
+          (ap (λ (h : Hop). gift_of h.stage) c.with_turn.ensures.shows ∙ ap (λ (h : Hop). gift_of h.stage) c.new.ensures.shows)
+          (c.with_turn.ensures.aside [] c.new.ensures.aside) (ap (λ (h : Hop). gift_of h.stage) c.with_turn-2.ensures.shows
+          ∙ ap (λ (h : Hop). gift_of h.stage) c.new-2.ensures.shows) (c.with_turn-2.ensures.aside [] c.new-2.ensures.aside),
     )

@@ -16,5 +16,6 @@ loop-passed-preserved g c =
     let at : connection ≡ slice_index_or idle.items (deque_len idle - (passed + 1)) connection =
     c.index.ensures ∙ ap (λ i. slice_index_or idle.items i connection) index in
     let said = subst (λ b. FnReturnsAt g.F.Fn c.args.picked.now connection b) c.if-picks.false c.picks.ensures in
-    each_more (λ i. Tests g.F.Fn c.args.picked.now idle.items i false) (length idle.items) (deque_len idle - (passed + 1)) (deque_len idle - passed) next
+    each_more (λ i. Tests g.F.Fn c.args.picked.now idle.items i false) (length idle.items) (deque_len idle - (passed + 1))
+    (deque_len idle - passed) next
     (connection, at, said) c.loop-passed.invariant

@@ -14,12 +14,14 @@ loop-passed-preserved g c =
     let next : deque_len idle - passed ≡ deque_len idle - (passed + 1) + 1 = omega (arith, c.len-count.ensures, c.loop-passed-test.true) in
     let at : connection ≡ slice_index_or idle.items (deque_len idle - (passed + 1)) connection =
     c.index.ensures ∙ ap (λ i. slice_index_or idle.items i connection) index in
-    let said : Tests g.F.Fn c.args.picked.now idle.items (deque_len idle - (passed + 1)) false ⊎ Tests g.G.Fn c.args.prefers.now idle.items (deque_len idle - (passed + 1)) false =
+    let said : Tests g.F.Fn c.args.picked.now idle.items (deque_len idle - (passed + 1)) false
+    ⊎ Tests g.G.Fn c.args.prefers.now idle.items (deque_len idle - (passed + 1)) false =
     elim (c.is_preferred.ensures.no c.if-is_preferred.false) [
       | inl said ↦ inl (connection, at, said)
       | inr said ↦ inr (connection, at, said)
     ] in
-    each_more (λ i. Tests g.F.Fn c.args.picked.now idle.items i false ⊎ Tests g.G.Fn c.args.prefers.now idle.items i false) (length idle.items)
+    each_more (λ i. Tests g.F.Fn c.args.picked.now idle.items i false ⊎ Tests g.G.Fn c.args.prefers.now idle.items i false)
+    (length idle.items)
     (deque_len idle - (passed + 1)) (deque_len idle - passed) next said c.loop-passed.invariant
 
 -- it was asked about one, which it takes

@@ -4,4 +4,4 @@ use Rattle.service_probe.proofs.bench.put_tally.Goals as goal
 pub returns : goal.returns
 returns c =
     two_parts c.put_counted-2.result c.put_counted-2.new.out.items c.put_counted.new.out.items c.args.out.now.items _ _
-        c.in_ok-put_counted.ensures c.put_counted-2.ensures
+    c.in_ok-put_counted.ensures c.put_counted-2.ensures

@@ -4,4 +4,4 @@ use Rattle.service_probe.proofs.report.put_attempt.Goals as goal
 pub returns : goal.returns
 returns c =
     two_parts c.put_answer.result c.put_answer.new.out.items c.put_trial.new.out.items c.args.out.now.items _ _
-        c.in_ok-put_trial.ensures c.put_answer.ensures
+    c.in_ok-put_trial.ensures c.put_answer.ensures

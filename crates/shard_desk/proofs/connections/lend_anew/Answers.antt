@@ -13,4 +13,5 @@ returns-clause-leads g c = IfOk-weaker c.reopen-wire.result _ _ (λ wire leads. 
 )) c.reopen-wire.ensures.leads
 
 pub returns-clause-opened : goal.returns-clause-opened
-returns-clause-opened g c = reopens_by c.port_of-port.result.berth.asked _ c.reopen-wire.result c.port_of-port.ensures c.reopen-wire.ensures.asked
+returns-clause-opened g c = reopens_by c.port_of-port.result.berth.asked _ c.reopen-wire.result c.port_of-port.ensures
+    c.reopen-wire.ensures.asked

@@ -7,7 +7,8 @@ pub returns-clause-point : goal.returns-clause-point
 returns-clause-point g c = c.lent_of.ensures.point c.args.point c.lend-lent.ensures.point
 
 pub returns-clause-leads : goal.returns-clause-leads
-returns-clause-leads g c = IfOk-weaker c.lent_of.result _ _ (λ lent leads. (c.config.result.now, c.config.ensures, leads ∙ c.address_of-place.ensures))
+returns-clause-leads g c = IfOk-weaker c.lent_of.result _ _ (λ lent leads.
+    (c.config.result.now, c.config.ensures, leads ∙ c.address_of-place.ensures))
     (c.lent_of.ensures.leads c.address_of-place.result c.lend-lent.ensures.leads)
 
 pub returns-clause-lends : goal.returns-clause-lends
@@ -18,4 +19,5 @@ returns-clause-lends g c = IfOk-weaker c.lent_of.result _ _ (λ lent lends. (
 )) (c.lent_of.ensures.lends _ _ _ c.port_of-port.result.berth.asked _ c.port_of-port.ensures c.lend-lent.ensures.lends)
 
 pub returns-clause-fails : goal.returns-clause-fails
-returns-clause-fails g c = c.lent_of.ensures.fails _ _ _ c.port_of-port.result.berth.asked _ c.port_of-port.ensures c.lend-lent.ensures.lends
+returns-clause-fails g c = c.lent_of.ensures.fails _ _ _ c.port_of-port.result.berth.asked _ c.port_of-port.ensures
+    c.lend-lent.ensures.lends

@@ -1,7 +1,8 @@
 -- Each step leads on, or to the answer.
 use Rattle.std.proofs.Common.{◌≡◌, ◌+◌, ℕ, true, sym, ap, subst, inl, inr, arith}
 use Rattle.shard_desk.specs.Driving.{leads_on}
-use Rattle.shard_desk.proofs.Led.{Led, led_none, led_more, drives_blocked, drives_spent, drives_all, drives_lost, drives_waiting, drives_over}
+use Rattle.shard_desk.proofs.Led.{Led, led_none, led_more, drives_blocked, drives_spent, drives_all, drives_lost, drives_waiting}
+use Rattle.shard_desk.proofs.Led.{drives_over}
 use Rattle.shard_desk.proofs.driving.drive_on.Goals as goal
 
 pub loop-taken-init : goal.loop-taken-init
@@ -16,7 +17,8 @@ returns-in-Some-clause-drives g c =
 pub returns-then-is_lost-clause-drives : goal.returns-then-is_lost-clause-drives
 returns-then-is_lost-clause-drives g c =
     let most = c.loop-taken-test.true in
-    drives_lost (g.E.Exchange.Slotted.past c.args.exchange.now) (g.E.Exchange.Slotted.past c.loop-taken.exchange) (g.E.Exchange.Slotted.past c.act.new.exchange)
+    drives_lost (g.E.Exchange.Slotted.past c.args.exchange.now) (g.E.Exchange.Slotted.past c.loop-taken.exchange)
+    (g.E.Exchange.Slotted.past c.act.new.exchange)
     c.loop-taken._taken c.loop-taken.noted.rounds (g.E.Exchange.Slotted.phase_of c.loop-taken.exchange) c.act.result
     c.loop-taken.invariant (omega (arith, most)) c.act.ensures.past
 
@@ -29,14 +31,16 @@ returns-then-is_spent-clause-drives g c =
 pub returns-in-Waits-clause-drives : goal.returns-in-Waits-clause-drives
 returns-in-Waits-clause-drives g c =
     let most = c.loop-taken-test.true in
-    drives_waiting (g.E.Exchange.Slotted.past c.args.exchange.now) (g.E.Exchange.Slotted.past c.loop-taken.exchange) (g.E.Exchange.Slotted.past c.take_next.new.exchange)
+    drives_waiting (g.E.Exchange.Slotted.past c.args.exchange.now) (g.E.Exchange.Slotted.past c.loop-taken.exchange)
+    (g.E.Exchange.Slotted.past c.take_next.new.exchange)
     c.loop-taken._taken c.loop-taken.noted.rounds c.phase-phase.result
     c.loop-taken.invariant (omega (arith, most)) (c.is_spent.ensures.room c.if-is_spent.false) c.in-Waits.ensures.past
 
 pub returns-in-Over-clause-drives : goal.returns-in-Over-clause-drives
 returns-in-Over-clause-drives g c =
     let most = c.loop-taken-test.true in
-    drives_over (g.E.Exchange.Slotted.past c.args.exchange.now) (g.E.Exchange.Slotted.past c.loop-taken.exchange) (g.E.Exchange.Slotted.past c.take_next.new.exchange)
+    drives_over (g.E.Exchange.Slotted.past c.args.exchange.now) (g.E.Exchange.Slotted.past c.loop-taken.exchange)
+    (g.E.Exchange.Slotted.past c.take_next.new.exchange)
     c.loop-taken._taken c.loop-taken.noted.rounds c.phase-phase.result
     c.loop-taken.invariant (omega (arith, most)) (c.is_spent.ensures.room c.if-is_spent.false) c.in-Over.ensures.past
 
@@ -47,9 +51,11 @@ loop-taken-preserved g c =
       | inr other ↦ elim other [ inl turned ↦ ap leads_on turned.1 | inr unmoved ↦ ap leads_on unmoved ]
     ] in
     subst
-    (λ (n : ℕ). Led (g.E.Exchange.Slotted.past c.args.exchange.now) (g.E.Exchange.Slotted.past c.take_next.new.exchange) (c.loop-taken._taken + 1) n)
+    (λ (n : ℕ). Led (g.E.Exchange.Slotted.past c.args.exchange.now) (g.E.Exchange.Slotted.past c.take_next.new.exchange)
+    (c.loop-taken._taken + 1) n)
     (sym c.take_next.ensures.counted)
-    (led_more (g.E.Exchange.Slotted.past c.args.exchange.now) (g.E.Exchange.Slotted.past c.loop-taken.exchange) (g.E.Exchange.Slotted.past c.take_next.new.exchange)
+    (led_more (g.E.Exchange.Slotted.past c.args.exchange.now) (g.E.Exchange.Slotted.past c.loop-taken.exchange)
+    (g.E.Exchange.Slotted.past c.take_next.new.exchange)
     c.loop-taken._taken c.loop-taken.noted.rounds c.phase-phase.result c.take_next.result
     c.loop-taken.invariant (c.is_spent.ensures.room c.if-is_spent.false) c.take_next.ensures.past on)
 

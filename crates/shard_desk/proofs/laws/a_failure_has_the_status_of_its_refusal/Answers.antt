@@ -17,7 +17,8 @@ use Rattle.shard_desk.proofs.laws.a_failure_has_the_status_of_its_refusal.Goals 
 
 -- whoever let a deadline pass
 late : (hop_owes source_owes done to_user : Bool) (point : Point)
-    → status_of (if hop_owes then taker to_user else if source_owes then sender point else if done then taker to_user else reasons.ServiceDeadline) ≡ 504
+    → status_of (if hop_owes then taker to_user else if source_owes then sender point else if done then taker to_user else
+    reasons.ServiceDeadline) ≡ 504
 late true source_owes done true point = refl
 late true source_owes done false point = refl
 late false true done to_user Reqmod = refl
@@ -28,7 +29,8 @@ late false false false to_user point = refl
 
 -- whoever the next hop is
 broken : (to_user fresh : Bool) (point : Point)
-    → HasStatus (refusal_status NextHop point) (if to_user then UserGone else if fresh then Failed reasons.OriginRefused else Failed reasons.OriginBroken)
+    → HasStatus (refusal_status NextHop point) (if to_user then UserGone else if fresh then Failed reasons.OriginRefused else Failed
+    reasons.OriginBroken)
 broken true fresh point = tt
 broken false true point = refl
 broken false false point = refl

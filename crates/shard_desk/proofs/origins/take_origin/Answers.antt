@@ -9,7 +9,8 @@ use Rattle.shard_desk.proofs.origins.take_origin.Goals as goal
 -- the one that is taken lay idle there, and its connection is the one that is answered
 pub returns-clause-kept : goal.returns-clause-kept
 returns-clause-kept c =
-    let there = lay_there (λ (idle : KeptOrigin). idle.wire.stream.to ≡ Some c.args.address) (IsFit (λ (idle : KeptOrigin). idle.since) (λ _. ⊤) c.args.now c.args.seconds)
+    let there = lay_there (λ (idle : KeptOrigin). idle.wire.stream.to ≡ Some c.args.address)
+    (IsFit (λ (idle : KeptOrigin). idle.since) (λ _. ⊤) c.args.now c.args.seconds)
     (IsUnfit (λ (idle : KeptOrigin). idle.since) (λ _. ⊤) c.args.now c.args.seconds) _ c.args.kept.now.all.items c.take.new.self.all.items
     c.in_ok-wire.field-0 c.in_ok-wire.ensures.taken in
     (there.0, c.in_ok-wire.field-0, there.1, there.2, refl)

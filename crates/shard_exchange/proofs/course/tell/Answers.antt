@@ -48,7 +48,8 @@ lasting_told : (answered : Bool) (old mid ended new : Course) (end : End) → (a
 lasting_told answered old mid ended new (ends.Answered keeps lasts) begun phase line same told = λ some moving free.
     let here = ap (λ p. is_moving p && not (is_request (point_of p))) phase ∙ moving in
     let busy = ap is_in_use (sym line) ∙ free in
-    same ∙ told keeps lasts refl (may_be_told (is_moving mid.phase) (is_request (point_of mid.phase)) mid.begun (is_in_use mid.connection) lasts here (begun some) busy)
+    same ∙ told keeps lasts refl (may_be_told (is_moving mid.phase) (is_request (point_of mid.phase)) mid.begun (is_in_use mid.connection)
+    lasts here (begun some) busy)
 lasting_told answered old mid ended new (ends.Sent has_memory) begun phase line same told = tt
 lasting_told answered old mid ended new (ends.Withdrawn has_memory) begun phase line same told = tt
 lasting_told answered old mid ended new (ends.Failed why) begun phase line same told = tt
@@ -61,20 +62,24 @@ returns-then-tell_begun-clause-lasting c =
     let served = c.tell_served.ensures in
     let told = c.tell_end.ensures in
     let cut = c.tell_cut.ensures in
-    lasting_told c.args.report.has_answered c.args.course.now c.tell_served.new.course c.tell_end.new.course c.tell_cut.new.course c.args.report.end
+    lasting_told c.args.report.has_answered c.args.course.now c.tell_served.new.course c.tell_end.new.course c.tell_cut.new.course
+    c.args.report.end
     (λ some. served.begun ∙ begun.begun c.if-tell_begun.true some) (served.stays.1 ∙ (begun.stays c.if-tell_begun.true).1)
     (cut.line ∙ told.line) cut.lasts told.lasting
 
 -- the first byte of a response may always be told
-may_begin : (moving request begun offered : Bool) → (moving && not request) ≡ true → begun ≡ false → (moving && (not begun && (not request || offered))) ≡ true
+may_begin : (moving request begun offered : Bool) → (moving && not request) ≡ true → begun ≡ false
+    → (moving && (not begun && (not request || offered))) ≡ true
 may_begin true false false offered h b = refl
 may_begin true false true offered h b = absurd cc
 may_begin true true begun offered h b = absurd cc
 may_begin false request begun offered h b = absurd cc
 
-lost_before : (answered : Bool) (old new : Course) (end : End) → may_come old Begun ≡ false → old.begun ≡ false → LastsAs answered old new end
+lost_before : (answered : Bool) (old new : Course) (end : End) → may_come old Begun ≡ false → old.begun ≡ false
+    → LastsAs answered old new end
 lost_before answered old new (ends.Answered keeps lasts) none begun = λ some moving free.
-    absurd (false≢true (sym none ∙ may_begin (is_moving old.phase) (is_request (point_of old.phase)) old.begun (is_offered old.phase) moving begun))
+    absurd (false≢true (sym none ∙ may_begin (is_moving old.phase) (is_request (point_of old.phase)) old.begun (is_offered old.phase) moving
+    begun))
 lost_before answered old new (ends.Sent has_memory) none begun = tt
 lost_before answered old new (ends.Withdrawn has_memory) none begun = tt
 lost_before answered old new (ends.Failed why) none begun = tt

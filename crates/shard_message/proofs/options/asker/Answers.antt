@@ -26,4 +26,5 @@ of_point waiting config_is config at point service is (Err fault) text = tt
 pub returns-in-Some-clause-asks : goal.returns-in-Some-clause-asks
 returns-in-Some-clause-asks g c =
     let is : service_of c.config.result.now c.args.point ≡ Some c.in-Some.service.now = search rules in
-    of_point (λ side. side.value.waiting) _ c.config.result.now c.config.ensures c.args.point c.in-Some.service.now is c.asker_of.result c.asker_of.ensures.asks
+    of_point (λ side. side.value.waiting) _ c.config.result.now c.config.ensures c.args.point c.in-Some.service.now is c.asker_of.result
+    c.asker_of.ensures.asks

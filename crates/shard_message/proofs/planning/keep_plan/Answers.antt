@@ -37,12 +37,16 @@ returns-in-Ok-clause-planned g c =
       c.limits-limits.result,
       c.limits-limits.ensures,
       c.book-book.result.now,
-      subst (λ z. g.O.Services.book_is c.args.out.now z c.book-book.result.now) (c.point.ensures ∙ ap (λ m. point_of m.user) at) c.book-book.ensures,
+      subst (λ z. g.O.Services.book_is c.args.out.now z c.book-book.result.now) (c.point.ensures ∙ ap (λ m. point_of m.user) at)
+          c.book-book.ensures,
       c.now-now.result,
       c.now-now.ensures,
       c.user_address.result,
       c.user_address.ensures,
-      kept_of (grounds c.config.result.now c.limits-limits.result c.book-book.result.now c.now-now.result c.args.asked c.user_address.result) c.in-Some.message.value c.deref-2.result.now c.deref-in-Ok.result.now c.in-Ok.planned c.keep_planned.new.plan c.keep_planned.result lent again c.in-Ok.ensures.planned c.keep_planned.ensures.kept c.keep_planned.ensures.offered c.keep_planned.ensures.waits c.keep_planned.ensures.repeats,
+      kept_of (grounds c.config.result.now c.limits-limits.result c.book-book.result.now c.now-now.result c.args.asked
+          c.user_address.result) c.in-Some.message.value c.deref-2.result.now c.deref-in-Ok.result.now c.in-Ok.planned
+          c.keep_planned.new.plan c.keep_planned.result lent again c.in-Ok.ensures.planned c.keep_planned.ensures.kept
+          c.keep_planned.ensures.offered c.keep_planned.ensures.waits c.keep_planned.ensures.repeats,
     )
 
 pub returns-in-Err-clause-planned : goal.returns-in-Err-clause-planned
@@ -55,10 +59,15 @@ returns-in-Err-clause-planned g c =
       c.limits-limits.result,
       c.limits-limits.ensures,
       c.book-book.result.now,
-      subst (λ z. g.O.Services.book_is c.args.out.now z c.book-book.result.now) (c.point.ensures ∙ ap (λ m. point_of m.user) at) c.book-book.ensures,
+      subst (λ z. g.O.Services.book_is c.args.out.now z c.book-book.result.now) (c.point.ensures ∙ ap (λ m. point_of m.user) at)
+          c.book-book.ensures,
       c.now-now.result,
       c.now-now.ensures,
       c.user_address.result,
       c.user_address.ensures,
-      (search rules, subst (λ z. HasNoPlan (grounds c.config.result.now c.limits-limits.result c.book-book.result.now c.now-now.result c.args.asked c.user_address.result) z c.in-Err.unplanned) lent c.in-Err.ensures.unplanned),
+      (
+        search rules,
+        subst (λ z. HasNoPlan (grounds c.config.result.now c.limits-limits.result c.book-book.result.now c.now-now.result
+            c.args.asked c.user_address.result) z c.in-Err.unplanned) lent c.in-Err.ensures.unplanned,
+      ),
     )

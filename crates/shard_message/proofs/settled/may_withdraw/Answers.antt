@@ -5,4 +5,8 @@ use Rattle.shard_message.proofs.settled.may_withdraw.Goals as goal
 -- by its counts the connection has given another number of bytes
 pub returns-then-may-clause-bars : goal.returns-then-may-clause-bars
 returns-then-may-clause-bars g c = λ other itself.
-    inr (inl (c.counts.result.0, (λ p past. sym (c.counts.ensures p past).0), (λ same. eqb-false c.counts.result.0 c.args.before other same)))
+    inr (inl (
+      c.counts.result.0,
+      (λ p past. sym (c.counts.ensures p past).0),
+      (λ same. eqb-false c.counts.result.0 c.args.before other same),
+    ))

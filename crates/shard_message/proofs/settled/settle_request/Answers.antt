@@ -8,10 +8,13 @@ pub returns-clause-told : goal.returns-clause-told
 returns-clause-told g c =
     let parts = c.parts_of-stake in
     rw c.settled_of.ensures.report
-    (ends_told _ (λ ends. g.E.Writer.Hop.gift ends.back ≡ nothing) (λ ends. g.E.Reader.Asked.carries_on Done (g.E.Maker.MadeHead.closes ends.maker) ends.source) (λ _. ⊥)
+    (ends_told _ (λ ends. g.E.Writer.Hop.gift ends.back ≡ nothing) (λ ends.
+    g.E.Reader.Asked.carries_on Done (g.E.Maker.MadeHead.closes ends.maker) ends.source) (λ _. ⊥)
     _ parts.result.ends c.args.tx.ends _ c.args.tx.outcome false _ _ c.after_request-sequel.result c.args.by c.report_on-report.result.end
     parts.ensures.ends ((λ (e : false ≡ true). absurd cc), (λ (x : ⊥). absurd x))
-    (λ itself not. rw c.report_on-report.ensures.answered (rw parts.ensures.kept.2 at (c.may_withdraw-may_withdraw.ensures.bars not itself))) (rw parts.ensures.outcome at (rw c.closes-closes.ensures at c.after_request-sequel.ensures.sequel))
+    (λ itself not. rw c.report_on-report.ensures.answered (rw parts.ensures.kept.2 at
+    (c.may_withdraw-may_withdraw.ensures.bars not itself))) (rw parts.ensures.outcome at
+    (rw c.closes-closes.ensures at c.after_request-sequel.ensures.sequel))
     (rw parts.ensures.plan at c.report_on-report.ensures.itself))
 
 pub returns-clause-withdrawn : goal.returns-clause-withdrawn
@@ -20,12 +23,16 @@ returns-clause-withdrawn g c = λ has_memory told.
     rw c.settled_of.ensures.report
     (rw c.report_on-report.ensures.answered
     (rw parts.ensures.kept.2 at
-    (c.may_withdraw-may_withdraw.ensures.may (withdrawn_told _ _ _ _ _ _ _ has_memory c.after_request-sequel.result c.args.by c.report_on-report.result.end
-    c.after_request-sequel.ensures.sequel c.report_on-report.ensures.ends c.report_on-report.ensures.itself (rw c.settled_of.ensures.report at told)))))
+    (c.may_withdraw-may_withdraw.ensures.may (withdrawn_told _ _ _ _ _ _ _ has_memory c.after_request-sequel.result c.args.by
+    c.report_on-report.result.end
+    c.after_request-sequel.ensures.sequel c.report_on-report.ensures.ends c.report_on-report.ensures.itself
+    (rw c.settled_of.ensures.report at told)))))
 
 pub returns-clause-next : goal.returns-clause-next
 returns-clause-next g c =
-    next_told (g.E.Reader.Asked.is_response c.args.tx.ends.source) (g.E.Reader.Asked.is_next c.args.tx.ends.source) (g.E.Reader.Asked.is_again c.args.tx.ends.source)
+    next_told (g.E.Reader.Asked.is_response c.args.tx.ends.source) (g.E.Reader.Asked.is_next c.args.tx.ends.source)
+    (g.E.Reader.Asked.is_again c.args.tx.ends.source)
     _ c.after_request-sequel.result c.args.by c.report_on-report.result.end _ _
-    (rw c.parts_of-stake.ensures.kept.0 at c.after_request-sequel.ensures.brings) c.report_on-report.ensures.ends c.report_on-report.ensures.itself
+    (rw c.parts_of-stake.ensures.kept.0 at c.after_request-sequel.ensures.brings) c.report_on-report.ensures.ends
+    c.report_on-report.ensures.itself
     (ap (λ r. r.end) c.settled_of.ensures.report) c.settled_of.ensures.message c.settled_of.ensures.none

@@ -10,9 +10,11 @@ pub returns-clause-told : goal.returns-clause-told
 returns-clause-told g c =
     let parts = c.parts_of-stake in
     rw c.settled_of.ensures.report
-    (ends_told _ (λ _. ⊥) (λ ends. IfAsked (g.E.Reader.Asked.carries_on Done (g.E.Maker.MadeHead.closes ends.maker)) (g.E.Maker.MadeHead.asked ends.maker))
+    (ends_told _ (λ _. ⊥) (λ ends. IfAsked (g.E.Reader.Asked.carries_on Done (g.E.Maker.MadeHead.closes ends.maker))
+    (g.E.Maker.MadeHead.asked ends.maker))
     (λ ends. g.E.Reader.Answers.lasts (ended_as (shows c.args.tx.hold.history).closed c.args.tx.outcome) ends.source)
-    ⊤ parts.result.ends c.args.tx.ends _ c.args.tx.outcome c.lasts-lasts.result false _ c.after_response-sequel.result c.args.by c.report_on-report.result.end
+    ⊤ parts.result.ends c.args.tx.ends _ c.args.tx.outcome c.lasts-lasts.result false _ c.after_response-sequel.result c.args.by
+    c.report_on-report.result.end
     parts.ensures.ends (rw parts.ensures.outcome at c.lasts-lasts.ensures) (λ itself not. tt)
     (rw parts.ensures.outcome at (rw c.into_asked.ensures at (rw c.closes-closes.ensures at c.after_response-sequel.ensures.sequel)))
     (rw parts.ensures.plan at c.report_on-report.ensures.itself))
@@ -20,9 +22,12 @@ returns-clause-told g c =
 pub returns-clause-next : goal.returns-clause-next
 returns-clause-next g c =
     let parts = c.parts_of-stake in
-    next_told (λ _. ⊥) (λ next. IfAsked (λ user. g.E.Reader.Asked.is_next user next) (g.E.Maker.MadeHead.asked c.args.tx.ends.maker)) (λ _. ⊥)
+    next_told (λ _. ⊥) (λ next. IfAsked (λ user. g.E.Reader.Asked.is_next user next) (g.E.Maker.MadeHead.asked c.args.tx.ends.maker))
+    (λ _. ⊥)
     _ c.after_response-sequel.result c.args.by c.report_on-report.result.end _ _
     (brings_closed (λ _. ⊥) (λ ends next. IfAsked (λ user. g.E.Reader.Asked.is_next user next) (g.E.Maker.MadeHead.asked ends.maker))
     parts.result.ends c.args.tx.ends _ c.args.tx.outcome _ _ _ _ c.after_response-sequel.result
-    parts.ensures.ends (rw parts.ensures.outcome at c.after_response-sequel.ensures.sequel) (rw c.into_asked.ensures at c.after_response-sequel.ensures.brings))
-    c.report_on-report.ensures.ends c.report_on-report.ensures.itself (ap (λ r. r.end) c.settled_of.ensures.report) c.settled_of.ensures.message c.settled_of.ensures.none
+    parts.ensures.ends (rw parts.ensures.outcome at c.after_response-sequel.ensures.sequel)
+    (rw c.into_asked.ensures at c.after_response-sequel.ensures.brings))
+    c.report_on-report.ensures.ends c.report_on-report.ensures.itself (ap (λ r. r.end) c.settled_of.ensures.report)
+    c.settled_of.ensures.message c.settled_of.ensures.none

@@ -17,21 +17,28 @@ returns-in-Ok-new-clause-begins g c =
     let running = c.in-Ok.running in
     let offer : c.into_inner-offer.result ≡ c.in-Some.planned.value = c.into_inner-offer.ensures in
     let message : c.into_inner.result ≡ c.args.message.value = c.into_inner.ensures in
-    subst (λ r. BeginsWith (beginning c.args.room.planned c.args.message.value c.args.manner) c.args.way.source c.args.way.service c.args.way.next r.tx.hold.history r.tx.pace r.tx.ends)
+    subst (λ r. BeginsWith (beginning c.args.room.planned c.args.message.value c.args.manner) c.args.way.source c.args.way.service
+    c.args.way.next r.tx.hold.history r.tx.pace r.tx.ends)
     (sym c.in-Ok-new.ensures.ok)
     (record {
       planned = c.in-Some.planned;
       planned_is = c.in-Some.is;
       may = subst (λ (p : Planned). MayBegin c.args.message.value p.offer (is_some c.args.way.service)) offer
-          (subst (λ (m : Arrival). MayBegin m c.into_inner-offer.result.offer (is_some c.args.way.service)) message (c.in-Ok.ensures.accepts.0 (refl {a = true})));
-      history_is = subst (λ (p : Planned). running.tx.hold.history ≡ record { plan = p.offer.plan; events = [] }) offer c.in-Ok.ensures.begun;
+          (subst (λ (m : Arrival). MayBegin m c.into_inner-offer.result.offer (is_some c.args.way.service)) message
+          (c.in-Ok.ensures.accepts.0 (refl {a = true})));
+      history_is = subst (λ (p : Planned). running.tx.hold.history ≡ record { plan = p.offer.plan; events = [] }) offer
+          c.in-Ok.ensures.begun;
       pace_is = c.in-Ok.ensures.pace;
-      message = subst (λ (m : Arrival). (running.tx.ends.source ≡ m.side) × (running.tx.ends.maker.user ≡ m.user)) message (c.in-Ok.ensures.sides.0, c.in-Ok.ensures.sides.1);
+      message = subst (λ (m : Arrival). (running.tx.ends.source ≡ m.side) × (running.tx.ends.maker.user ≡ m.user)) message
+          (c.in-Ok.ensures.sides.0, c.in-Ok.ensures.sides.1);
       last = c.in-Ok.ensures.sides.2;
-      origin = subst (λ (p : Planned). c.args.message.value.user ≡ None → running.tx.ends.maker.origin ≡ way_by p.route c.args.manner.origin) offer
-          (subst (λ (m : Arrival). m.user ≡ None → running.tx.ends.maker.origin ≡ way_by c.into_inner-offer.result.route c.args.manner.origin) message
+      origin = subst (λ (p : Planned). c.args.message.value.user ≡ None
+          → running.tx.ends.maker.origin ≡ way_by p.route c.args.manner.origin) offer
+          (subst (λ (m : Arrival). m.user ≡ None → running.tx.ends.maker.origin
+          ≡ way_by c.into_inner-offer.result.route c.args.manner.origin) message
           (λ none. c.in-Ok.ensures.origin none ∙ c.way_by.ensures));
-      service = subst (λ (p : Planned). running.tx.ends.service ≡ service_end_of p.offer.side c.args.way.service) offer c.in-Ok.ensures.sides.3;
+      service = subst (λ (p : Planned). running.tx.ends.service ≡ service_end_of p.offer.side c.args.way.service) offer
+          c.in-Ok.ensures.sides.3;
       wires = c.in-Ok.ensures.wires;
     })
 
@@ -44,12 +51,15 @@ returns-in-Ok-new-clause-since g c = λ first ahead since beside came.
     let stands = StandsOver running.tx.hold running.tx.ends running.tx.refusing in
     let start = λ (p : Planned). first_snapshot (text_of p.offer.side) ahead beside first c.args.way.next c.args.way.service in
     let line = wire_of running.tx.ends.service in
-    let began = subst (λ (p : Planned). Since g.W.SourceWire.Wire g.W.ServiceWire.Wire g.W.NextWire.Wire (start p) stands running.tx.ends.source_wire line running.tx.ends.next_wire) offer
+    let began = subst (λ (p : Planned). Since g.W.SourceWire.Wire g.W.ServiceWire.Wire g.W.NextWire.Wire (start p) stands
+    running.tx.ends.source_wire line running.tx.ends.next_wire) offer
     (c.in-Ok.ensures.since first ahead since beside comes) in
     subst (λ r.
-    IfSome c.args.room.planned (λ planned. Since g.W.SourceWire.Wire g.W.ServiceWire.Wire g.W.NextWire.Wire (start planned.value) (StandsOver r.tx.hold r.tx.ends r.tx.refusing) r.tx.ends.source_wire (wire_of r.tx.ends.service) r.tx.ends.next_wire))
+    IfSome c.args.room.planned (λ planned. Since g.W.SourceWire.Wire g.W.ServiceWire.Wire g.W.NextWire.Wire (start planned.value)
+    (StandsOver r.tx.hold r.tx.ends r.tx.refusing) r.tx.ends.source_wire (wire_of r.tx.ends.service) r.tx.ends.next_wire))
     (sym c.in-Ok-new.ensures.ok)
-    (subst (λ (o : Option (Box Planned Global)). IfSome o (λ planned. Since g.W.SourceWire.Wire g.W.ServiceWire.Wire g.W.NextWire.Wire (start planned.value) stands running.tx.ends.source_wire line running.tx.ends.next_wire))
+    (subst (λ (o : Option (Box Planned Global)). IfSome o (λ planned. Since g.W.SourceWire.Wire g.W.ServiceWire.Wire g.W.NextWire.Wire
+    (start planned.value) stands running.tx.ends.source_wire line running.tx.ends.next_wire))
     (sym c.in-Some.is) began)
 
 -- the service's connection is the one that it begins with
@@ -68,9 +78,11 @@ returns-in-Err-new-clause-back g c =
     let may = c.in-Ok.ensures.accepts.0 (refl {a = true}) in
     let tx : c.into_tx.result ≡ running.tx = c.into_tx.ensures ∙ ap (λ r. r.tx) c.in-Err-new.ensures.value_returned in
     let wires = c.left_of.ensures.wires in
-    let line = ap (λ z. wire_of z.ends.service) tx ∙ (ap (λ z. wire_of z) c.in-Ok.ensures.sides.3 ∙ line_is c.into_inner-offer.result.offer.side c.args.way.service may.line) in (
+    let line = ap (λ z. wire_of z.ends.service) tx ∙ (ap (λ z. wire_of z) c.in-Ok.ensures.sides.3
+    ∙ line_is c.into_inner-offer.result.offer.side c.args.way.service may.line) in (
       c.left_of.ensures.room.0,
       c.left_of.ensures.room.1,
       three (λ a b d. record { source = a; service = b; next = d })
-          (wires.0 ∙ (ap (λ z. z.ends.source_wire) tx ∙ c.in-Ok.ensures.wires.0)) (wires.1 ∙ line) (wires.2 ∙ (ap (λ z. z.ends.next_wire) tx ∙ c.in-Ok.ensures.wires.1)),
+          (wires.0 ∙ (ap (λ z. z.ends.source_wire) tx ∙ c.in-Ok.ensures.wires.0)) (wires.1 ∙ line)
+          (wires.2 ∙ (ap (λ z. z.ends.next_wire) tx ∙ c.in-Ok.ensures.wires.1)),
     )

@@ -13,7 +13,8 @@ returns-then-ends g t c =
     let turn = c.turn_side-turned in
     let turned = turn.ensures.turned in
     record {
-      turns = last_turn _ _ _ turn.new.tx c.args.sides.now _ turned.0 turn.result c.in-len1-up.len_at_least turned.1 turned.2 (sym c.ends.ensures ∙ c.if-ends.true);
+      turns = last_turn _ _ _ turn.new.tx c.args.sides.now _ turned.0 turn.result c.in-len1-up.len_at_least turned.1 turned.2
+          (sym c.ends.ensures ∙ c.if-ends.true);
       broken = turn.ensures.broken;
       lasts = turn.ensures.lasts;
     }
@@ -23,7 +24,8 @@ returns-else-ends g t c =
     let turn = c.turn_side-turned in
     let turned = turn.ensures.turned in
     record {
-      turns = more_turns _ _ _ turn.new.tx _ c.args.sides.now _ turned.0 turn.result c.turn_each-rest.result c.joined.result c.in-len1-up.len_at_least turned.1 turned.2
+      turns = more_turns _ _ _ turn.new.tx _ c.args.sides.now _ turned.0 turn.result c.turn_each-rest.result c.joined.result
+          c.in-len1-up.len_at_least turned.1 turned.2
           (sym c.ends.ensures ∙ c.if-ends.false) c.turn_each-rest.ensures.turns c.joined.ensures.adds;
       broken = λ e. c.turn_each-rest.ensures.broken (c.joined.ensures.broken e);
       lasts = λ s h. c.turn_each-rest.ensures.lasts s (turn.ensures.lasts s h);

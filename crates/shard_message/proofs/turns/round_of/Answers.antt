@@ -20,7 +20,11 @@ line_stays opened rounds.Waiting was given n = (refl, refl)
 line_stays opened (rounds.Moved framing) was given n = (refl, refl)
 
 pub returns-in-Broken-clause-turns : goal.returns-in-Broken-clause-turns
-returns-in-Broken-clause-turns g c = (c.now-now.result, c.now-now.ensures, inr (c.turn_each.new.tx, c.in-Broken.ensures.turns, c.renew.ensures.anew))
+returns-in-Broken-clause-turns g c = (
+  c.now-now.result,
+  c.now-now.ensures,
+  inr (c.turn_each.new.tx, c.in-Broken.ensures.turns, c.renew.ensures.anew),
+)
 
 pub returns-in-Broken-clause-carries : goal.returns-in-Broken-clause-carries
 returns-in-Broken-clause-carries g c = λ s h. c.renew.ensures.carries s (c.in-Broken.ensures.lasts s h)

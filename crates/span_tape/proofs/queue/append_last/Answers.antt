@@ -21,5 +21,6 @@ loop-done-preserved c =
       omega (arith, i.1, popped.1, h.count),
       omega (arith, less, test, full, h.count),
       λ lt. omega (arith, less, lt, full, h.count),
-      ap (λ x. take (c.args.at + (l.done + n)) x) (h.text ∙ ap (λ k. down_of l.back ++ (take k (drop l.done c.args.bytes.now) ++ R)) on) ∙ another_page (down_of c.args.back.now) (down_of l.back) _ c.args.bytes.now c.args.at l.done n whole fits i.4,
+      ap (λ x. take (c.args.at + (l.done + n)) x) (h.text ∙ ap (λ k. down_of l.back ++ (take k (drop l.done c.args.bytes.now) ++ R)) on)
+          ∙ another_page (down_of c.args.back.now) (down_of l.back) _ c.args.bytes.now c.args.at l.done n whole fits i.4,
     )

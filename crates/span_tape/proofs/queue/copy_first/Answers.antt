@@ -25,7 +25,8 @@ loop-done-preserved c =
       h.all ∙ i.2,
       λ lt. (
         omega (arith, part.0, more, h.all, h.count, lt),
-        next_text T P (text_of N) c.args.at l.from l.done m h.size (omega (arith, h.count, lt, h.all, i.1, test)) here ∙ ap (λ k. drop (c.args.at + k) T) on,
+        next_text T P (text_of N) c.args.at l.from l.done m h.size (omega (arith, h.count, lt, h.all, i.1, test)) here
+            ∙ ap (λ k. drop (c.args.at + k) T) on,
       ),
       another_copied T P (text_of N) l.out _ c.args.at l.from l.done m h.size fits here i.4 h.text ∙ ap (λ k. take k (drop c.args.at T)) on,
     )

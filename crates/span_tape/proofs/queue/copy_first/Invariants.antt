@@ -11,7 +11,8 @@ abbrev pub invariant-loop-done : goal.invariant-loop-done
 invariant-loop-done l =
     (l.done ≤ length l.out) × (l.from < 4096)
     × (length l.out ≡ length l.fn.out)
-    × (l.done < length l.out → (l.from + (length l.out - l.done) ≤ 4096 * length l.rest) × (drop l.from (text_of l.rest) ≡ drop (l.at + l.done) (text_of l.front)))
+    × (l.done < length l.out → (l.from + (length l.out - l.done) ≤ 4096 * length l.rest)
+    × (drop l.from (text_of l.rest) ≡ drop (l.at + l.done) (text_of l.front)))
     × (take l.done l.out ≡ take l.done (drop l.at (text_of l.front)))
 
 abbrev pub decreases-loop-done : goal.decreases-loop-done

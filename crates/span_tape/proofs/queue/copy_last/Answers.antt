@@ -46,7 +46,8 @@ loop-left-preserved c =
     let parts : r + n ≡ l.left = omega (arith, h.count) in
     let most : l.left ≤ length out = omega (arith, h.all, i.0) in
     let place : at + r ≡ length (down_of N) + (upto - n) = omega (arith, size, c.count.ensures.count, h.count, part.1, more) in
-    let before : drop l.left l.out ≡ take (length out - l.left) (drop (at + l.left) D) = i.4 ∙ ap (λ k. take (k - l.left) (drop (at + l.left) D)) (sym h.all) in (
+    let before : drop l.left l.out ≡ take (length out - l.left) (drop (at + l.left) D) =
+    i.4 ∙ ap (λ k. take (k - l.left) (drop (at + l.left) D)) (sym h.all) in (
       omega (arith, h.all, h.count, i.0),
       h.all ∙ i.1,
       λ lt. (
@@ -54,5 +55,6 @@ loop-left-preserved c =
         omega (arith, part.0, part.1, more, c.count.ensures.count, h.count, lt),
       ),
       before_last D (down_of N) P (4096 * length l.rest.now) (4096 * length N) size less first,
-      copied_before D (down_of N) P (drop r out) (drop l.left l.out) (4096 * length l.rest.now) at l.left r (length out) (upto - n) n first parts most place part.0 before h.text,
+      copied_before D (down_of N) P (drop r out) (drop l.left l.out) (4096 * length l.rest.now) at l.left r (length out) (upto - n) n first
+          parts most place part.0 before h.text,
     )

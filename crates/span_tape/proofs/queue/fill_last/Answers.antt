@@ -15,7 +15,13 @@ returns-clause-text c =
     let size : length piece ≡ n = omega (arith, length-take n c.args.bytes.now, c.min-done.ensures) in
     let old = c.in-Some.ensures.some.1 in
     let count = ap (λ x. length x) old in
-    let front : length D + used ≡ c.args.at = omega (arith, length_down c.pop.new.self, c.count-whole.ensures.text, c.requires.count, count) in
+    let front : length D + used ≡ c.args.at = omega (
+      arith,
+      length_down c.pop.new.self,
+      c.count-whole.ensures.text,
+      c.requires.count,
+      count,
+    ) in
     let low : used ≤ length page = omega (arith, c.in-Some.ensures.size) in
     ap (λ k. take (c.args.at + k) (down_of c.put_last.new.back)) (sym size)
     ∙ ap (λ x. take (c.args.at + length piece) x) c.put_last.ensures.text

@@ -6,7 +6,8 @@ use Rattle.adapt_bytes.proofs.commas.CommaPartsIterator.next.Goals.{After-trim, 
 use Rattle.adapt_bytes.proofs.commas.CommaPartsIterator.next.Goals as goal
 
 -- the part ends at the first comma
-at_comma : (c : After-trim) → parts_left c.args.self.now ≡ c.trim.result.now ∷ comma_parts (take (length c.in_ok-rest.rest.now - (c.in-Some.comma + 1)) (drop (c.in-Some.comma + 1) c.in_ok-rest.rest.now))
+at_comma : (c : After-trim) → parts_left c.args.self.now ≡ c.trim.result.now ∷ comma_parts
+    (take (length c.in_ok-rest.rest.now - (c.in-Some.comma + 1)) (drop (c.in-Some.comma + 1) c.in_ok-rest.rest.now))
 at_comma c =
     let rest = c.in_ok-rest.rest.now in
     let at = c.in-Some.comma in

@@ -11,23 +11,29 @@ skip_original-requires-clause-empty g c =
     none_to_drop _ c.self.invariant c.take.ensures.may.0 keeps
 
 pub skip_original-requires-clause-low : goal.skip_original-requires-clause-low
-skip_original-requires-clause-low g c = (end_of_original _ c.args.event c.take.new.state c.held_original.result c.self.invariant c.take.ensures.may c.take.ensures.taken c.held_original.ensures.held).low
+skip_original-requires-clause-low g c = (end_of_original _ c.args.event c.take.new.state c.held_original.result c.self.invariant
+    c.take.ensures.may c.take.ensures.taken c.held_original.ensures.held).low
 
 pub skip_original-requires-clause-small : goal.skip_original-requires-clause-small
-skip_original-requires-clause-small g c = (end_of_original _ c.args.event c.take.new.state c.held_original.result c.self.invariant c.take.ensures.may c.take.ensures.taken c.held_original.ensures.held).small
+skip_original-requires-clause-small g c = (end_of_original _ c.args.event c.take.new.state c.held_original.result c.self.invariant
+    c.take.ensures.may c.take.ensures.taken c.held_original.ensures.held).small
 
 pub invariant_of-self : goal.invariant_of-self
 invariant_of-self g c =
     let keeps = subst (λ (h : Holding). keeps_original (shows h.history) ≡ false) (sym c.self.view_is) c.requires.keeps in
-    let to = ap (λ (q : ℕ × ℕ). q.1) (held_then _ c.args.event c.take.new.state c.held_original.result c.self.invariant c.take.ensures.may c.take.ensures.taken c.held_original.ensures.held) in
+    let to = ap (λ (q : ℕ × ℕ). q.1) (held_then _ c.args.event c.take.new.state c.held_original.result c.self.invariant c.take.ensures.may
+    c.take.ensures.taken c.held_original.ensures.held) in
     let some = some_bytes c.args.event c.requires.event in
-    (drops_original _ some.bytes c.args.event c.take.new.state c.skip_original.new.self c.self.invariant c.requires.event some.brings keeps c.take.ensures.may c.take.ensures.taken
+    (drops_original _ some.bytes c.args.event c.take.new.state c.skip_original.new.self c.self.invariant c.requires.event some.brings keeps
+    c.take.ensures.may c.take.ensures.taken
     (c.skip_original.ensures ∙ ap (λ (p : ℕ). record c.self.inside.store { original = span_from c.self.inside.store.original p }) to)).tied
 
 pub returns : goal.returns
 returns g c = λ bytes b.
     let keeps = subst (λ (h : Holding). keeps_original (shows h.history) ≡ false) (sym c.self.view_is) c.requires.keeps in
-    let to = ap (λ (q : ℕ × ℕ). q.1) (held_then _ c.args.event c.take.new.state c.held_original.result c.self.invariant c.take.ensures.may c.take.ensures.taken c.held_original.ensures.held) in
-    let closes = drops_original _ bytes c.args.event c.take.new.state c.skip_original.new.self c.self.invariant c.requires.event b keeps c.take.ensures.may c.take.ensures.taken
+    let to = ap (λ (q : ℕ × ℕ). q.1) (held_then _ c.args.event c.take.new.state c.held_original.result c.self.invariant c.take.ensures.may
+    c.take.ensures.taken c.held_original.ensures.held) in
+    let closes = drops_original _ bytes c.args.event c.take.new.state c.skip_original.new.self c.self.invariant c.requires.event b keeps
+    c.take.ensures.may c.take.ensures.taken
     (c.skip_original.ensures ∙ ap (λ (p : ℕ). record c.self.inside.store { original = span_from c.self.inside.store.original p }) to) in
     took _ _ _ c.args.event bytes c.self.view_is c.take.ensures.may closes

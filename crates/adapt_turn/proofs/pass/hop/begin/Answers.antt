@@ -4,10 +4,20 @@ use Rattle.adapt_turn.specs.ChosenHead.{MakesAt}
 use Rattle.adapt_turn.proofs.pass.hop.begin.Goals as goal
 
 pub returns-then-not-is_idle-clause-begun : goal.returns-then-not-is_idle-clause-begun
-returns-then-not-is_idle-clause-begun g c = inl (record { unasked = refl; busy = λ n b. c.is_idle.ensures.busy c.if-not-is_idle.true n; next_is = refl; back_is = refl })
+returns-then-not-is_idle-clause-begun g c = inl (record {
+  unasked = refl;
+  busy = λ n b. c.is_idle.ensures.busy c.if-not-is_idle.true n;
+  next_is = refl;
+  back_is = refl;
+})
 
 pub returns-then-not-is_idle-2-clause-begun : goal.returns-then-not-is_idle-2-clause-begun
-returns-then-not-is_idle-2-clause-begun g c = inl (record { unasked = refl; busy = λ n b. c.is_idle-2.ensures.busy c.if-not-is_idle-2.true b; next_is = refl; back_is = refl })
+returns-then-not-is_idle-2-clause-begun g c = inl (record {
+  unasked = refl;
+  busy = λ n b. c.is_idle-2.ensures.busy c.if-not-is_idle-2.true b;
+  next_is = refl;
+  back_is = refl;
+})
 
 pub returns-then-answers-clause-begun : goal.returns-then-answers-clause-begun
 returns-then-answers-clause-begun g c = inr (inr (record {
@@ -18,7 +28,8 @@ returns-then-answers-clause-begun g c = inr (inr (record {
   gift = c.begin.ensures.gift;
   fault = c.begin.ensures.fault;
   head = c.in-Ok.head.items;
-  made = subst (λ z. MakesAt g.E.Maker.MakesHead g.E.Client.Service c.forwarded.new.maker (g.E.Reader.Source.head c.args.source.now) c.args.service.now (shows c.args.hold.now.history) c.in-Ok.head.items z) (sym c.begin.ensures.framing) c.in-Ok.ensures.made;
+  made = subst (λ z. MakesAt g.E.Maker.MakesHead g.E.Client.Service c.forwarded.new.maker (g.E.Reader.Source.head c.args.source.now)
+      c.args.service.now (shows c.args.hold.now.history) c.in-Ok.head.items z) (sym c.begin.ensures.framing) c.in-Ok.ensures.made;
   given = c.begin.ensures.given;
 }))
 
@@ -31,6 +42,8 @@ returns-else-answers-clause-begun g c = inr (inl (record {
   gift = c.begin-else-answers.ensures.gift;
   fault = c.begin-else-answers.ensures.fault;
   head = c.in-Ok.head.items;
-  made = subst (λ z. MakesAt g.E.Maker.MakesHead g.E.Client.Service c.forwarded.new.maker (g.E.Reader.Source.head c.args.source.now) c.args.service.now (shows c.args.hold.now.history) c.in-Ok.head.items z) (sym c.begin-else-answers.ensures.framing) c.in-Ok.ensures.made;
+  made = subst (λ z. MakesAt g.E.Maker.MakesHead g.E.Client.Service c.forwarded.new.maker (g.E.Reader.Source.head c.args.source.now)
+      c.args.service.now (shows c.args.hold.now.history) c.in-Ok.head.items z) (sym c.begin-else-answers.ensures.framing)
+      c.in-Ok.ensures.made;
   given = c.begin-else-answers.ensures.given;
 }))

@@ -13,39 +13,51 @@ use Rattle.adapt_turn.proofs.Reasons.{cause_of, cause_weaker, giving_weaker, nev
 use Rattle.adapt_turn.proofs.pass.hop.give.Goals as goal
 
 pub write_turn-requires : goal.write_turn-requires
-write_turn-requires g c = passes.keeps_undelivered_at c.args.hold.now c.state-state.result.now c.tape_of-tape.result.now c.state-state.ensures.tied c.state-state.ensures.state c.tape_of-tape.ensures.tape
+write_turn-requires g c = passes.keeps_undelivered_at c.args.hold.now c.state-state.result.now c.tape_of-tape.result.now
+    c.state-state.ensures.tied c.state-state.ensures.state c.tape_of-tape.ensures.tape
 
 pub step_all-requires : goal.step_all-requires
 step_all-requires g c =
     let b = c.in-Ok.ensures.turn in
     let h = c.args.hold.now in
     subst (λ (es : List Event). MayRun h es []) (sym c.as_slice.ensures.value)
-    (passes.hop_runs h c.in-Ok.turn.events.items c.requires.roomy (subst (λ (y : History). MayAllFollow (shows y) c.in-Ok.turn.events.items) c.state-state.ensures.state b.legal) b.only)
+    (passes.hop_runs h c.in-Ok.turn.events.items c.requires.roomy (subst (λ (y : History). MayAllFollow (shows y) c.in-Ok.turn.events.items)
+    c.state-state.ensures.state b.legal) b.only)
 
 pub returns-in-Ok-clause-reports : goal.returns-in-Ok-clause-reports
 returns-in-Ok-clause-reports g c =
-    passes.hop_took g.K.Hop g.W.Wire (lending c.args.hold.now c.args.hop.now c.args.wire.now) (lending c.step_all.new.hold c.write_turn.new.self c.write_turn.new.wire) c.state-state.result.now c.tape_of-tape.result.now c.in-Ok.turn c.as_slice.result.now c.went_on.result
-    c.requires.roomy c.requires.running c.requires.chosen c.state-state.ensures.state c.tape_of-tape.ensures.tape c.as_slice.ensures.value c.in-Ok.ensures.turn c.step_all.ensures.stepped c.went_on.ensures
+    passes.hop_took g.K.Hop g.W.Wire (lending c.args.hold.now c.args.hop.now c.args.wire.now)
+    (lending c.step_all.new.hold c.write_turn.new.self c.write_turn.new.wire) c.state-state.result.now c.tape_of-tape.result.now
+    c.in-Ok.turn c.as_slice.result.now c.went_on.result
+    c.requires.roomy c.requires.running c.requires.chosen c.state-state.ensures.state c.tape_of-tape.ensures.tape c.as_slice.ensures.value
+    c.in-Ok.ensures.turn c.step_all.ensures.stepped c.went_on.ensures
 
 pub returns-in-Err-clause-reports : goal.returns-in-Err-clause-reports
 returns-in-Err-clause-reports g c =
-    passes.hop_failed g.K.Hop g.W.Wire (lending c.args.hold.now c.args.hop.now c.args.wire.now) (lending c.close.new.hold c.write_turn.new.self c.write_turn.new.wire) c.state-state.result.now c.tape_of-tape.result.now c.in-Err.fault c.hop_cause.result c.close.result
-    c.requires.roomy c.requires.running c.requires.chosen c.state-state.ensures.state c.tape_of-tape.ensures.tape c.in-Err.ensures.turn c.hop_cause.ensures c.close.ensures.passed c.close.ensures.moved
+    passes.hop_failed g.K.Hop g.W.Wire (lending c.args.hold.now c.args.hop.now c.args.wire.now)
+    (lending c.close.new.hold c.write_turn.new.self c.write_turn.new.wire) c.state-state.result.now c.tape_of-tape.result.now
+    c.in-Err.fault c.hop_cause.result c.close.result
+    c.requires.roomy c.requires.running c.requires.chosen c.state-state.ensures.state c.tape_of-tape.ensures.tape c.in-Err.ensures.turn
+    c.hop_cause.ensures c.close.ensures.passed c.close.ensures.moved
 
 pub returns-in-Ok-clause-reason : goal.returns-in-Ok-clause-reason
 returns-in-Ok-clause-reason g c =
     let new = c.write_turn.new.self in
-    subst (λ (y : History). HasFaultReason (g.K.Hop.fault c.args.hop.now) (g.K.Hop.fault new) (FailsGiving (g.K.Hop.breaks_length (shows y) (g.K.Hop.body_framing new)))) c.state-state.ensures.state
+    subst (λ (y : History). HasFaultReason (g.K.Hop.fault c.args.hop.now) (g.K.Hop.fault new)
+    (FailsGiving (g.K.Hop.breaks_length (shows y) (g.K.Hop.body_framing new)))) c.state-state.ensures.state
     (cause_weaker _ _ _ _ (giving_weaker _ _) (cause_of _ _ _ _ c.in-Ok.ensures.turn.fault c.in-Ok.ensures.reason))
 
 pub returns-in-Err-clause-reason : goal.returns-in-Err-clause-reason
 returns-in-Err-clause-reason g c =
     let new = c.write_turn.new.self in
-    subst (λ (y : History). HasFaultReason (g.K.Hop.fault c.args.hop.now) (g.K.Hop.fault new) (FailsGiving (g.K.Hop.breaks_length (shows y) (g.K.Hop.body_framing new)))) c.state-state.ensures.state
+    subst (λ (y : History). HasFaultReason (g.K.Hop.fault c.args.hop.now) (g.K.Hop.fault new)
+    (FailsGiving (g.K.Hop.breaks_length (shows y) (g.K.Hop.body_framing new)))) c.state-state.ensures.state
     (cause_weaker _ _ _ _ (giving_weaker _ _) (cause_of _ _ _ _ c.in-Err.ensures.turn.fault c.in-Err.ensures.reason))
 
 pub returns-in-Ok-clause-again : goal.returns-in-Ok-clause-again
 returns-in-Ok-clause-again g c = λ had e. never_err c.in-Ok.turn had _ (c.in-Ok.ensures.turn.fault.again had e)
 
 pub returns-in-Err-clause-again : goal.returns-in-Err-clause-again
-returns-in-Err-clause-again g c = λ had e. ap (λ (z : PassAnswer). z.failed) c.close.ensures.passed ∙ ap (λ (f : Cause). Some f) (c.hop_cause.ensures ∙ ap hop_cause (same_err c.in-Err.fault had (c.in-Err.ensures.turn.fault.again had e)))
+returns-in-Err-clause-again g c = λ had e. ap (λ (z : PassAnswer). z.failed) c.close.ensures.passed
+    ∙ ap (λ (f : Cause). Some f) (c.hop_cause.ensures ∙ ap hop_cause (same_err c.in-Err.fault had
+    (c.in-Err.ensures.turn.fault.again had e)))

@@ -11,30 +11,43 @@ step_all-requires g c =
     let h = c.args.hold.now in
     let keeps = c.in-Ok.ensures.keeps in
     let l : length c.read_turn.new.out ≤ service_room h = omega (arith, c.requires.room, keeps) in
-    passes.hear_runs g.V.Service g.W.Wire (lending h c.args.service.now c.args.wire.now) (lending h c.read_turn.new.self c.read_turn.new.wire) c.state-state.result.now c.in-Ok.turn c.as_slice.result.now (length c.args.out.now) c.read_turn.new.out c.state-state.ensures.tied c.requires.roomy c.state-state.ensures.state c.as_slice.ensures.value l c.in-Ok.ensures.turn
+    passes.hear_runs g.V.Service g.W.Wire (lending h c.args.service.now c.args.wire.now)
+    (lending h c.read_turn.new.self c.read_turn.new.wire) c.state-state.result.now c.in-Ok.turn c.as_slice.result.now
+    (length c.args.out.now) c.read_turn.new.out c.state-state.ensures.tied c.requires.roomy c.state-state.ensures.state
+    c.as_slice.ensures.value l c.in-Ok.ensures.turn
 
 pub returns-in-Ok-clause-reports : goal.returns-in-Ok-clause-reports
 returns-in-Ok-clause-reports g c =
     let h = c.args.hold.now in
     let keeps = c.in-Ok.ensures.keeps in
     let l : length c.read_turn.new.out ≤ service_room h = omega (arith, c.requires.room, keeps) in
-    passes.hear_took g.V.Service g.W.Wire (lending h c.args.service.now c.args.wire.now) (lending c.step_all.new.hold c.read_turn.new.self c.read_turn.new.wire) c.state-state.result.now c.in-Ok.turn c.as_slice.result.now c.read_turn.new.out (length c.args.out.now) c.went_on.result
-    c.requires.room c.state-state.ensures.tied c.requires.roomy c.state-state.ensures.state c.as_slice.ensures.value l c.in-Ok.ensures.turn c.step_all.ensures.stepped c.went_on.ensures
+    passes.hear_took g.V.Service g.W.Wire (lending h c.args.service.now c.args.wire.now)
+    (lending c.step_all.new.hold c.read_turn.new.self c.read_turn.new.wire) c.state-state.result.now c.in-Ok.turn c.as_slice.result.now
+    c.read_turn.new.out (length c.args.out.now) c.went_on.result
+    c.requires.room c.state-state.ensures.tied c.requires.roomy c.state-state.ensures.state c.as_slice.ensures.value l c.in-Ok.ensures.turn
+    c.step_all.ensures.stepped c.went_on.ensures
 
 pub returns-in-Err-clause-reports : goal.returns-in-Err-clause-reports
 returns-in-Err-clause-reports g c =
-    passes.hear_failed g.V.Service g.W.Wire (lending c.args.hold.now c.args.service.now c.args.wire.now) (lending c.service_failed.new.hold c.read_turn.new.self c.read_turn.new.wire) c.state-state.result.now c.in-Err.fault c.read_turn.new.out (length c.args.out.now) c.service_failed.result
-    c.requires.room c.requires.roomy c.requires.running c.state-state.ensures.state c.in-Err.ensures.turn c.service_failed.ensures.broken c.service_failed.ensures.closed
+    passes.hear_failed g.V.Service g.W.Wire (lending c.args.hold.now c.args.service.now c.args.wire.now)
+    (lending c.service_failed.new.hold c.read_turn.new.self c.read_turn.new.wire) c.state-state.result.now c.in-Err.fault
+    c.read_turn.new.out (length c.args.out.now) c.service_failed.result
+    c.requires.room c.requires.roomy c.requires.running c.state-state.ensures.state c.in-Err.ensures.turn c.service_failed.ensures.broken
+    c.service_failed.ensures.closed
 
 pub returns-in-Err-clause-unbroken : goal.returns-in-Err-clause-unbroken
-returns-in-Err-clause-unbroken g c = passes.unbroken_by c.args.hold.now c.service_failed.new.hold c.args.reused c.in-Err.fault _ c.service_failed.result c.service_failed.result.broken refl (c.in-Err.ensures.turn.fault.stays c.in-Err.fault refl) c.service_failed.ensures.broken c.service_failed.ensures.unbroken
+returns-in-Err-clause-unbroken g c = passes.unbroken_by c.args.hold.now c.service_failed.new.hold c.args.reused c.in-Err.fault _
+    c.service_failed.result c.service_failed.result.broken refl (c.in-Err.ensures.turn.fault.stays c.in-Err.fault refl)
+    c.service_failed.ensures.broken c.service_failed.ensures.unbroken
 
 pub returns-in-Ok-clause-reason : goal.returns-in-Ok-clause-reason
 returns-in-Ok-clause-reason g c =
-    subst (λ (y : History). HasFaultReason (g.V.Service.fault c.args.service.now) (g.V.Service.fault c.read_turn.new.self) (λ fault. g.V.Service.has_reason fault (shows y) c.read_turn.new.self)) c.state-state.ensures.state
+    subst (λ (y : History). HasFaultReason (g.V.Service.fault c.args.service.now) (g.V.Service.fault c.read_turn.new.self)
+    (λ fault. g.V.Service.has_reason fault (shows y) c.read_turn.new.self)) c.state-state.ensures.state
     (cause_of _ _ _ _ c.in-Ok.ensures.turn.fault c.in-Ok.ensures.reason)
 
 pub returns-in-Err-clause-reason : goal.returns-in-Err-clause-reason
 returns-in-Err-clause-reason g c =
-    subst (λ (y : History). HasFaultReason (g.V.Service.fault c.args.service.now) (g.V.Service.fault c.read_turn.new.self) (λ fault. g.V.Service.has_reason fault (shows y) c.read_turn.new.self)) c.state-state.ensures.state
+    subst (λ (y : History). HasFaultReason (g.V.Service.fault c.args.service.now) (g.V.Service.fault c.read_turn.new.self)
+    (λ fault. g.V.Service.has_reason fault (shows y) c.read_turn.new.self)) c.state-state.ensures.state
     (cause_of _ _ _ _ c.in-Err.ensures.turn.fault c.in-Err.ensures.reason)

@@ -22,7 +22,8 @@ returns-then-agrees_with-clause-passes g c =
     let d = c.read_source.ensures.reports in
     let whole = c.read_source.ensures.whole in
     let tied = c.state-state.ensures.tied in
-    let yes = subst (λ (y : History). g.S.Source.agrees (shows y) c.args.source.now) c.state-state.ensures.state (c.agrees_with.ensures.yes c.if-agrees_with.true) in
+    let yes = subst (λ (y : History). g.S.Source.agrees (shows y) c.args.source.now) c.state-state.ensures.state
+    (c.agrees_with.ensures.yes c.if-agrees_with.true) in
     record {
       did = inl (yes, d);
       tied = tied;
@@ -53,7 +54,9 @@ returns-else-agrees_with-clause-passes g c =
     let tied = c.state-state.ensures.tied in
     let is = c.close.ensures.moved in
     let same = c.close.ensures.passed in
-    let no : g.S.Source.agrees (shows h.history) c.args.source.now → ⊥ = λ a. c.agrees_with.ensures.no c.if-agrees_with.false (subst (λ (y : History). g.S.Source.agrees (shows y) c.args.source.now) (sym c.state-state.ensures.state) a) in
+    let no : g.S.Source.agrees (shows h.history) c.args.source.now → ⊥ =
+    λ a. c.agrees_with.ensures.no c.if-agrees_with.false (subst (λ (y : History). g.S.Source.agrees (shows y) c.args.source.now)
+    (sym c.state-state.ensures.state) a) in
     let waits : c.close.result.waiting ≡ true → ⊥ = λ e. false≢true (sym (ap (λ (z : PassAnswer). z.waiting) same) ∙ e) in
     let failed : Some causes.Source ≡ c.close.result.failed = sym (ap (λ (z : PassAnswer). z.failed) same) in
     let unfailed : c.close.result.failed ≡ None → ⊥ = λ n. (let d : Some causes.Source ≡ None = failed ∙ n in cc) in
@@ -69,7 +72,8 @@ returns-else-agrees_with-clause-passes g c =
       active = λ w. untouched_or _ _ (fail_advances Source h k causes.Source c.requires.running is);
       blames = λ cause e. (λ a. absurd (no a), λ n. (let d : Some causes.Source ≡ Some cause = failed ∙ e in cc));
       reason = cause_none _ _ _ refl;
-      of_side = λ cause e. (let d : Some causes.Source ≡ Some cause = failed ∙ e in let s : causes.Source ≡ cause = cc in subst IsOfSide s tt);
+      of_side = λ cause e. (let d : Some causes.Source ≡ Some cause = failed ∙ e in let s : causes.Source ≡ cause = cc in
+          subst IsOfSide s tt);
       over = λ cause e. failed_closed h k causes.Source tied c.requires.running is;
       ends = ap outcome_by (sym failed) ∙ failed_told h k causes.Source is;
       sound = λ n. absurd (unfailed n);

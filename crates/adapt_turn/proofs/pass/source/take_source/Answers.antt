@@ -14,20 +14,27 @@ step_all-requires g c =
     let keeps = c.in-Ok.ensures.keeps in
     let l : length c.read_turn.new.out ≤ source_room h = omega (arith, c.requires.room, keeps) in
     subst (λ (es : List Event). MayRun h es c.read_turn.new.out) (sym c.as_slice.ensures.value)
-    (passes.source_runs h c.in-Ok.turn.events.items c.read_turn.new.out c.state-state.ensures.tied c.requires.roomy (b.legal (shows h.history) c.requires.agrees c.requires.running).0 b.only b.count l)
+    (passes.source_runs h c.in-Ok.turn.events.items c.read_turn.new.out c.state-state.ensures.tied c.requires.roomy
+    (b.legal (shows h.history) c.requires.agrees c.requires.running).0 b.only b.count l)
 
 pub returns-in-Ok-clause-reports : goal.returns-in-Ok-clause-reports
 returns-in-Ok-clause-reports g c =
     let h = c.args.hold.now in
     let keeps = c.in-Ok.ensures.keeps in
     let l : length c.read_turn.new.out ≤ source_room h = omega (arith, c.requires.room, keeps) in
-    passes.source_took g.S.Source g.A.Wire (lending h c.args.source.now c.args.wire.now) (lending c.step_all.new.hold c.read_turn.new.self c.read_turn.new.wire) c.in-Ok.turn c.as_slice.result.now c.read_turn.new.out (length c.args.out.now) c.went_on.result
-    c.requires.room c.state-state.ensures.tied c.requires.roomy c.requires.running c.requires.agrees l c.as_slice.ensures.value c.in-Ok.ensures.turn c.step_all.ensures.stepped c.went_on.ensures
+    passes.source_took g.S.Source g.A.Wire (lending h c.args.source.now c.args.wire.now)
+    (lending c.step_all.new.hold c.read_turn.new.self c.read_turn.new.wire) c.in-Ok.turn c.as_slice.result.now c.read_turn.new.out
+    (length c.args.out.now) c.went_on.result
+    c.requires.room c.state-state.ensures.tied c.requires.roomy c.requires.running c.requires.agrees l c.as_slice.ensures.value
+    c.in-Ok.ensures.turn c.step_all.ensures.stepped c.went_on.ensures
 
 pub returns-in-Err-clause-reports : goal.returns-in-Err-clause-reports
 returns-in-Err-clause-reports g c =
-    passes.source_failed g.S.Source g.A.Wire (lending c.args.hold.now c.args.source.now c.args.wire.now) (lending c.close.new.hold c.read_turn.new.self c.read_turn.new.wire) c.in-Err.fault c.read_turn.new.out (length c.args.out.now) c.source_cause.result c.close.result
-    c.requires.room c.requires.roomy c.requires.running c.requires.agrees c.in-Err.ensures.turn c.source_cause.ensures c.close.ensures.passed c.close.ensures.moved
+    passes.source_failed g.S.Source g.A.Wire (lending c.args.hold.now c.args.source.now c.args.wire.now)
+    (lending c.close.new.hold c.read_turn.new.self c.read_turn.new.wire) c.in-Err.fault c.read_turn.new.out (length c.args.out.now)
+    c.source_cause.result c.close.result
+    c.requires.room c.requires.roomy c.requires.running c.requires.agrees c.in-Err.ensures.turn c.source_cause.ensures
+    c.close.ensures.passed c.close.ensures.moved
 
 pub returns-in-Ok-clause-reason : goal.returns-in-Ok-clause-reason
 returns-in-Ok-clause-reason g c = cause_of _ _ _ _ c.in-Ok.ensures.turn.fault c.in-Ok.ensures.reason

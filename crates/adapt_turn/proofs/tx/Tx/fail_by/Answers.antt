@@ -7,10 +7,13 @@ use Rattle.adapt_turn.proofs.tx.Tx.fail_by.Goals as goal
 pub returns-clause-goes : goal.returns-clause-goes
 returns-clause-goes g c =
     let tx = c.args.self.now in
-    let views : SideViews = views_by g.E.Reader.Source g.E.Client.Service g.E.Writer.Hop (g.E.Maker.MakesHead.makes tx.ends.maker) tx.ends.source tx.ends.service tx.ends.next tx.ends.back tx.refusing in
+    let views : SideViews = views_by g.E.Reader.Source g.E.Client.Service g.E.Writer.Hop (g.E.Maker.MakesHead.makes tx.ends.maker)
+    tx.ends.source tx.ends.service tx.ends.next tx.ends.back tx.refusing in
     goes_then
     (fail_goes tx.hold c.fail.new.hold c.args.cause views views _ (record { hops = λ body to_next to_back p. p; refuses = λ r. r })
-    (others_by g.E.Reader.Source g.E.Client.Service g.E.Writer.Hop (g.E.Maker.MakesHead.makes tx.ends.maker) g.met.E.Reader.Source.others_agree g.met.E.Reader.Source.others g.met.E.Client.Service.others_sent g.met.E.Client.Service.others_heard g.met.E.Writer.Hop.others tx.ends.source tx.ends.service tx.ends.next tx.ends.back tx.refusing)
+    (others_by g.E.Reader.Source g.E.Client.Service g.E.Writer.Hop (g.E.Maker.MakesHead.makes tx.ends.maker)
+    g.met.E.Reader.Source.others_agree g.met.E.Reader.Source.others g.met.E.Client.Service.others_sent
+    g.met.E.Client.Service.others_heard g.met.E.Writer.Hop.others tx.ends.source tx.ends.service tx.ends.next tx.ends.back tx.refusing)
     c.state-state.ensures.tied tx.roomy c.requires.running c.fail.ensures.moved)
     c.refuse.ensures.goes
 

@@ -26,4 +26,5 @@ pub returns-then-is_idle-clause-silent : goal.returns-then-is_idle-clause-silent
 returns-then-is_idle-clause-silent g c e =
     let w = c.args.self.now in
     let next = c.args.next.now in
-    none_offered w c.args.tape.now next (c.is_idle.ensures.out c.if-is_idle.true) (c.is_idle.ensures.none c.if-is_idle.true) (c.is_idle.ensures.silent c.if-is_idle.true)
+    none_offered w c.args.tape.now next (c.is_idle.ensures.out c.if-is_idle.true) (c.is_idle.ensures.none c.if-is_idle.true)
+    (c.is_idle.ensures.silent c.if-is_idle.true)

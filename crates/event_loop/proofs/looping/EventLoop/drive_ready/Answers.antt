@@ -12,7 +12,8 @@ loop-key-preserved g c =
     elim c.if-has.branch [
       | then-has+in_ok-read_clock w ↦
           rw w.self-is
-          (ready_driven g.K.Work c.args.self.now c.loop-key.self w.read_clock.new.self _ w.drive_now.new.self c.loop-key.key c.loop-key.invariant
+          (ready_driven g.K.Work c.args.self.now c.loop-key.self w.read_clock.new.self _ w.drive_now.new.self c.loop-key.key
+          c.loop-key.invariant
           w.read_clock.ensures refl refl w.take.ensures.count w.take.ensures.others w.drive_now.ensures)
       | else-has w ↦
           rw w.self-is

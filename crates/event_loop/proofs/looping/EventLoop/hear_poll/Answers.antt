@@ -9,5 +9,6 @@ use Rattle.event_loop.proofs.looping.EventLoop.hear_poll.Goals as goal
 pub returns : goal.returns
 returns g c =
     does_one g.K.Work c.args.self.now _ (Heard _)
-    (subst (λ (whole : Bool). Adds (g.K.Work.past c.args.self.now.work) (g.K.Work.past c.heard.new.self) (Heard whole)) c.is_whole.ensures c.heard.ensures.past)
+    (subst (λ (whole : Bool). Adds (g.K.Work.past c.args.self.now.work) (g.K.Work.past c.heard.new.self) (Heard whole)) c.is_whole.ensures
+    c.heard.ensures.past)
     (λ x key. (refl, refl, tt)) c.heard.ensures.kept refl refl

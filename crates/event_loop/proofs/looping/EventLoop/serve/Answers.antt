@@ -10,21 +10,28 @@ same_pair : {x y : ℕ × Peer} → Some x ≡ Some y → x ≡ y
 same_pair e = cc
 
 same_named : {k n : ℕ} {p q : Peer} → let x : ℕ × Peer = (k, p) in let y : ℕ × Peer = (n, q) in Some x ≡ Some y → (k ≡ n) × (p ≡ q)
-same_named {k} {n} {p} {q} e = let x : ℕ × Peer = (k, p) in let y : ℕ × Peer = (n, q) in let f : x ≡ y = same_pair e in (ap (λ (z : ℕ × Peer). z.0) f, ap (λ (z : ℕ × Peer). z.1) f)
+same_named {k} {n} {p} {q} e = let x : ℕ × Peer = (k, p) in let y : ℕ × Peer = (n, q) in let f : x ≡ y = same_pair e in
+    (ap (λ (z : ℕ × Peer). z.0) f, ap (λ (z : ℕ × Peer). z.1) f)
 
 pub returns-in-Some-note : goal.returns-in-Some-note
 returns-in-Some-note g c =
     let number = c.in-Some.number in
     let peer = c.in-Some.peer in
     let key = c.in-Some-note.key in
-    did_mark g.K.Work c.args.self.now _ (Noted number peer c.args.event.told (Some key)) key c.in-Some-note.ensures.past (λ x k. (refl, refl, tt))
+    did_mark g.K.Work c.args.self.now _ (Noted number peer c.args.event.told (Some key)) key c.in-Some-note.ensures.past
+    (λ x k. (refl, refl, tt))
     c.in-Some-note.ensures.kept c.in-Some-note.ensures.there c.add.ensures.marked c.add.ensures.others c.add.ensures.count refl
-    (λ due. (served_news c.args.event number peer key _ (λ n p e. same_named (c.in-Some.ensures n p e)) (Noted number peer c.args.event.told (Some key) ∷ []) due, (tt, tt)))
+    (λ due. (
+      served_news c.args.event number peer key _ (λ n p e. same_named (c.in-Some.ensures n p e))
+          (Noted number peer c.args.event.told (Some key) ∷ []) due,
+      (tt, tt),
+    ))
 
 pub returns-in-None-note : goal.returns-in-None-note
 returns-in-None-note g c =
     did_is g.K.Work c.args.self.now _ (Noted c.in-Some.number c.in-Some.peer c.args.event.told None ∷ [])
-    (does_one g.K.Work c.args.self.now _ (Noted c.in-Some.number c.in-Some.peer c.args.event.told None) c.in-None-note.ensures.past (λ x key. (refl, refl, tt)) c.in-None-note.ensures.kept refl refl)
+    (does_one g.K.Work c.args.self.now _ (Noted c.in-Some.number c.in-Some.peer c.args.event.told None) c.in-None-note.ensures.past
+    (λ x key. (refl, refl, tt)) c.in-None-note.ensures.kept refl refl)
     (served_still c.args.event c.in-Some.number c.in-Some.peer _ (λ n p e. same_named (c.in-Some.ensures n p e)), (tt, tt))
 
 none_some : {x : ℕ × Peer} → None ≡ Some x → ⊥

@@ -9,7 +9,8 @@ pub returns-in-Waits-clause-out : goal.returns-in-Waits-clause-out
 returns-in-Waits-clause-out g c =
     hands_on g.M.Mail c.args.mail.now c.loop.mail c.hand.new.mail c.args.own c.args.self.now.loops c.next.new.self.loops
     c.args.self.now.accepted c.loop.self.accepted c.next.new.self.accepted c.hand.new.self.accepted c.loop.came false c.loop.came
-    (c.next.ensures.kept.1 ∙ c.loop.invariant.loops) c.next.ensures.kept.0 c.loop.invariant.out c.in-Waits.ensures.out (λ none. (none, refl))
+    (c.next.ensures.kept.1 ∙ c.loop.invariant.loops) c.next.ensures.kept.0 c.loop.invariant.out c.in-Waits.ensures.out
+    (λ none. (none, refl))
 
 pub loop-preserved : goal.loop-preserved
 loop-preserved g c =
@@ -27,7 +28,8 @@ loop-preserved g c =
           rw (w.self-is, w.mail-is, w.came-is)
           (record {
             out = hands_on g.M.Mail c.args.mail.now c.loop.mail w.hand.new.mail c.args.own c.args.self.now.loops c.next.new.self.loops
-                c.args.self.now.accepted c.loop.self.accepted c.next.new.self.accepted w.hand.new.self.accepted c.loop.came false c.loop.came
+                c.args.self.now.accepted c.loop.self.accepted c.next.new.self.accepted w.hand.new.self.accepted c.loop.came false
+                c.loop.came
                 (c.next.ensures.kept.1 ∙ c.loop.invariant.loops) c.next.ensures.kept.0 c.loop.invariant.out w.in-Other.ensures.out
                 (λ none. (none, refl));
             loops = w.in-Other.ensures.loops ∙ (c.next.ensures.kept.1 ∙ c.loop.invariant.loops);
@@ -35,7 +37,8 @@ loop-preserved g c =
       | in-Gone w ↦
           rw (w.self-is, w.mail-is, w.came-is)
           (record {
-            out = subst (λ (n : ℕ). HandsOut g.M.Mail c.args.mail.now c.loop.mail c.args.own c.args.self.now.loops c.args.self.now.accepted n c.loop.came)
+            out = subst (λ (n : ℕ). HandsOut g.M.Mail c.args.mail.now c.loop.mail c.args.own c.args.self.now.loops c.args.self.now.accepted
+                n c.loop.came)
                 (sym c.next.ensures.kept.0) c.loop.invariant.out;
             loops = c.next.ensures.kept.1 ∙ c.loop.invariant.loops;
           })

@@ -5,4 +5,5 @@ use Rattle.http_relay.proofs.hop.HopWriter.begin.Goals as goal
 
 pub returns-clause-given : goal.returns-clause-given
 returns-clause-given c = λ x none body taken h.
-    begun x none c.args.head.items body taken c.args.framing c.args.self.now c.new.result c.self.inside.touched c.self.inside.fault c.self.inside.turn c.requires c.new.ensures (ap (λ (k : Hop). k.touched) c.self.view_is) h
+    begun x none c.args.head.items body taken c.args.framing c.args.self.now c.new.result c.self.inside.touched c.self.inside.fault
+    c.self.inside.turn c.requires c.new.ensures (ap (λ (k : Hop). k.touched) c.self.view_is) h

@@ -8,4 +8,5 @@ use Rattle.http_relay.proofs.hop.HopWriter.refuse.Goals as goal
 pub returns-clause-aside : goal.returns-clause-aside
 returns-clause-aside c =
     let e : c.constant.result ≡ fresh (refusal c.args.status) = search rules in
-    refused c.args.status c.constant.result c.self.inside.framing c.self.inside.touched c.wire_fault-self-inside.result c.self.inside.turn (ap (λ (h : Hop). h.touched) c.self.view_is ∙ c.requires.untouched) e
+    refused c.args.status c.constant.result c.self.inside.framing c.self.inside.touched c.wire_fault-self-inside.result c.self.inside.turn
+    (ap (λ (h : Hop). h.touched) c.self.view_is ∙ c.requires.untouched) e

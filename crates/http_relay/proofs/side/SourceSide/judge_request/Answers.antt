@@ -10,14 +10,28 @@ use Rattle.http_relay.proofs.Beginning.{begins_request, request_within}
 use Rattle.http_relay.proofs.side.SourceSide.judge_request.Goals as goal
 
 pub advance-requires : goal.advance-requires
-advance-requires c = request_within c.args.self.now.raw.items c.in-Ok.head.value c.in-Ok.head.length (subst (λ (t : List ℕ). IsRead false t c.in-Ok.head.value c.in-Ok.head.length) c.as_slice.ensures c.in-Ok.ensures.ok)
+advance-requires c = request_within c.args.self.now.raw.items c.in-Ok.head.value c.in-Ok.head.length
+    (subst (λ (t : List ℕ). IsRead false t c.in-Ok.head.value c.in-Ok.head.length) c.as_slice.ensures c.in-Ok.ensures.ok)
 
 pub returns-in-Ok-clause-heads : goal.returns-in-Ok-clause-heads
 returns-in-Ok-clause-heads c =
-    let new : SourceSide = record { alloc = c.args.self.now.alloc; asks = c.args.self.now.asks; head = heads.Request c.in-Ok.head.value; head_fault = c.args.self.now.head_fault; body = c.new-self.result; raw = c.advance.new.self; judged = 0; interims = c.args.self.now.interims; fault = c.args.self.now.fault } in
+    let new : SourceSide = record {
+      alloc = c.args.self.now.alloc;
+      asks = c.args.self.now.asks;
+      head = heads.Request c.in-Ok.head.value;
+      head_fault = c.args.self.now.head_fault;
+      body = c.new-self.result;
+      raw = c.advance.new.self;
+      judged = 0;
+      interims =
+          c.args.self.now.interims;
+      fault = c.args.self.now.fault;
+    } in
     let is = (subst (λ (t : List ℕ). IsRead false t c.in-Ok.head.value c.in-Ok.head.length) c.as_slice.ensures c.in-Ok.ensures.ok) in
-    begins_request c.args.self.now new c.in-Ok.head.length c.in-Ok.head.value c.requires.asks refl c.advance.ensures.items (request_within c.args.self.now.raw.items c.in-Ok.head.value c.in-Ok.head.length is) refl is
-    (c.new-self.ensures.framing ∙ c.framing.ensures) (subst (λ (w : Framing). HasRead w [] [] c.new-self.result.reader) (sym c.new-self.ensures.framing) c.new-self.ensures.reads) c.new-self.ensures.ended c.new-self.ensures.received
+    begins_request c.args.self.now new c.in-Ok.head.length c.in-Ok.head.value c.requires.asks refl c.advance.ensures.items
+    (request_within c.args.self.now.raw.items c.in-Ok.head.value c.in-Ok.head.length is) refl is
+    (c.new-self.ensures.framing ∙ c.framing.ensures) (subst (λ (w : Framing). HasRead w [] [] c.new-self.result.reader)
+    (sym c.new-self.ensures.framing) c.new-self.ensures.reads) c.new-self.ensures.ended c.new-self.ensures.received
 
 pub refuse-requires-clause-cause : goal.refuse-requires-clause-cause
 refuse-requires-clause-cause c =

@@ -10,27 +10,62 @@ use Rattle.http_relay.proofs.Beginning.{begins_response, drops_interim, response
 use Rattle.http_relay.proofs.side.SourceSide.judge_response.Goals as goal
 
 pub advance-requires : goal.advance-requires
-advance-requires c = response_within c.args.self.now.raw.items c.in-Ok.head.value c.in-Ok.head.length c.args.to_head (subst (λ (t : List ℕ). IsResponseRead c.args.to_head t c.in-Ok.head.value c.in-Ok.head.length) c.as_slice.ensures c.in-Ok.ensures.ok)
+advance-requires c = response_within c.args.self.now.raw.items c.in-Ok.head.value c.in-Ok.head.length c.args.to_head
+    (subst (λ (t : List ℕ). IsResponseRead c.args.to_head t c.in-Ok.head.value c.in-Ok.head.length) c.as_slice.ensures c.in-Ok.ensures.ok)
 
 pub returns-then-is_interim-clause-heads : goal.returns-then-is_interim-clause-heads
 returns-then-is_interim-clause-heads c =
-    let new : SourceSide = record { alloc = c.args.self.now.alloc; asks = c.args.self.now.asks; head = c.args.self.now.head; head_fault = c.args.self.now.head_fault; body = c.args.self.now.body; raw = c.advance.new.self; judged = 0; interims = c.args.self.now.interims + 1; fault = c.args.self.now.fault } in
-    let is = (subst (λ (t : List ℕ). IsResponseRead c.args.to_head t c.in-Ok.head.value c.in-Ok.head.length) c.as_slice.ensures c.in-Ok.ensures.ok) in
-    drops_interim c.args.self.now new c.in-Ok.head.length c.in-Ok.head.value c.args.to_head c.requires.asks refl refl c.advance.ensures.items (response_within c.args.self.now.raw.items c.in-Ok.head.value c.in-Ok.head.length c.args.to_head is) is
+    let new : SourceSide = record {
+      alloc = c.args.self.now.alloc;
+      asks = c.args.self.now.asks;
+      head = c.args.self.now.head;
+      head_fault = c.args.self.now.head_fault;
+      body = c.args.self.now.body;
+      raw = c.advance.new.self;
+      judged = 0;
+      interims =
+          c.args.self.now.interims + 1;
+      fault = c.args.self.now.fault;
+    } in
+    let is = (subst (λ (t : List ℕ). IsResponseRead c.args.to_head t c.in-Ok.head.value c.in-Ok.head.length) c.as_slice.ensures
+    c.in-Ok.ensures.ok) in
+    drops_interim c.args.self.now new c.in-Ok.head.length c.in-Ok.head.value c.args.to_head c.requires.asks refl refl
+    c.advance.ensures.items (response_within c.args.self.now.raw.items c.in-Ok.head.value c.in-Ok.head.length c.args.to_head is) is
     (let i = c.is_interim.ensures.interim c.if-is_interim.true in
-    record { from = subst (λ (n : ℕ). 100 ≤ n) c.status-status.ensures.value i.0; to = subst (λ (n : ℕ). n ≤ 199) c.status-status.ensures.value i.1; other = λ e. c.if-status-eq101.false (c.status-status.ensures.value ∙ e) })
+    record {
+      from = subst (λ (n : ℕ). 100 ≤ n) c.status-status.ensures.value i.0;
+      to = subst (λ (n : ℕ). n ≤ 199) c.status-status.ensures.value i.1;
+      other =
+          λ e. c.if-status-eq101.false (c.status-status.ensures.value ∙ e);
+    })
     c.if-self-ge-MAX_INTERIMS.false refl
 
 pub advance-requires-in-Ok : goal.advance-requires-in-Ok
-advance-requires-in-Ok c = response_within c.args.self.now.raw.items c.in-Ok.head.value c.in-Ok.head.length c.args.to_head (subst (λ (t : List ℕ). IsResponseRead c.args.to_head t c.in-Ok.head.value c.in-Ok.head.length) c.as_slice.ensures c.in-Ok.ensures.ok)
+advance-requires-in-Ok c = response_within c.args.self.now.raw.items c.in-Ok.head.value c.in-Ok.head.length c.args.to_head
+    (subst (λ (t : List ℕ). IsResponseRead c.args.to_head t c.in-Ok.head.value c.in-Ok.head.length) c.as_slice.ensures c.in-Ok.ensures.ok)
 
 pub returns-else-is_interim-clause-heads : goal.returns-else-is_interim-clause-heads
 returns-else-is_interim-clause-heads c =
-    let new : SourceSide = record { alloc = c.args.self.now.alloc; asks = c.args.self.now.asks; head = heads.Response c.in-Ok.head.value; head_fault = c.args.self.now.head_fault; body = c.new-self.result; raw = c.advance-in-Ok.new.self; judged = 0; interims = c.args.self.now.interims; fault = c.args.self.now.fault } in
-    let is = (subst (λ (t : List ℕ). IsResponseRead c.args.to_head t c.in-Ok.head.value c.in-Ok.head.length) c.as_slice.ensures c.in-Ok.ensures.ok) in
-    begins_response c.args.self.now new c.in-Ok.head.length c.in-Ok.head.value c.args.to_head c.requires.asks refl c.advance-in-Ok.ensures.items (response_within c.args.self.now.raw.items c.in-Ok.head.value c.in-Ok.head.length c.args.to_head is) refl is
+    let new : SourceSide = record {
+      alloc = c.args.self.now.alloc;
+      asks = c.args.self.now.asks;
+      head = heads.Response c.in-Ok.head.value;
+      head_fault = c.args.self.now.head_fault;
+      body = c.new-self.result;
+      raw = c.advance-in-Ok.new.self;
+      judged = 0;
+      interims =
+          c.args.self.now.interims;
+      fault = c.args.self.now.fault;
+    } in
+    let is = (subst (λ (t : List ℕ). IsResponseRead c.args.to_head t c.in-Ok.head.value c.in-Ok.head.length) c.as_slice.ensures
+    c.in-Ok.ensures.ok) in
+    begins_response c.args.self.now new c.in-Ok.head.length c.in-Ok.head.value c.args.to_head c.requires.asks refl
+    c.advance-in-Ok.ensures.items (response_within c.args.self.now.raw.items c.in-Ok.head.value c.in-Ok.head.length c.args.to_head is)
+    refl is
     (subst (λ (n : ℕ). (n < 100) ⊎ (199 < n)) c.status-status.ensures.value (c.is_interim.ensures.last c.if-is_interim.false))
-    (c.new-self.ensures.framing ∙ c.framing.ensures) (subst (λ (w : Framing). HasRead w [] [] c.new-self.result.reader) (sym c.new-self.ensures.framing) c.new-self.ensures.reads) c.new-self.ensures.ended c.new-self.ensures.received
+    (c.new-self.ensures.framing ∙ c.framing.ensures) (subst (λ (w : Framing). HasRead w [] [] c.new-self.result.reader)
+    (sym c.new-self.ensures.framing) c.new-self.ensures.reads) c.new-self.ensures.ended c.new-self.ensures.received
 
 pub refuse-requires-clause-cause : goal.refuse-requires-clause-cause
 refuse-requires-clause-cause c =

@@ -6,5 +6,15 @@ use Rattle.http_relay.proofs.side.SourceSide.next.Goals as goal
 
 pub returns-clause-begins : goal.returns-clause-begins
 returns-clause-begins c =
-    let new : SourceSide = record { alloc = c.args.self.now.alloc; asks = c.args.self.now.asks; head = heads.Unread; head_fault = None; body = c.idle-self.result; raw = c.args.self.now.raw; judged = 0; interims = 0; fault = None } in
+    let new : SourceSide = record {
+      alloc = c.args.self.now.alloc;
+      asks = c.args.self.now.asks;
+      head = heads.Unread;
+      head_fault = None;
+      body = c.idle-self.result;
+      raw = c.args.self.now.raw;
+      judged = 0;
+      interims = 0;
+      fault = None;
+    } in
     fresh_at_head new refl refl

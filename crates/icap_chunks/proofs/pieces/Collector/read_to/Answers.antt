@@ -1,4 +1,5 @@
-use Rattle.std.proofs.Common.{◌≡◌, ℕ, ◌+◌, ◌-◌, ◌<◌, ◌≤◌, List, ◌++◌, length, take, drop, slice_range, sym, ap, ◌∙◌, subst, arith, take-take, length-take, length-drop}
+use Rattle.std.proofs.Common.{◌≡◌, ℕ, ◌+◌, ◌-◌, ◌<◌, ◌≤◌, List, ◌++◌, length, take, drop, slice_range, sym, ap, ◌∙◌, subst, arith}
+use Rattle.std.proofs.Common.{take-take, length-take, length-drop}
 use Rattle.std.proofs.lemmas.List.{take-append-drop}
 use Rattle.std.proofs.Math.Seq.{take-add}
 use Rattle.icap_chunks.specs.declared.reader.ChunkReader.{ChunkReader}
@@ -19,8 +20,10 @@ piece_length : (text : List ℕ) (at end : ℕ) → at ≤ end → end ≤ lengt
 piece_length text at end low high = omega (arith, length-take (end - at) (drop at text), length-drop at text)
 
 -- what is there after a piece
-module _ (text old body : List ℕ) (at end used : ℕ) (part : List ℕ) (r : ChunkReader) (low : at < end) (high : end ≤ length text) (fits : used ≤ end - at) where
-  after_piece : HasRead (take at text ++ take used (slice_range text at end)) (old ++ part) r → body ≡ old ++ part → HasRead (take (at + used) text) body r
+module _ (text old body : List ℕ) (at end used : ℕ) (part : List ℕ) (r : ChunkReader) (low : at < end) (high : end ≤ length text)
+    (fits : used ≤ end - at) where
+  after_piece : HasRead (take at text ++ take used (slice_range text at end)) (old ++ part) r → body ≡ old ++ part
+      → HasRead (take (at + used) text) body r
   after_piece h e =
       let P : List ℕ → Type 0 = λ t. HasRead t (old ++ part) r in
       let Q : List ℕ → Type 0 = λ b. HasRead (take (at + used) text) b r in
@@ -35,10 +38,12 @@ returns-in-Some-clause-found c =
     let i = c.loop-self.invariant.read in
     let piece_len = piece_length text at end c.loop-self.invariant.within c.requires.high in
     let fits : used ≤ end - at = omega (arith, c.in-Ok.ensures.within.2, piece_len) in
-    let h = after_piece text c.loop-self.self.body.items c.extend_from_slice.new.self.items at end used _ c.feed.new.self c.loop-self-test.true c.requires.high fits
+    let h = after_piece text c.loop-self.self.body.items c.extend_from_slice.new.self.items at end used _ c.feed.new.self
+    c.loop-self-test.true c.requires.high fits
     (c.in-Ok.ensures.read (take at text) c.loop-self.self.body.items i.read) c.in_ok-extend_from_slice-in-Ok.ensures.items in (
       omega (arith, fits, c.requires.high),
-      reads_end (take (at + used) text) c.extend_from_slice.new.self.items c.feed.new.self c.in-Some.ieof h (sym c.in-Ok.ensures.ended ∙ c.in-Some.is),
+      reads_end (take (at + used) text) c.extend_from_slice.new.self.items c.feed.new.self c.in-Some.ieof h
+          (sym c.in-Ok.ensures.ended ∙ c.in-Some.is),
     )
 
 pub loop-self-preserved : goal.loop-self-preserved
@@ -54,7 +59,8 @@ loop-self-preserved c =
       within = omega (arith, fits, c.loop-self.invariant.within);
       read = record {
         within = omega (arith, fits, c.requires.high);
-        read = after_piece text c.loop-self.self.body.items c.extend_from_slice.new.self.items at end used _ c.feed.new.self c.loop-self-test.true c.requires.high fits
+        read = after_piece text c.loop-self.self.body.items c.extend_from_slice.new.self.items at end used _ c.feed.new.self
+            c.loop-self-test.true c.requires.high fits
             (c.in-Ok.ensures.read (take at text) c.loop-self.self.body.items i.read) c.in_ok-extend_from_slice-in-Ok.ensures.items;
         no_end = sym c.in-Ok.ensures.ended ∙ c.in_default.is;
         sound = c.in-Ok.ensures.no_fault;

@@ -1,6 +1,7 @@
 use Rattle.std.proofs.Common.{◌≡◌, rules, arith, sym, ◌∙◌, ap, Some, None, inl, inr}
 use Rattle.icap_chunks.specs.Machine.{run, end_at, faulted_at}
-use Rattle.icap_chunks.proofs.Runs.{Framing, framing_part, framing_end_first, fault_read, fault_part, run_at, data_part, data_end_first, end_of_behind, fault_of_behind, no_data_behind, no_end_here, no_fault_here, pauses_cases}
+use Rattle.icap_chunks.proofs.Runs.{Framing, framing_part, framing_end_first, fault_read, fault_part, run_at, data_part, data_end_first}
+use Rattle.icap_chunks.proofs.Runs.{end_of_behind, fault_of_behind, no_data_behind, no_end_here, no_fault_here, pauses_cases}
 use Rattle.icap_chunks.proofs.reader.ChunkReader.read_piece.Goals as goal
 
 some_is_none : {A : Type 0} {a : A} → Some a ≡ None → ⊥
@@ -10,7 +11,8 @@ pub returns-in-Faulted : goal.returns-in-Faulted
 unfolding faulted_at
 returns-in-Faulted c =
     let e = c.read_framing-framing.ensures in
-    let f : Framing c.args.self.now c.args.piece.now c.read_framing-framing.result c.read_framing-framing.new.self = record { within = e.within; read = e.read; framing = e.framing; stops = e.stops } in
+    let f : Framing c.args.self.now c.args.piece.now c.read_framing-framing.result c.read_framing-framing.new.self =
+    record { within = e.within; read = e.read; framing = e.framing; stops = e.stops } in
     record {
       within = search rules;
       read = search rules;
@@ -28,7 +30,8 @@ returns-in-Faulted c =
 pub returns-in-Data : goal.returns-in-Data
 returns-in-Data c =
     let e = c.read_framing-framing.ensures in
-    let f : Framing c.args.self.now c.args.piece.now c.read_framing-framing.result c.read_framing-framing.new.self = record { within = e.within; read = e.read; framing = e.framing; stops = e.stops } in
+    let f : Framing c.args.self.now c.args.piece.now c.read_framing-framing.result c.read_framing-framing.new.self =
+    record { within = e.within; read = e.read; framing = e.framing; stops = e.stops } in
     let left = c.in-Data.more in
     let m = c.read_data-run.result in
     let count = c.read_data-run.ensures.count in
@@ -51,7 +54,8 @@ pub returns-in-Ended : goal.returns-in-Ended
 unfolding end_at faulted_at
 returns-in-Ended c =
     let e = c.read_framing-framing.ensures in
-    let f : Framing c.args.self.now c.args.piece.now c.read_framing-framing.result c.read_framing-framing.new.self = record { within = e.within; read = e.read; framing = e.framing; stops = e.stops } in
+    let f : Framing c.args.self.now c.args.piece.now c.read_framing-framing.result c.read_framing-framing.new.self =
+    record { within = e.within; read = e.read; framing = e.framing; stops = e.stops } in
     record {
       within = search rules;
       read = e.read;
@@ -69,7 +73,8 @@ returns-in-Ended c =
 pub returns-in_default : goal.returns-in_default
 returns-in_default c =
     let e = c.read_framing-framing.ensures in
-    let f : Framing c.args.self.now c.args.piece.now c.read_framing-framing.result c.read_framing-framing.new.self = record { within = e.within; read = e.read; framing = e.framing; stops = e.stops } in
+    let f : Framing c.args.self.now c.args.piece.now c.read_framing-framing.result c.read_framing-framing.new.self =
+    record { within = e.within; read = e.read; framing = e.framing; stops = e.stops } in
     record {
       within = search rules;
       read = e.read;

@@ -7,7 +7,8 @@ use Rattle.icap_client.proofs.contract.ServiceSideService.read_turn.Goals as goa
 
 pub returns-clause-sent : goal.returns-clause-sent
 returns-clause-sent g c = λ heads came taken h. record {
-  sent = sent_still heads (shows c.args.state.now) came taken c.args.self.now.writer c.read_turn.new.self.writer c.read_turn.ensures.writer h.sent;
+  sent = sent_still heads (shows c.args.state.now) came taken c.args.self.now.writer c.read_turn.new.self.writer c.read_turn.ensures.writer
+      h.sent;
   kept = λ m. c.read_turn.ensures.kept m ∙ h.kept m;
   last_stop = c.read_turn.ensures.last_stop ∙ h.last_stop;
 }
@@ -18,5 +19,6 @@ returns-clause-reason g c = λ none fault e.
     let old = c.args.self.now in
     let new = c.read_turn.new.self in
     let t = c.read_turn.ensures.turn none in
-    subst (λ (b : Bool). IsCause fault x b new.replies.reader new.replies.raw) (sym (flushed_still old.writer new.writer c.read_turn.ensures.writer))
+    subst (λ (b : Bool). IsCause fault x b new.replies.reader new.replies.raw)
+    (sym (flushed_still old.writer new.writer c.read_turn.ensures.writer))
     (came_cause x _ old.replies new.replies (length c.args.out.now) c.read_turn.new.out t.given c.read_turn.result t.came fault e)

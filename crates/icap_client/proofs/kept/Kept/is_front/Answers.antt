@@ -12,4 +12,9 @@ returns-then-len-lt-MAX_HEAD c = λ e.
     let slice : c.as_slice.result.now ≡ bytes = search rules in
     let none : has_line (drop judged bytes) ≡ false =
     sym (c.has_line.ensures ∙ ap has_line (c.behind.ensures ∙ ap (λ (t : List ℕ). drop judged t) slice)) ∙ is_false c.has_line.result e in
-    subst (λ (s : Store). IsHeadFront s.bytes) c.self.view_is (record { judged = judged; more = c.self.invariant.2; no_line = none; short = short })
+    subst (λ (s : Store). IsHeadFront s.bytes) c.self.view_is (record {
+      judged = judged;
+      more = c.self.invariant.2;
+      no_line = none;
+      short = short;
+    })

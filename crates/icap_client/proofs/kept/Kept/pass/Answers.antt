@@ -11,5 +11,9 @@ invariant_of-self c =
     let text : bytes ≡ drop c.args.used c.args.self.now.bytes = search rules in
     let rest : length bytes ≡ length (drop c.args.used c.self.inside.bytes.items) = ap (λ (t : List ℕ). length t) c.advance.ensures.items in
     let few : length bytes ≤ 65536 = omega (arith, rest, length-drop c.args.used c.self.inside.bytes.items, c.self.invariant.0) in
-    let front : RefusesResponse More bytes = subst (λ (t : List ℕ). RefusesResponse More t) (sym text) (c.requires.front c.if-judged.true) in
-    (few, omega (arith, c.len-self-inside.ensures), subst (λ (n : ℕ). IsJudged n bytes) (sym c.len-self-inside.ensures) (all_judged bytes front))
+    let front : RefusesResponse More bytes = subst (λ (t : List ℕ). RefusesResponse More t) (sym text)
+    (c.requires.front c.if-judged.true) in (
+      few,
+      omega (arith, c.len-self-inside.ensures),
+      subst (λ (n : ℕ). IsJudged n bytes) (sym c.len-self-inside.ensures) (all_judged bytes front),
+    )

@@ -8,15 +8,22 @@ use Rattle.icap_client.proofs.options.OptionsSide.frame_body.Goals as goal
 pub returns-then-skipped-clause-frames : goal.returns-then-skipped-clause-frames
 returns-then-skipped-clause-frames c =
     let raw_is : c.as_slice.result.now ≡ c.args.self.now.raw = search rules in
-    let held : is_some c.args.self.now.response ≡ true = head_held c.args.self.now c.self.inside.stage c.self.inside.response c.args.chunks (ap (λ (s : Asker). s.response) c.self.view_is) (ap (λ (s : Asker). s.stage) c.self.view_is ∙ c.requires) c.self.invariant.1 in
-    frames_end c.args.self.now _ c.args.chunks c.skip_body.new.chunks c.in-Ok.skipped.used c.in-Ok.ensures.reads.0 _ c.requires (subst (λ (t : List ℕ). ReadsOn c.args.chunks t c.in-Ok.skipped.used c.in-Ok.ensures.reads.0 c.skip_body.new.chunks) raw_is c.in-Ok.ensures.reads.1)
+    let held : is_some c.args.self.now.response ≡ true =
+    head_held c.args.self.now c.self.inside.stage c.self.inside.response c.args.chunks (ap (λ (s : Asker). s.response) c.self.view_is)
+    (ap (λ (s : Asker). s.stage) c.self.view_is ∙ c.requires) c.self.invariant.1 in
+    frames_end c.args.self.now _ c.args.chunks c.skip_body.new.chunks c.in-Ok.skipped.used c.in-Ok.ensures.reads.0 _ c.requires
+    (subst (λ (t : List ℕ). ReadsOn c.args.chunks t c.in-Ok.skipped.used c.in-Ok.ensures.reads.0 c.skip_body.new.chunks) raw_is
+    c.in-Ok.ensures.reads.1)
     (sym c.in-Ok.ensures.ended ∙ c.if-skipped.true) held refl (search rules) (search rules) (search rules)
 
 pub returns-else-skipped-clause-frames : goal.returns-else-skipped-clause-frames
 returns-else-skipped-clause-frames c =
     let raw_is : c.as_slice.result.now ≡ c.args.self.now.raw = search rules in
-    frames_on c.args.self.now _ c.args.chunks c.skip_body.new.chunks c.in-Ok.skipped.used c.in-Ok.ensures.reads.0 c.requires (subst (λ (t : List ℕ). ReadsOn c.args.chunks t c.in-Ok.skipped.used c.in-Ok.ensures.reads.0 c.skip_body.new.chunks) raw_is c.in-Ok.ensures.reads.1)
-    (not_ended c.skip_body.new.chunks c.in-Ok.skipped.ended c.in-Ok.ensures.ended c.if-skipped.false) c.in-Ok.ensures.no_fault refl (search rules) (search rules) (search rules)
+    frames_on c.args.self.now _ c.args.chunks c.skip_body.new.chunks c.in-Ok.skipped.used c.in-Ok.ensures.reads.0 c.requires
+    (subst (λ (t : List ℕ). ReadsOn c.args.chunks t c.in-Ok.skipped.used c.in-Ok.ensures.reads.0 c.skip_body.new.chunks) raw_is
+    c.in-Ok.ensures.reads.1)
+    (not_ended c.skip_body.new.chunks c.in-Ok.skipped.ended c.in-Ok.ensures.ended c.if-skipped.false) c.in-Ok.ensures.no_fault refl
+    (search rules) (search rules) (search rules)
 
 pub returns-in-Err-clause-refuses : goal.returns-in-Err-clause-refuses
 returns-in-Err-clause-refuses c =

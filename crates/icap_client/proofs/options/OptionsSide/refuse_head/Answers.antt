@@ -11,11 +11,13 @@ use Rattle.icap_client.proofs.options.OptionsSide.refuse_head.Goals as goal
 
 pub pass-requires-clause-front : goal.pass-requires-clause-front
 pass-requires-clause-front c = λ e.
-    subst (λ (s : Asker). RefusesResponse More s.raw) (sym c.self.view_is) (more_stands c.args.fault c.args.self.now.raw c.in-None.ensures.none c.requires.stands)
+    subst (λ (s : Asker). RefusesResponse More s.raw) (sym c.self.view_is)
+    (more_stands c.args.fault c.args.self.now.raw c.in-None.ensures.none c.requires.stands)
 
 pub returns-in-None-clause-waits : goal.returns-in-None-clause-waits
 returns-in-None-clause-waits c =
-    let front : IsHeadFront c.args.self.now.raw = has_to_wait Replies c.args.self.now.raw 0 (more_stands c.args.fault c.args.self.now.raw c.in-None.ensures.none c.requires.stands) in
+    let front : IsHeadFront c.args.self.now.raw = has_to_wait Replies c.args.self.now.raw 0
+    (more_stands c.args.fault c.args.self.now.raw c.in-None.ensures.none c.requires.stands) in
     let raw : c.pass.new.self.bytes ≡ c.args.self.now.raw = c.pass.ensures.bytes ∙ ap (λ (s : Asker). s.raw) c.self.view_is in
     subst (λ (s : OptionsStage). HasToAsk s c.pass.new.self.bytes) (sym (ap (λ (s : Asker). s.stage) c.self.view_is ∙ c.requires.stage))
     (subst IsHeadFront (sym raw) front)

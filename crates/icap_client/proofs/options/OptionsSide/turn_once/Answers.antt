@@ -3,4 +3,6 @@ use Rattle.icap_client.proofs.options.OptionsSide.turn_once.Goals as goal
 
 pub returns-clause-asks : goal.returns-clause-asks
 returns-clause-asks g c =
-    asks_drop_text c.args.self.now c.write_or_read-result.new.self c.free_memory.new.self (g.W.Wire.past c.args.wire.now) (g.W.Wire.past c.write_or_read-result.new.wire) c.write_or_read-result.result c.free_memory.ensures c.write_or_read-result.ensures.asks
+    asks_drop_text c.args.self.now c.write_or_read-result.new.self c.free_memory.new.self (g.W.Wire.past c.args.wire.now)
+    (g.W.Wire.past c.write_or_read-result.new.wire) c.write_or_read-result.result c.free_memory.ensures
+    c.write_or_read-result.ensures.asks

@@ -8,13 +8,16 @@ returns-in-Over-clause-asks g c = asks_over c.args.self.now (g.W.Wire.past c.arg
 
 pub returns-in-Ok-Some-clause-asks : goal.returns-in-Ok-Some-clause-asks
 returns-in-Ok-Some-clause-asks g c =
-    asks_told c.args.self.now c.frame.new.self (g.W.Wire.past c.args.wire.now) c.in-Ok-Some.head (search rules) (rw c.in-Ok-Some.field-0-is at c.in-Ok-Some.ensures.frames)
+    asks_told c.args.self.now c.frame.new.self (g.W.Wire.past c.args.wire.now) c.in-Ok-Some.head (search rules)
+    (rw c.in-Ok-Some.field-0-is at c.in-Ok-Some.ensures.frames)
 
 pub returns-in-Ok-None-clause-asks : goal.returns-in-Ok-None-clause-asks
 returns-in-Ok-None-clause-asks g c =
     let going : c.args.self.now.stage ≡ Over → ⊥ = search rules in
-    asks_behind c.args.self.now c.frame.new.self c.read_on.new.self (g.W.Wire.past c.args.wire.now) (g.W.Wire.past c.read_on.new.wire) c.read_on.result going (rw c.in-Ok-None.field-0-is at c.in-Ok-None.ensures.frames) c.read_on.ensures.asks
+    asks_behind c.args.self.now c.frame.new.self c.read_on.new.self (g.W.Wire.past c.args.wire.now) (g.W.Wire.past c.read_on.new.wire)
+    c.read_on.result going (rw c.in-Ok-None.field-0-is at c.in-Ok-None.ensures.frames) c.read_on.ensures.asks
 
 pub returns-in-Err-clause-asks : goal.returns-in-Err-clause-asks
 returns-in-Err-clause-asks g c =
-    asks_refused c.args.self.now c.frame.new.self (g.W.Wire.past c.args.wire.now) c.in-Err.fault (search rules) c.frame.ensures.waiting c.in-Err.ensures.refuses
+    asks_refused c.args.self.now c.frame.new.self (g.W.Wire.past c.args.wire.now) c.in-Err.fault (search rules) c.frame.ensures.waiting
+    c.in-Err.ensures.refuses

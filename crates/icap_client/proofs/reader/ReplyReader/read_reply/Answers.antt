@@ -16,8 +16,10 @@ use Rattle.icap_client.proofs.reader.ReplyReader.read_reply.Goals.{in-Some, in-N
 
 pub returns-in-Err-reply_of-clause-refuses : goal.returns-in-Err-reply_of-clause-refuses
 returns-in-Err-reply_of-clause-refuses c =
-    refuses_said c.in-Err-reply_of.fault (shows c.args.state.now) c.args.self.now.point c.args.raw.now (response_parts c.in-Ok.head.value) c.in-Ok.head.length
-    c.in-Ok.ensures.ok (subst (λ (r : Reader). SpellsNoReply c.in-Err-reply_of.fault r.point (response_parts c.in-Ok.head.value)) c.self.view_is c.in-Err-reply_of.ensures.err)
+    refuses_said c.in-Err-reply_of.fault (shows c.args.state.now) c.args.self.now.point c.args.raw.now (response_parts c.in-Ok.head.value)
+    c.in-Ok.head.length
+    c.in-Ok.ensures.ok (subst (λ (r : Reader). SpellsNoReply c.in-Err-reply_of.fault r.point (response_parts c.in-Ok.head.value))
+    c.self.view_is c.in-Err-reply_of.ensures.err)
 
 pub returns-after-refusal-clause-passes : goal.returns-after-refusal-clause-passes
 returns-after-refusal-clause-passes c =
@@ -48,8 +50,10 @@ returns-in-Ok-reply_of-clause-hears c =
     let remarks = (response_parts c.in-Ok.head.value).fields in
     let closes = says_close (response_parts c.in-Ok.head.value).fields in
     let is : c.note.new.self ≡ noted c.args.self.now remarks closes = search rules in
-    ok_map c.accept.result _ _ (λ framed h. hears_noted x c.args.self.now c.accept.new.self remarks closes (listed framed.event) (take framed.used c.args.raw.now) [] c.requires
-    (subst (λ (r : Reader). ReaderHears x r c.accept.new.self (listed framed.event) (take framed.used c.args.raw.now) []) is h)) c.accept.ensures.hears
+    ok_map c.accept.result _ _ (λ framed h. hears_noted x c.args.self.now c.accept.new.self remarks closes (listed framed.event)
+    (take framed.used c.args.raw.now) [] c.requires
+    (subst (λ (r : Reader). ReaderHears x r c.accept.new.self (listed framed.event) (take framed.used c.args.raw.now) []) is h))
+    c.accept.ensures.hears
 
 pub returns-in-Ok-reply_of-clause-passes : goal.returns-in-Ok-reply_of-clause-passes
 returns-in-Ok-reply_of-clause-passes c =

@@ -11,8 +11,10 @@ returns-then-same_ascii-clause-some c =
     let fields = field_list c.args.self.now in
     let at = c.loop-at.at in
     let inside : at < length fields = omega (arith, c.loop-at-test.true, c.len-at-end.ensures) in
-    let same : is_named name (field_at fields at) ≡ true = ap (λ t. str_eq_ignore_ascii_case t name) (sym c.name.ensures) ∙ sym c.if-same_ascii.ensures in
-    c.loop-at.invariant ∙ values_from_yes name fields at inside same ∙ ap (λ v. v ∷ values_of name (drop (at + 1) fields)) (sym c.value.ensures)
+    let same : is_named name (field_at fields at) ≡ true =
+    ap (λ t. str_eq_ignore_ascii_case t name) (sym c.name.ensures) ∙ sym c.if-same_ascii.ensures in
+    c.loop-at.invariant ∙ values_from_yes name fields at inside same ∙ ap (λ v. v ∷ values_of name (drop (at + 1) fields))
+    (sym c.value.ensures)
 
 pub loop-at-preserved : goal.loop-at-preserved
 loop-at-preserved c =

@@ -9,7 +9,11 @@ returns-in_ok-extend_from_slice-clause-served c = λ stream before h.
     let new = c.read.new.self in
     let out = c.args.out.now.items in
     let P : List ℕ → Type 0 = λ t. Serves (shown old.settings) stream t old.stage old.input.items old.body.items in
-    let Q : List ℕ → Type 0 = λ t. Serves (shown new.settings) (stream ++ take c.in_ok-used.used c.args.piece.now) t new.stage new.input.items new.body.items in
-    let start : (before ++ out) ++ c.new-answer.result.items ≡ before ++ out = ap (λ t. (before ++ out) ++ t) c.new-answer.ensures.items ∙ append-nil (before ++ out) in
-    let joined : c.extend_from_slice.new.self.items ≡ out ++ c.read.new.out.items = c.in_ok-extend_from_slice.ensures.items ∙ ap (λ t. out ++ t) c.deref.ensures.value in
-    subst Q (append_assoc before out c.read.new.out.items ∙ ap (λ t. before ++ t) (sym joined)) (c.in_ok-used.ensures.served stream (before ++ out) (subst P (sym start) h))
+    let Q : List ℕ → Type 0 = λ t. Serves (shown new.settings) (stream ++ take c.in_ok-used.used c.args.piece.now) t new.stage
+    new.input.items new.body.items in
+    let start : (before ++ out) ++ c.new-answer.result.items ≡ before ++ out =
+    ap (λ t. (before ++ out) ++ t) c.new-answer.ensures.items ∙ append-nil (before ++ out) in
+    let joined : c.extend_from_slice.new.self.items ≡ out ++ c.read.new.out.items =
+    c.in_ok-extend_from_slice.ensures.items ∙ ap (λ t. out ++ t) c.deref.ensures.value in
+    subst Q (append_assoc before out c.read.new.out.items ∙ ap (λ t. before ++ t) (sym joined))
+    (c.in_ok-used.ensures.served stream (before ++ out) (subst P (sym start) h))

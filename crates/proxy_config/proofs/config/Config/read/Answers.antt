@@ -10,7 +10,8 @@ returns-clause-ok c =
     is_config (table_view c.args.table.now) _ c.in_ok-sizes.sizes c.in_ok-users.field-0 c.in_ok-times.times c.in_ok-hosts.field-0
     (c.in_ok-listen.ensures.ok & c.in_ok-admin.ensures.ok & tt)
     c.in_ok-sizes.ensures.ok
-    (c.in_ok-retry.ensures.ok & c.in_ok-wait.ensures.ok & c.in_ok-log.ensures.ok & c.in_ok-log_query.ensures.ok & c.in_ok-metrics.ensures.ok & tt)
+    (c.in_ok-retry.ensures.ok & c.in_ok-wait.ensures.ok & c.in_ok-log.ensures.ok & c.in_ok-log_query.ensures.ok & c.in_ok-metrics.ensures.ok
+    & tt)
     c.in_ok-users.ensures.ok
     c.in_ok-times.ensures.ok
     (c.in_ok-refusal_pages.ensures.ok & tt)

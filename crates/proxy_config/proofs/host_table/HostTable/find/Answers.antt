@@ -15,7 +15,8 @@ returns c =
     let number : ℕ = c.number_of-number.result in
     let first : ℕ = c.partition_point-first.result in
     let parted = IsPartitionedBy-ltb (λ (host : AnyHost). host.number) c.deref.result.now number (search rules) in
-    let point = IsPartitionPoint-from_clause (λ (host : AnyHost). ltb host.number number) _ _ c.partition_point-first.ensures.partitioned parted (λ a r q k. search rules) in
+    let point = IsPartitionPoint-from_clause (λ (host : AnyHost). ltb host.number number) _ _ c.partition_point-first.ensures.partitioned
+    parted (λ a r q k. search rules) in
     let lower : (k : ℕ) (d : AnyHost) → k < first → (get_or hosts k d).number < number_of_name name
     = λ k d before. search (rules, ltb-true _ _ (point.0 k d (omega arith) before)) in
     let few : first ≤ length hosts = search rules in

@@ -10,7 +10,8 @@ returns-in-len1-up g t c = record {
       let v = c.call_all.ensures.renews (record s { line = w.0; given = w.1 }) w.3 in (
         v.0,
         v.1,
-        lines_more s.line w.0 v.0 c.args.calls.now c.result-item.result c.in-len1-up.len_at_least (subst (λ z. IsLine s.line z w.0) c.result-item.is w.2) v.2,
+        lines_more s.line w.0 v.0 c.args.calls.now c.result-item.result c.in-len1-up.len_at_least
+            (subst (λ z. IsLine s.line z w.0) c.result-item.is w.2) v.2,
         v.3,
       );
 }

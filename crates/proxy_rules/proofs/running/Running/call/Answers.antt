@@ -9,7 +9,10 @@ pub returns-in-Halt : goal.returns-in-Halt
 returns-in-Halt g c = record { renews = λ s h. (s.line, s.given, inl refl, c.halt.ensures.lasts s h) }
 
 pub returns-in-Retry : goal.returns-in-Retry
-returns-in-Retry g c = record { renews = λ s h. let w = c.renew.ensures.renews s h in (w.0, w.1, fresh_call s.line c.args.call.now _ _ w.0 c.in-Retry.is c.take.ensures.value w.2, w.3) }
+returns-in-Retry g c = record {
+  renews = λ s h. let w = c.renew.ensures.renews s h in
+      (w.0, w.1, fresh_call s.line c.args.call.now _ _ w.0 c.in-Retry.is c.take.ensures.value w.2, w.3);
+}
 
 pub returns-in-TakeBroken : goal.returns-in-TakeBroken
 returns-in-TakeBroken g c = record { renews = λ s h. let w = c.close_broken.ensures.renews s h in (w.0, w.1, inl w.2, w.3) }

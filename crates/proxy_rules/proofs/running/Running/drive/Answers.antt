@@ -11,8 +11,10 @@ invariant_of-self g c =
     record {
       runs = ∥∥₁_map c.args.self.now.runs (runs_on _ _ _ _ _ _
           (λ s h. since_goes g.W.SourceWire.Wire g.W.ServiceWire.Wire g.W.NextWire.Wire s _ _ _ _ _ _ _ _ e.goes h)
-          (λ h. ap (λ (x : Holding). (shows x.history).closed) (e.closed h).0 ∙ h) e.faultless (λ h. (e.closed h).1) e.refuses e.refuses_on);
+          (λ h. ap (λ (x : Holding). (shows x.history).closed) (e.closed h).0 ∙ h) e.faultless (λ h. (e.closed h).1) e.refuses
+          e.refuses_on);
     }
 
 pub returns-clause-lasts : goal.returns-clause-lasts
-returns-clause-lasts g c = λ s h. since_goes g.W.SourceWire.Wire g.W.ServiceWire.Wire g.W.NextWire.Wire s _ _ _ _ _ _ _ _ c.drive.ensures.goes h
+returns-clause-lasts g c = λ s h. since_goes g.W.SourceWire.Wire g.W.ServiceWire.Wire g.W.NextWire.Wire s _ _ _ _ _ _ _ _
+    c.drive.ensures.goes h

@@ -13,4 +13,5 @@ invariant_of-self g c =
     }
 
 pub returns-clause-lasts : goal.returns-clause-lasts
-returns-clause-lasts g c = λ s h. since_goes g.W.SourceWire.Wire g.W.ServiceWire.Wire g.W.NextWire.Wire s _ _ _ _ _ _ _ _ c.fail_unretried.ensures.goes h
+returns-clause-lasts g c = λ s h. since_goes g.W.SourceWire.Wire g.W.ServiceWire.Wire g.W.NextWire.Wire s _ _ _ _ _ _ _ _
+    c.fail_unretried.ensures.goes h

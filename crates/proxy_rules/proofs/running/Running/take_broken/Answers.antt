@@ -18,7 +18,8 @@ invariant_of-self g c =
             c.take_broken.result e.wire e.stands (ap (λ z. z.source_wire) e.apart) e.taken (ap (λ z. z.next_wire) e.apart) r.since_is;
         faultless_is = λ going. e.faultless (r.faultless_is (sym same ∙ going));
         refused_is = λ over cause ended.
-            refuses_by cause _ _ _ _ _ _ _ _ e.kept.0 e.kept.2 (ap (λ z. z.next) e.apart) (ap (λ z. z.back) e.apart) (r.refused_is (sym same ∙ over) cause (sym e.kept.1 ∙ ended));
+            refuses_by cause _ _ _ _ _ _ _ _ e.kept.0 e.kept.2 (ap (λ z. z.next) e.apart) (ap (λ z. z.back) e.apart)
+            (r.refused_is (sym same ∙ over) cause (sym e.kept.1 ∙ ended));
       });
     }
 

@@ -16,7 +16,8 @@ invariant_of-self g c =
     }
 
 pub returns-clause-lasts : goal.returns-clause-lasts
-returns-clause-lasts g c = λ s h. since_goes g.W.SourceWire.Wire g.W.ServiceWire.Wire g.W.NextWire.Wire s _ _ _ _ _ _ _ _ c.turn.ensures.goes h
+returns-clause-lasts g c = λ s h. since_goes g.W.SourceWire.Wire g.W.ServiceWire.Wire g.W.NextWire.Wire s _ _ _ _ _ _ _ _
+    c.turn.ensures.goes h
 
 pub returns-clause-fails : goal.returns-clause-fails
 returns-clause-fails g c = λ o. (c.turn.ensures.fails o).fails

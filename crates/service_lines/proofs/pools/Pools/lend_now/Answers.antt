@@ -5,5 +5,6 @@ pub returns-clause-lends : goal.returns-clause-lends
 returns-clause-lends g c =
     let live = c.take_live-found.ensures in
     let lent = c.lend_found.ensures in
-    lends_found g.E.Edge.since g.E.Edge.home c.args.point c.args.pass.moment c.args.self.now.idle_seconds c.args.self.now.thread _ _ _ c.take_live-found.result c.lend_found.result
+    lends_found g.E.Edge.since g.E.Edge.home c.args.point c.args.pass.moment c.args.self.now.idle_seconds c.args.self.now.thread _ _ _
+    c.take_live-found.result c.lend_found.result
     live.takes live.tells live.young live.own lent.busy lent.free lent.lease lent.asked

@@ -8,7 +8,8 @@ pub invariant_of-self : goal.invariant_of-self
 invariant_of-self c =
     let fields = c.self.inside in
     let shown : Journaled = record { numbers = fields.numbers; base = fields.base; steps = fields.steps.items; room = fields.room } in (
-      sound-fields shown c.args.self.now c.args.step _ _ c.self.view_is c.self.invariant.0 c.requires.allowed c.requires.room c.after-self-inside.ensures c.push_reserved.ensures.items,
+      sound-fields shown c.args.self.now c.args.step _ _ c.self.view_is c.self.invariant.0 c.requires.allowed c.requires.room
+          c.after-self-inside.ensures c.push_reserved.ensures.items,
       omega (arith, c.self.invariant.1, c.push_reserved.ensures.capacity),
     )
 

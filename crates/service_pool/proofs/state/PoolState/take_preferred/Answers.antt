@@ -10,7 +10,8 @@ returns-in-Idle-clause-take g c =
     let took = c.in-Idle.ensures.take in
     let idle = c.self.inside.idle.items in
     let same : c.args.self.now.idle ≡ idle = sym (ap (λ p. p.idle) c.self.view_is) in
-    let none = takes_unpicked g.F.Fn c.args.picked.now idle c.args.self.now.idle c.take.new.self.idle c.in-Idle.connection same took.0 c.in_default.ensures.none in
+    let none = takes_unpicked g.F.Fn c.args.picked.now idle c.args.self.now.idle c.take.new.self.idle c.in-Idle.connection same took.0
+    c.in_default.ensures.none in
     (took, none.0, none.1)
 
 -- the youngest that it picks
@@ -23,7 +24,8 @@ returns-clause-take g c =
     let step = c.apply.ensures.step ∙ ap (λ j. stepped g.J.Journal.makes_room j.journal Take) c.self.view_is in (
       (
         c.in-Some.index,
-        takes_picked g.F.Fn c.args.picked.now g.G.Fn c.args.prefers.now idle c.args.self.now.idle c.remove.new.self.items c.in-Some.index c.in-Some-remove.connection same
+        takes_picked g.F.Fn c.args.picked.now g.G.Fn c.args.prefers.now idle c.args.self.now.idle c.remove.new.self.items c.in-Some.index
+            c.in-Some-remove.connection same
             picked.0 removed.value removed.items picked.1 picked.2,
       ),
       step,

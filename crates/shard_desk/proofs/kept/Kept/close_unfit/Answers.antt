@@ -8,7 +8,8 @@ loop-passed-preserved g c =
     let count = c.len-count.result in
     let passed = c.loop-passed.passed in
     let kept = c.args.self.now.all in
-    let stays : g.row.C.Denot → Type 0 = λ idle. IsFit g.C.Rests.since g.C.Rests.quiet c.args.at.now c.args.seconds idle ⊎ g.C.Rests.unsure c.args.at.turn idle in
+    let stays : g.row.C.Denot → Type 0 = λ idle. IsFit g.C.Rests.since g.C.Rests.quiet c.args.at.now c.args.seconds idle
+    ⊎ g.C.Rests.unsure c.args.at.turn idle in
     let goes : g.row.C.Denot → Type 0 = IsUnfit g.C.Rests.since g.C.Rests.loud c.args.at.now c.args.seconds in
     record {
       walked = subst (λ (n : ℕ). Walked stays goes kept.items c.sift.new.all.items n) (sym (index_after count passed))

@@ -6,7 +6,8 @@ use Rattle.shard_desk.proofs.kept.Kept.close_unfit.Given as goal
 
 abbrev pub invariant-loop-passed : goal.invariant-loop-passed
 invariant-loop-passed g l = record {
-  walked : Walked (λ idle. IsFit g.C.Rests.since g.C.Rests.quiet l.at.now l.seconds idle ⊎ g.C.Rests.unsure l.at.turn idle) (IsUnfit g.C.Rests.since g.C.Rests.loud l.at.now l.seconds)
+  walked : Walked (λ idle. IsFit g.C.Rests.since g.C.Rests.quiet l.at.now l.seconds idle ⊎ g.C.Rests.unsure l.at.turn idle)
+      (IsUnfit g.C.Rests.since g.C.Rests.loud l.at.now l.seconds)
       l.initial.self.all.items l.self.all.items (l.count - l.passed);
   counted : l.count ≡ length l.initial.self.all.items;
   capacity : deque_capacity l.self.all ≡ deque_capacity l.initial.self.all;

@@ -12,7 +12,8 @@ returns-in-Some-clause-taken g c =
     let fit : g.row.C.Denot → Type 0 = IsFit g.C.Rests.since g.C.Rests.quiet c.args.at.now c.args.seconds in
     let unfit : g.row.C.Denot → Type 0 = IsUnfit g.C.Rests.since g.C.Rests.loud c.args.at.now c.args.seconds in
     let unsure : g.row.C.Denot → Type 0 = IsUnsure (g.C.Rests.unsure c.args.at.turn) c.args.asking in
-    is_taken leads fit unfit unsure kept.items c.loop-passed.self.all.items c.pass.new.all.items (count - passed) (count - 1 - passed) c.in-Some.idle
+    is_taken leads fit unfit unsure kept.items c.loop-passed.self.all.items c.pass.new.all.items (count - passed) (count - 1 - passed)
+    c.in-Some.idle
     c.loop-passed.invariant.walked (one_less count passed c.loop-passed-test.true)
     (subst (λ (n : ℕ). count - 1 - passed < n) c.loop-passed.invariant.counted (below count passed c.loop-passed-test.true))
     c.in-Some.ensures.passed
@@ -27,9 +28,11 @@ loop-passed-preserved g c =
     let unfit : g.row.C.Denot → Type 0 = IsUnfit g.C.Rests.since g.C.Rests.loud c.args.at.now c.args.seconds in
     let unsure : g.row.C.Denot → Type 0 = IsUnsure (g.C.Rests.unsure c.args.at.turn) c.args.asking in
     record {
-      walked = subst (λ (n : ℕ). Walked (λ (idle : g.row.C.Denot). (leads idle → ⊥) ⊎ unsure idle) (λ (idle : g.row.C.Denot). leads idle × unfit idle)
+      walked = subst (λ (n : ℕ). Walked (λ (idle : g.row.C.Denot). (leads idle → ⊥) ⊎ unsure idle)
+          (λ (idle : g.row.C.Denot). leads idle × unfit idle)
           kept.items c.pass.new.all.items n) (sym (index_after count passed))
-          (walks_on leads fit unfit unsure kept.items c.loop-passed.self.all.items c.pass.new.all.items (count - passed) (count - 1 - passed)
+          (walks_on leads fit unfit unsure kept.items c.loop-passed.self.all.items c.pass.new.all.items (count - passed)
+          (count - 1 - passed)
           c.loop-passed.invariant.walked (one_less count passed c.loop-passed-test.true)
           (subst (λ (n : ℕ). count - 1 - passed < n) c.loop-passed.invariant.counted (below count passed c.loop-passed-test.true))
           c.in_default.ensures.passed);

@@ -13,7 +13,9 @@ use Rattle.exchange_report.specs.declared.reason.Reason.{Reason}
 use Rattle.shard_exchange.specs.Reasons.{is_end_of_wire, origin_head_reason}
 use Rattle.shard_exchange.specs.Outcomes.{FaultLeads}
 use Rattle.shard_exchange.proofs.exchange.Exchange.response_failed.Goals as goal
-use Rattle.shard_exchange.proofs.exchange.Exchange.response_failed.Goals.{else-is_end_of_wire-via-then-is_end_of_wire+then-may+else-withdraw-eq0, else-is_end_of_wire-via-then-is_end_of_wire+else-may, else-is_end_of_wire-via-else-is_end_of_wire}
+use Rattle.shard_exchange.proofs.exchange.Exchange.response_failed.Goals.{else-is_end_of_wire-via-then-is_end_of_wire+then-may+else-withdraw-eq0}
+use Rattle.shard_exchange.proofs.exchange.Exchange.response_failed.Goals.{else-is_end_of_wire-via-then-is_end_of_wire+else-may}
+use Rattle.shard_exchange.proofs.exchange.Exchange.response_failed.Goals.{else-is_end_of_wire-via-else-is_end_of_wire}
 
 first_holds : (a b : Bool) → (a && b) ≡ true → a ≡ true
 first_holds true b h = refl
@@ -24,12 +26,20 @@ second_holds true b h = h
 second_holds false b h = absurd cc
 
 -- the message fails by what the head's turn found, where the request isn't here to be sent again
-fails_so : (repeats : Type 0) (asked : Withdrawal → Type 0) (fault : RelayFault) (old mid new : Course) (head : Option HttpFault) (reason : Reason)
+fails_so : (repeats : Type 0) (asked : Withdrawal → Type 0) (fault : RelayFault) (old mid new : Course) (head : Option HttpFault)
+    (reason : Reason)
     → mid ≡ old → reason ≡ origin_head_reason fault head → new ≡ after mid (Failed (cause_of reason))
     → ((is_end_of_wire fault && may_come old Withdrawn) ≡ true → (came : Withdrawal) × (came ≡ Again → ⊥) × asked came)
     → FaultLeads repeats asked fault old new
 fails_so repeats asked fault old mid new head reason same why fails why_not =
-    inr (why_not, (head, fails ∙ (ap (λ (c : Course). after c (Failed (cause_of reason))) same ∙ ap (λ (r : Reason). after old (Failed (cause_of r))) why)))
+    inr (
+      why_not,
+      (
+        head,
+        fails ∙ (ap (λ (c : Course). after c (Failed (cause_of reason))) same
+            ∙ ap (λ (r : Reason). after old (Failed (cause_of r))) why),
+      ),
+    )
 
 pub returns-clause-leads : goal.returns-clause-leads
 returns-clause-leads g c =
@@ -39,17 +49,20 @@ returns-clause-leads g c =
     elim c.else-is_end_of_wire.branch [
       -- what is held answered that it isn't here
       | else-is_end_of_wire-via-then-is_end_of_wire+then-may+else-withdraw-eq0 w ↦
-          fails_so repeats asked c.args.fault c.args.self.now.course c.else-is_end_of_wire.self.course c.refuse.new.self.course c.head_fault.result
+          fails_so repeats asked c.args.fault c.args.self.now.course c.else-is_end_of_wire.self.course c.refuse.new.self.course
+          c.head_fault.result
           reason.result (ap (λ e. e.course) w.self-is) reason.ensures.reason c.refuse.ensures.course
           (λ both. (w.withdraw.result, (λ same. false≢true (sym (rw same at w.if-withdraw-eq0.false))), w.withdraw.ensures.answers))
       -- the course may not go there
       | else-is_end_of_wire-via-then-is_end_of_wire+else-may w ↦
-          fails_so repeats asked c.args.fault c.args.self.now.course c.else-is_end_of_wire.self.course c.refuse.new.self.course c.head_fault.result
+          fails_so repeats asked c.args.fault c.args.self.now.course c.else-is_end_of_wire.self.course c.refuse.new.self.course
+          c.head_fault.result
           reason.result (ap (λ e. e.course) w.self-is) reason.ensures.reason c.refuse.ensures.course
           (λ both. absurd (false≢true (sym w.if-may.false ∙ (w.may.ensures ∙ second_holds _ _ both))))
       -- the connection has not ended
       | else-is_end_of_wire-via-else-is_end_of_wire w ↦
-          fails_so repeats asked c.args.fault c.args.self.now.course c.else-is_end_of_wire.self.course c.refuse.new.self.course c.head_fault.result
+          fails_so repeats asked c.args.fault c.args.self.now.course c.else-is_end_of_wire.self.course c.refuse.new.self.course
+          c.head_fault.result
           reason.result (ap (λ e. e.course) w.self-is) reason.ensures.reason c.refuse.ensures.course
           (λ both. absurd (false≢true (sym w.if-is_end_of_wire.false ∙ (c.is_end_of_wire.ensures ∙ first_holds _ _ both))))
     ]

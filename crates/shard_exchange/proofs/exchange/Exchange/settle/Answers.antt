@@ -12,7 +12,8 @@ use Rattle.shard_exchange.specs.Ends.{IsOwed, IsOwedBy, LastsAs}
 use Rattle.shard_exchange.proofs.exchange.Exchange.settle.Goals as goal
 
 -- the deadline and the stop each have a status
-owed_by : (by : EndedBy) (end : End) (old new : Course) → EndsBy by end → ((why : RefusalCause) → end ≡ ends.Failed why → IsOwed old new (status_of why))
+owed_by : (by : EndedBy) (end : End) (old new : Course) → EndsBy by end
+    → ((why : RefusalCause) → end ≡ ends.Failed why → IsOwed old new (status_of why))
     → (end ≡ ends.Stopped → IsOwed old new 503) → IsOwedBy by old new
 owed_by ended.Itself end old new e failed stopped = tt
 owed_by ended.Gate end old new e failed stopped = tt
@@ -50,9 +51,14 @@ returns-clause-told g c =
       lost = tells.lost;
       keeps = tells.keeps;
       lasts = tells.lasts;
-      lasting = subst (λ (some : Bool). LastsAs some c.args.self.now.course c.tell.new.course report.result.end) report.ensures.answered tells.lasting;
+      lasting = subst (λ (some : Bool). LastsAs some c.args.self.now.course c.tell.new.course report.result.end) report.ensures.answered
+          tells.lasting;
       awaits = tells.awaits;
-      withdrawn = (tells.withdrawn, λ e. let again = report.ensures.withdrawn e in tells.again e again.2 (report.ensures.cuts again.2) again.0);
+      withdrawn = (
+        tells.withdrawn,
+        λ e. let again = report.ensures.withdrawn e in
+            tells.again e again.2 (report.ensures.cuts again.2) again.0,
+      );
       wanting = λ e none. let unanswered = report.ensures.answered ∙ none in tells.wanting e unanswered (report.ensures.cuts unanswered);
     })
 

@@ -62,12 +62,15 @@ noted_anew answered usable old new n = record {
   served = served_anew usable old.connection new.connection n.served;
 }
 
-from_here : (answered usable : Bool) (old mid new : Course) → (mid ≡ old) ⊎ (mid ≡ after old Renewed) → Noted answered usable mid new → Noted answered usable old new
+from_here : (answered usable : Bool) (old mid new : Course) → (mid ≡ old) ⊎ (mid ≡ after old Renewed) → Noted answered usable mid new
+    → Noted answered usable old new
 from_here answered usable old mid new (inl e) n = subst (λ (c : Course). Noted answered usable c new) e n
-from_here answered usable old mid new (inr e) n = noted_anew answered usable old new (subst (λ (c : Course). Noted answered usable c new) e n)
+from_here answered usable old mid new (inr e) n = noted_anew answered usable old new
+    (subst (λ (c : Course). Noted answered usable c new) e n)
 
 moving_on : {H O : Type 0} (rounds : H → H → O → Round → Type 0) (frees : H → Option Bool → Type 0) (answered reusable : H → Bool)
-    (ends : H → Bool → End → Type 0) (follows : H → End → Type 0) (repeats : H → Type 0) (late : O → Bool) (held turned : H) (later : O) (round : Round)
+    (ends : H → Bool → End → Type 0) (follows : H → End → Type 0) (repeats : H → Type 0) (late : O → Bool) (held turned : H) (later : O)
+    (round : Round)
     (old new : Course)
     → rounds held turned later round → (usable : Option Bool) × frees turned usable → Noted (answered turned) (reusable turned) old new
     → IsTurned rounds frees answered reusable ends follows repeats late held old new
@@ -88,7 +91,8 @@ moving_on rounds frees answered reusable ends follows repeats late held turned l
 
 pub returns-in-Moved-clause-turned : goal.returns-in-Moved-clause-turned
 returns-in-Moved-clause-turned g c =
-    moving_on _ _ _ _ _ _ _ _ _ c.round.new.self.holdings c.round.new.out c.round.result _ _ c.round.ensures.rounds c.note_round.ensures.freed (from_here _ _ _ c.round.new.self.course _ c.round.ensures.renewed
+    moving_on _ _ _ _ _ _ _ _ _ c.round.new.self.holdings c.round.new.out c.round.result _ _ c.round.ensures.rounds
+    c.note_round.ensures.freed (from_here _ _ _ c.round.new.self.course _ c.round.ensures.renewed
     (record {
       moves = c.round.ensures.moves;
       phase = c.note_round.ensures.phase;
@@ -98,7 +102,8 @@ returns-in-Moved-clause-turned g c =
 
 pub returns-else-not-note_round-clause-turned : goal.returns-else-not-note_round-clause-turned
 returns-else-not-note_round-clause-turned g c =
-    moving_on _ _ _ _ _ _ _ _ _ c.round.new.self.holdings c.round.new.out c.round.result _ _ c.round.ensures.rounds c.note_round-in_default.ensures.freed (from_here _ _ _ c.round.new.self.course _ c.round.ensures.renewed
+    moving_on _ _ _ _ _ _ _ _ _ c.round.new.self.holdings c.round.new.out c.round.result _ _ c.round.ensures.rounds
+    c.note_round-in_default.ensures.freed (from_here _ _ _ c.round.new.self.course _ c.round.ensures.renewed
     (record {
       moves = c.round.ensures.moves;
       phase = c.note_round-in_default.ensures.phase;
@@ -108,7 +113,8 @@ returns-else-not-note_round-clause-turned g c =
 
 -- what a message came to that is over as its transaction ended: the course is as before where it is told
 ended_there : {H O : Type 0} (rounds : H → H → O → Round → Type 0) (frees : H → Option Bool → Type 0) (answered reusable : H → Bool)
-    (ends : H → Bool → End → Type 0) (follows : H → End → Type 0) (repeats : H → Type 0) (late : O → Bool) (held turned : H) (later : O) (round : Round)
+    (ends : H → Bool → End → Type 0) (follows : H → End → Type 0) (repeats : H → Type 0) (late : O → Bool) (held turned : H) (later : O)
+    (round : Round)
     (old mid new : Course)
     → mid ≡ old → rounds held turned later round → moves new ≡ false → IsServedBy (reusable turned) mid.connection new.connection
     → (answered turned ≡ true → is_refusing new.phase ≡ false)

@@ -6,8 +6,14 @@ use Rattle.span_bank.proofs.window.Window.push.Goals as goal
 pub invariant_of-self : goal.invariant_of-self
 invariant_of-self c =
     let fields = c.self.inside in
-    let shown : Journaled = record { numbers = fields.numbers; base = fields.base; steps = fields.steps.items; room = fields.steps.capacity } in
-    sound-ring shown c.args.self.now c.args.step _ c.push_back.new.self c.self.view_is c.self.invariant c.requires.allowed c.requires.room c.after-self-inside.ensures c.push_back.ensures.items
+    let shown : Journaled = record {
+      numbers = fields.numbers;
+      base = fields.base;
+      steps = fields.steps.items;
+      room = fields.steps.capacity;
+    } in
+    sound-ring shown c.args.self.now c.args.step _ c.push_back.new.self c.self.view_is c.self.invariant c.requires.allowed c.requires.room
+    c.after-self-inside.ensures c.push_back.ensures.items
 
 pub returns-clause-sound : goal.returns-clause-sound
 returns-clause-sound c = invariant_of-self c

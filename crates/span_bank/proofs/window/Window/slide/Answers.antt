@@ -7,8 +7,14 @@ use Rattle.span_bank.proofs.window.Window.slide.Goals as goal
 pub invariant_of-self : goal.invariant_of-self
 invariant_of-self c =
     let fields = c.self.inside in
-    let shown : Journaled = record { numbers = fields.numbers; base = fields.base; steps = fields.steps.items; room = fields.steps.capacity } in
-    sound-slid_ring shown c.in-Some.oldest _ c.pop_front.new.self c.self.invariant (sym c.in-Some.ensures.value) c.after-self-inside.ensures c.pop_front.ensures.items
+    let shown : Journaled = record {
+      numbers = fields.numbers;
+      base = fields.base;
+      steps = fields.steps.items;
+      room = fields.steps.capacity;
+    } in
+    sound-slid_ring shown c.in-Some.oldest _ c.pop_front.new.self c.self.invariant (sym c.in-Some.ensures.value) c.after-self-inside.ensures
+    c.pop_front.ensures.items
 
 pub returns-in-Some-clause-sound : goal.returns-in-Some-clause-sound
 returns-in-Some-clause-sound c = invariant_of-self c

@@ -8,4 +8,10 @@ pub returns-clause-text : goal.returns-clause-text
 returns-clause-text c =
     let s = c.self.inside in
     let P : Paged → Type 0 = λ v. length v.text ≡ 4096 * v.count in
-    subst P c.self.view_is (omega (arith, length-append (text_of s.front) (down_of s.back), length_down s.back, c.count-front.ensures.text, c.count-back.ensures.text))
+    subst P c.self.view_is (omega (
+      arith,
+      length-append (text_of s.front) (down_of s.back),
+      length_down s.back,
+      c.count-front.ensures.text,
+      c.count-back.ensures.text,
+    ))

@@ -7,4 +7,6 @@ returns-then-gone-self-clause-tape c =
     let s = c.self.inside in
     let v = c.self.invariant in
     let long : s.start + s.len ≤ length s.pages.text = omega (arith, v) in
-    dropped_of c.args.self.now s.base s.start s.len c.args.place s.pages.text c.take_first.new.self.text c.self.view_is (omega (arith, c.if-gone-self.true)) (before_end s.pages.text s.base s.start s.len c.args.place long c.if-gone-self.true) c.take_first.ensures.text
+    dropped_of c.args.self.now s.base s.start s.len c.args.place s.pages.text c.take_first.new.self.text c.self.view_is
+    (omega (arith, c.if-gone-self.true)) (before_end s.pages.text s.base s.start s.len c.args.place long c.if-gone-self.true)
+    c.take_first.ensures.text
