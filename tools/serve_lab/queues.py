@@ -175,30 +175,36 @@ def users_that_close_leave_the_queue(bench):
         same("audit", proxy.stop(), IDLE)
 
 
-def wait_beside_one_that_ends(proxy, service, ends_first):
-    """A user has the only connection to a service, which says nothing to it, and ends its bytes: before one of another thread begins to wait
-    for the connection, or then. How long that one waits."""
-    first, count = User(proxy.port), len(service.requests)
-    first.send(get("/bytes/3"))
-    comes("a message at the service", lambda: len(service.requests) > count)
-    # Users are handed to the threads in turn.
-    second = User(proxy.port)
+def wait_beside_users_that_end(proxy, service, count, ends_first):
+    """So many users of one thread have all connections to a service, which says nothing to them, and end their bytes: before as many of the
+    other thread begin to wait at once, or then. How long the last of these waits."""
+    # Users are handed to the threads in turn; two of them ask for nothing.
+    users = [User(proxy.port) for _ in range(2 * count + 2)]
+    ended, waiting = users[0:2 * count:2], users[1:2 * count:2]
+    for user in ended:
+        before = len(service.requests)
+        user.send(get("/bytes/3"))
+        comes("a message at the service", lambda: len(service.requests) > before)
+    if not ends_first:
+        for user in waiting:
+            user.send(get("/bytes/4"))
+        wait_for(proxy, count)
+    begun = time.time()
+    for user in ended:
+        user.sock.shutdown(socket.SHUT_WR)
     if ends_first:
-        first.sock.shutdown(socket.SHUT_WR)
-        # Until its thread has heard of it.
+        # Until their thread has heard of it.
         time.sleep(0.1)
         begun = time.time()
-        second.send(get("/bytes/4"))
-    else:
-        second.send(get("/bytes/4"))
-        wait_for(proxy, 1)
-        begun = time.time()
-        first.sock.shutdown(socket.SHUT_WR)
-    same("the second", second.answer().body, body_of(4))
+        for user in waiting:
+            user.send(get("/bytes/4"))
+    for user in waiting:
+        same("who waits", user.answer().body, body_of(4))
     late = time.time() - begun
-    same("the first", first.is_ended(), True)
-    first.close()
-    second.close()
+    for user in ended:
+        same("who has ended", user.is_ended(), True)
+    for user in users:
+        user.close()
     same("book", settled(proxy)[:24], "rows 0 held 0 claimed 0 ")
     return late
 
@@ -215,45 +221,11 @@ def connections_to_a_service_are_taken_from_users_that_have_ended_in_another_thr
     service = bench.icap(reply, [b"Max-Connections: 1"])
     proxy = bench.proxy(bench.origin(), "shards = 2\nwait = 8", [("respmod", service.port, "/respmod/x", 1)])
     for thread in ("one thread", "the other one"):
-        called_at_once("a user of %s has ended" % thread, lambda: wait_beside_one_that_ends(proxy, service, False),
-                       lambda: wait_beside_one_that_ends(proxy, service, True))
+        called_at_once("a user of %s has ended" % thread, lambda: wait_beside_users_that_end(proxy, service, 1, False),
+                       lambda: wait_beside_users_that_end(proxy, service, 1, True))
         # One more, so that the next is the other thread's.
         User(proxy.port).close()
     same("audit", proxy.stop(), IDLE)
-
-
-def two_wait_beside_two_that_end(proxy, service, ends_first):
-    """Two users of one thread have all connections to a service, which says nothing to them, and end their bytes: before two of the other
-    thread begin to wait at once, or then. How long the later of these waits."""
-    users = [User(proxy.port) for _ in range(6)]
-    # Users are handed to the threads in turn.
-    ended, waiting, others = (users[0], users[2]), (users[1], users[3]), (users[4], users[5])
-    for user in ended:
-        count = len(service.requests)
-        user.send(get("/bytes/3"))
-        comes("a message at the service", lambda: len(service.requests) > count)
-    if not ends_first:
-        for user in waiting:
-            user.send(get("/bytes/4"))
-        wait_for(proxy, 2)
-    begun = time.time()
-    for user in ended:
-        user.sock.shutdown(socket.SHUT_WR)
-    if ends_first:
-        # Until their thread has heard of it.
-        time.sleep(0.1)
-        begun = time.time()
-        for user in waiting:
-            user.send(get("/bytes/4"))
-    for user in waiting:
-        same("who waits", user.answer().body, body_of(4))
-    late = time.time() - begun
-    for user in ended:
-        same("who has ended", user.is_ended(), True)
-    for user in ended + waiting + others:
-        user.close()
-    same("book", settled(proxy)[:24], "rows 0 held 0 claimed 0 ")
-    return late
 
 
 @case
@@ -272,8 +244,8 @@ def connections_to_a_service_are_taken_from_several_users_that_have_ended(bench)
         return False
     service = bench.icap(reply, [b"Max-Connections: 2"])
     proxy = bench.proxy(bench.origin(), "shards = 2\nwait = 8", [("respmod", service.port, "/respmod/x", 2)])
-    called_at_once("two that wait", lambda: two_wait_beside_two_that_end(proxy, service, False),
-                   lambda: two_wait_beside_two_that_end(proxy, service, True))
+    called_at_once("two that wait", lambda: wait_beside_users_that_end(proxy, service, 2, False),
+                   lambda: wait_beside_users_that_end(proxy, service, 2, True))
     same("audit", proxy.stop(), IDLE)
 
 
