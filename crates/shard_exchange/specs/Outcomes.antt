@@ -252,9 +252,16 @@ pub record IsTurned {H O : Type 0} (rounds : H → H → O → Round → Type 0)
   pub over : moves new ≡ false → IsEnded (ends turned (may_come old Withdrawn)) (follows turned) (answered turned) old new
       ⊎ IsOverdue late (answered turned) old new
 
--- the gate lets a message pass, or it is over
-abbrev pub IsGated : (ends follows : End → Type 0) → (answered : Bool) → (old new : Course) → Type 0
-IsGated ends follows answered old new = (new ≡ after old LetPass) ⊎ IsEnded ends follows answered old new
+-- the gate lets a message pass, and what is held stays as it is; or it is over
+abbrev pub IsGated : {H : Type 0} → (ends follows : End → Type 0) → (answered : Bool) → (held holds : H) → (old new : Course) → Type 0
+IsGated ends follows answered held holds old new = ((new ≡ after old LetPass) × (holds ≡ held)) ⊎ IsEnded ends follows answered old new
+
+-- A message that moves on is the one that moved before: nothing changed; it stays while its service's connection goes back; or it went
+-- through a round of turns, after which its service's connection came out of it, or didn't.
+abbrev pub MovesOn : {H O : Type 0} → (stays : H → H → Type 0) → (rounds : H → H → O → Round → Type 0) → (frees : H → Option Bool → Type 0)
+    → (held holds : H) → Type 0
+MovesOn {H} {O} stays rounds frees held holds = (holds ≡ held) ⊎ (stays held holds
+    ⊎ ((turned : H) × (later : O) × (round : Round) × rounds held turned later round × ((usable : Option Bool) × frees turned usable)))
 
 -- What a step does where this is due: it reads the head of a request, plans the message, leases a connection, asks its service
 -- and hears its

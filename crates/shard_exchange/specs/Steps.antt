@@ -1,13 +1,16 @@
 -- What a step of an exchange keeps to.
-use Rattle.std.specs.Prelude.{◌≡◌, Bool, true, false, ⊤}
+use Rattle.std.specs.Prelude.{◌≡◌, Bool, true, false, not, ⊤}
 use Rattle.exchange_core.specs.declared.course.Course.{Course}
 use Rattle.exchange_core.specs.declared.due.Due.{Due}
 use Rattle.exchange_core.specs.declared.due.Due.TheVariants.{Plan, Lend, Ask, Reserve, Dial, Start, AskGate, Turn, GiveBack, Release}
 use Rattle.exchange_core.specs.declared.due.Due.TheVariants.{HangUp}
 use Rattle.exchange_core.specs.Dues.{due_of, is_wait}
 use Rattle.exchange_core.specs.Log.{Goes}
+use Rattle.shard_exchange.specs.Ends.{is_stopped}
 use Rattle.shard_exchange.specs.declared.tasks.Step.{Step}
 use Rattle.shard_exchange.specs.declared.tasks.Step.TheVariants.{On, Turned, Unmoved, Waits, Over}
+use Rattle.shard_exchange.specs.declared.tasks.Task.{Task}
+use Rattle.shard_exchange.specs.declared.tasks.Task.TheVariants as tasks
 
 -- who waits, or hasn't moved, has a deadline, and it hasn't passed; and only the course says what is over
 abbrev pub Heeds : (late : Bool) → Course → Step → Type 0
@@ -44,3 +47,9 @@ IsDone old new = is_at_once (due_of old) ≡ true → due_of new ≡ due_of old 
 -- events that may come lead on, and what waits for nobody is due no more
 abbrev pub GoesOn : (old new : Course) → Type 0
 GoesOn old new = Goes old new × IsDone old new
+
+-- the task does what is due: so does a leave where nothing was stopped
+abbrev pub is_step : Task → Course → Bool
+is_step tasks.Step c = true
+is_step tasks.TakeLeave c = not (is_stopped c)
+is_step _ c = false

@@ -258,6 +258,7 @@ pub trait Effects<P>: Holder {
         requires { (Self.hand self.old).leased ≡ true }
         ensures back { (Self.hand self.new).leased ≡ false }
         ensures kept { KeepsButLease (Self.hand self.old) (Self.hand self.new) }
+        ensures stays { Self.stays self.old self.new }
         ensures put { result ≡ true → puts self.old out.old out.new at.now }
         ensures closed { result ≡ false → gives_up self.old out.old out.new at.now }
         ensures ready { result ≡ (is_ready course.now.connection && has_line self.old) };

@@ -59,6 +59,14 @@ impl<H: InHand> Exchange<H> {
         self.course.course().phase
     }
 
+    /// Whether nothing is due for the user any more, but for a refusal.
+    pub(crate) fn is_stopped(&self) -> bool
+        ensures { result ≡ is_stopped self.now.course }
+    {
+        let course = self.course.course();
+        course.stopping || course.phase == Phase::Gone
+    }
+
     /// What is due.
     pub fn due(&self) -> Due
         ensures { result ≡ due_of self.now.course }
@@ -87,6 +95,7 @@ impl<H: InHand> Exchange<H> {
     /// The proxy drains: an answer whose transaction starts from now on is the last one of its connection.
     pub fn drain(&mut self)
         ensures goes { Goes self.old.course self.new.course }
+        ensures held { self.new.holdings ≡ self.old.holdings }
         ensures drains { (self.new.course.draining || is_stopped self.new.course) ≡ true }
     {
         if self.course.may(Event::Drain) {

@@ -44,7 +44,11 @@ pub trait Holder: InHand {
     // begins, its origin's connection has given nothing since the request set out
     ghost follows: { Self → AnyEnd → Self → Type 0 };
 
-    // the connection of a service that has said all comes out of the transaction, and may carry another request or not
+    // the message that moves stays as it is
+    ghost stays: { Self → Self → Type 0 };
+
+    // the connection of a service that has said all comes out of the transaction, and may carry another request or not; or none comes out,
+    // since it hasn't said all, or is gone. The message that moves is the same
     ghost frees: { Self → Self → Option Bool → Type 0 };
 
     // the request that went out is here to be sent again, and its origin's connection has given no byte since it was dialed

@@ -100,6 +100,7 @@ impl<H: Holder> Exchange<H> {
     where
         H: Effects<P>,
         ensures goes { Goes self.old.course self.new.course }
+        ensures gone { is_gone self.new.course.phase ≡ true }
         ensures over { is_over self.new.course ≡ true }
     {
         self.lose_message(rt, at, out);

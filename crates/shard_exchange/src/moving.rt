@@ -53,7 +53,7 @@ impl<H: Holder> Exchange<H> {
         requires due { due_of self.old.course ≡ dues.AskGate }
         requires runs { self.old.course.stopping ≡ false }
         ensures gated { IsGated (H.ends self.old.holdings (may_come self.old.course Withdrawn)) (λ end. H.follows self.old.holdings end self.new.holdings)
-            (H.answered self.old.holdings) self.old.course self.new.course }
+            (H.answered self.old.holdings) self.old.holdings self.new.holdings self.old.course self.new.course }
         ensures goes { GoesOn self.old.course self.new.course }
         ensures on { result ≡ Step.On }
     {

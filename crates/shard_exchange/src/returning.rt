@@ -24,6 +24,7 @@ impl<H: Holder> Exchange<H> {
         requires due { due_of self.old.course ≡ dues.GiveBack }
         ensures given { IsGivenBack (H.puts self.old.holdings out.old out.new at.now) (H.gives_up self.old.holdings out.old out.new at.now) (H.has_line self.old.holdings)
             self.old.course }
+        ensures stays { H.stays self.old.holdings self.new.holdings }
         ensures course { self.new.course ≡ after self.old.course (Returned false) }
         ensures goes { GoesOn self.old.course self.new.course }
         ensures on { result ≡ Step.On }

@@ -23,8 +23,8 @@ impl<H: Holder> Exchange<H> {
     ghost use Rattle.exchange_core.specs.May.{may_come, is_refusing};
     ghost use Rattle.exchange_core.specs.declared.event.Event.TheVariants.{Withdrawn};
     ghost use Rattle.shard_exchange.specs.Leases.{Renews};
-    ghost use Rattle.shard_exchange.specs.Outcomes.{Does, IsAsked, IsAskedAnew, IsAwaited, IsDialed, IsGated, IsGivenBack, IsHeard, IsHungUp, IsLent, IsPlanned, IsRead, IsRequested, IsStarted, IsTurned};
-    ghost use Rattle.shard_exchange.specs.Steps.{Heeds, IsDone, GoesOn};
+    ghost use Rattle.shard_exchange.specs.Outcomes.{Does, IsAsked, IsAskedAnew, IsAwaited, IsDialed, IsGated, IsGivenBack, IsHeard, IsHungUp, IsLent, IsPlanned, IsRead, IsRequested, IsStarted, IsTurned, MovesOn};
+    ghost use Rattle.shard_exchange.specs.Steps.{Heeds, IsDone, GoesOn, is_step};
 
     /// Does a task, and says how far that came. An exchange that only closes isn't stopped: it goes on with that.
     pub fn act<P, R: Wait>(
@@ -39,9 +39,9 @@ impl<H: Holder> Exchange<H> {
         H: Effects<P>,
         // Each task takes the course along events that may come.
         ensures goes { Goes self.old.course self.new.course }
-        ensures done { task ≡ Task.Step → IsDone self.old.course self.new.course }
-        ensures late { task ≡ Task.Step → result ≡ Step.Waits → H.is_late out.new at.now ≡ false }
-        ensures waits { task ≡ Task.Step → result ≡ Step.Waits → is_wait (due_of self.new.course) ≡ true }
+        ensures done { is_step task self.old.course ≡ true → IsDone self.old.course self.new.course }
+        ensures late { is_step task self.old.course ≡ true → result ≡ Step.Waits → H.is_late out.new at.now ≡ false }
+        ensures waits { is_step task self.old.course ≡ true → result ≡ Step.Waits → is_wait (due_of self.new.course) ≡ true }
         // Who waits has tried what is due, and that came to nothing now; at its leave, to read what its user still sends.
         ensures rests { result ≡ Step.Waits → RestsOn (record {
           request = H.reads self.old.holdings self.new.holdings (Some head_turns.Nothing);
@@ -57,7 +57,7 @@ impl<H: Holder> Exchange<H> {
             ⊎ ((task ≡ Task.TakeLeave) × (held : H) × H.sends_nothing held self.new.holdings) }
         ensures over { result ≡ Step.Over → is_over self.new.course ≡ true }
         ensures lost { task ≡ Task.Lose → is_over self.new.course ≡ true }
-        ensures does { task ≡ Task.Step → Does (IsRequested H.reads H.has_begun (H.is_late out.old at.now) self.old.holdings self.old.course self.new.course)
+        ensures does { is_step task self.old.course ≡ true → Does (IsRequested H.reads H.has_begun (H.is_late out.old at.now) self.old.holdings self.old.course self.new.course)
             (IsPlanned (H.plans self.old.holdings self.new.holdings out.old at.now) self.old.course self.new.course)
             (IsLent (H.leases self.new.holdings) (λ out. H.fails out at.now) (λ out. H.joins out at.now) self.old.course self.new.course)
             (IsAwaited (H.leases self.new.holdings) (λ out. H.fails out at.now) (λ out. H.has_waited out at.now) (λ out. H.is_late out at.now)
@@ -68,29 +68,30 @@ impl<H: Holder> Exchange<H> {
             (IsDialed (H.dials self.old.holdings self.new.holdings out.old out.new at.now) self.old.course self.new.course)
             (IsStarted (H.starts self.old.holdings self.new.holdings out.old at.now self.old.course) self.new.course)
             (IsGated (H.ends self.old.holdings (may_come self.old.course Withdrawn)) (λ end. H.follows self.old.holdings end self.new.holdings)
-            (H.answered self.old.holdings) self.old.course self.new.course)
+            (H.answered self.old.holdings) self.old.holdings self.new.holdings self.old.course self.new.course)
             (IsTurned (λ held turned later round. H.rounds held turned out.old later at.now round) (λ turned usable. H.frees turned self.new.holdings usable)
             H.answered H.reusable H.ends (λ turned end. H.follows turned end self.new.holdings) H.repeats (λ out. H.is_late out at.now)
             self.old.holdings self.old.course self.new.course)
             (IsRead H.hears H.repeats H.withdraws (H.is_late out.old at.now) self.old.holdings self.old.course self.new.course)
             (IsGivenBack (H.puts self.old.holdings out.old out.new at.now) (H.gives_up self.old.holdings out.old out.new at.now) (H.has_line self.old.holdings)
-            self.old.course)
+            self.old.course × H.stays self.old.holdings self.new.holdings)
             (IsHungUp (H.lays self.old.holdings out.old out.new at.now) (H.closes self.old.holdings out.old out.new at.now) self.old.course)
             (H.has_page out.old at.now) (H.user_past self.old.holdings) (H.user_past self.new.holdings) (H.hand self.old.holdings) (H.hand self.new.holdings) (H.is_late out.old at.now)
             self.old.course self.new.course (due_of self.old.course) }
         ensures stops { task ≡ Task.Halt → is_closing self.old.course.phase ≡ false → Halts self.old.course self.new.course (H.has_begun self.old.holdings) }
         ensures alone { task ≡ Task.Halt → moves self.old.course ≡ true → H.answered self.old.holdings ≡ true → is_refusing self.new.course.phase ≡ false }
+        // A message that moves before and after it is the same.
+        ensures on { moves self.old.course ≡ true → moves self.new.course ≡ true → MovesOn H.stays (λ held turned later round. H.rounds held turned out.old later at.now round)
+            (λ turned usable. H.frees turned self.new.holdings usable) self.old.holdings self.new.holdings }
     {
-        let course = self.course.course();
-        let is_stopped = course.stopping || course.phase == Phase::Gone;
         match task {
             Task::Lose => {
                 self.lose(rt, at, out);
                 Step::Over
             }
-            Task::Halt if course.phase == Phase::Closing => Step::On,
+            Task::Halt if self.phase() == Phase::Closing => Step::On,
             Task::Halt => self.halt(rt, at, out),
-            Task::TakeLeave if is_stopped => self.take_leave(rt, at, out),
+            Task::TakeLeave if self.is_stopped() => self.take_leave(rt, at, out),
             Task::Step | Task::TakeLeave => self.step(rt, at, out, scratch),
         }
     }
@@ -131,13 +132,13 @@ impl<H: Holder> Exchange<H> {
             (IsDialed (H.dials self.old.holdings self.new.holdings out.old out.new at.now) self.old.course self.new.course)
             (IsStarted (H.starts self.old.holdings self.new.holdings out.old at.now self.old.course) self.new.course)
             (IsGated (H.ends self.old.holdings (may_come self.old.course Withdrawn)) (λ end. H.follows self.old.holdings end self.new.holdings)
-            (H.answered self.old.holdings) self.old.course self.new.course)
+            (H.answered self.old.holdings) self.old.holdings self.new.holdings self.old.course self.new.course)
             (IsTurned (λ held turned later round. H.rounds held turned out.old later at.now round) (λ turned usable. H.frees turned self.new.holdings usable)
             H.answered H.reusable H.ends (λ turned end. H.follows turned end self.new.holdings) H.repeats (λ out. H.is_late out at.now)
             self.old.holdings self.old.course self.new.course)
             (IsRead H.hears H.repeats H.withdraws (H.is_late out.old at.now) self.old.holdings self.old.course self.new.course)
             (IsGivenBack (H.puts self.old.holdings out.old out.new at.now) (H.gives_up self.old.holdings out.old out.new at.now) (H.has_line self.old.holdings)
-            self.old.course)
+            self.old.course × H.stays self.old.holdings self.new.holdings)
             (IsHungUp (H.lays self.old.holdings out.old out.new at.now) (H.closes self.old.holdings out.old out.new at.now) self.old.course)
             (H.has_page out.old at.now) (H.user_past self.old.holdings) (H.user_past self.new.holdings) (H.hand self.old.holdings) (H.hand self.new.holdings) (H.is_late out.old at.now)
             self.old.course self.new.course (due_of self.old.course) }
@@ -184,13 +185,13 @@ impl<H: Holder> Exchange<H> {
             (IsDialed (H.dials self.old.holdings self.new.holdings out.old out.new at.now) self.old.course self.new.course)
             (IsStarted (H.starts self.old.holdings self.new.holdings out.old at.now self.old.course) self.new.course)
             (IsGated (H.ends self.old.holdings (may_come self.old.course Withdrawn)) (λ end. H.follows self.old.holdings end self.new.holdings)
-            (H.answered self.old.holdings) self.old.course self.new.course)
+            (H.answered self.old.holdings) self.old.holdings self.new.holdings self.old.course self.new.course)
             (IsTurned (λ held turned later round. H.rounds held turned out.old later at.now round) (λ turned usable. H.frees turned self.new.holdings usable)
             H.answered H.reusable H.ends (λ turned end. H.follows turned end self.new.holdings) H.repeats (λ out. H.is_late out at.now)
             self.old.holdings self.old.course self.new.course)
             (IsRead H.hears H.repeats H.withdraws (H.is_late out.old at.now) self.old.holdings self.old.course self.new.course)
             (IsGivenBack (H.puts self.old.holdings out.old out.new at.now) (H.gives_up self.old.holdings out.old out.new at.now) (H.has_line self.old.holdings)
-            self.old.course)
+            self.old.course × H.stays self.old.holdings self.new.holdings)
             (IsHungUp (H.lays self.old.holdings out.old out.new at.now) (H.closes self.old.holdings out.old out.new at.now) self.old.course)
             (H.has_page out.old at.now) (H.user_past self.old.holdings) (H.user_past self.new.holdings) (H.hand self.old.holdings) (H.hand self.new.holdings) (H.is_late out.old at.now)
             self.old.course self.new.course (due_of self.old.course) }

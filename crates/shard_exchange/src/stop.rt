@@ -49,6 +49,7 @@ impl<H: Holder> Exchange<H> {
         requires moves { moves self.old.course ≡ true }
         requires may { may_come self.old.course Stop ≡ true }
         ensures goes { Goes self.old.course self.new.course }
+        ensures still { moves self.new.course ≡ false }
         ensures stops { Halts self.old.course self.new.course false }
         ensures alone { H.answered self.old.holdings ≡ true → is_refusing self.new.course.phase ≡ false }
     {
@@ -82,6 +83,7 @@ impl<H: Holder> Exchange<H> {
         requires still { moves self.old.course ≡ false }
         requires may { may_come self.old.course Stop ≡ true }
         ensures goes { Goes self.old.course self.new.course }
+        ensures still { moves self.new.course ≡ false }
         ensures stops { Halts self.old.course self.new.course (H.has_begun self.old.holdings) }
     {
         let is_in_head = self.is_in_head();
@@ -97,6 +99,7 @@ impl<H: Holder> Exchange<H> {
     where
         H: Effects<P>,
         ensures goes { Goes self.old.course self.new.course }
+        ensures still { moves self.new.course ≡ false }
         ensures stops { Halts self.old.course self.new.course (H.has_begun self.old.holdings) }
         ensures alone { moves self.old.course ≡ true → H.answered self.old.holdings ≡ true → is_refusing self.new.course.phase ≡ false }
     {
@@ -130,6 +133,7 @@ impl<H: Holder> Exchange<H> {
     where
         H: Effects<P>,
         ensures goes { Goes self.old.course self.new.course }
+        ensures still { moves self.new.course ≡ false }
         ensures stops { Halts self.old.course self.new.course (H.has_begun self.old.holdings) }
         ensures alone { moves self.old.course ≡ true → H.answered self.old.holdings ≡ true → is_refusing self.new.course.phase ≡ false }
         ensures gone { is_gone self.new.course.phase ≡ true → is_over self.new.course ≡ true }
@@ -157,6 +161,7 @@ impl<H: Holder> Exchange<H> {
         H: Effects<P>,
         requires { due_of self.old.course ≡ dues.TryRefusal status }
         ensures goes { Goes self.old.course self.new.course }
+        ensures leads { (self.new.course ≡ self.old.course) ⊎ (is_over self.new.course ≡ true) }
         ensures over { result ≡ Said.Whole → is_over self.new.course ≡ true }
         ensures broken { result ≡ Said.Broken → is_over self.new.course ≡ true }
         ensures nothing { result ≡ Said.Nothing → SaysOn (H.user_past self.old.holdings) (H.user_past self.new.holdings)
@@ -177,6 +182,7 @@ impl<H: Holder> Exchange<H> {
         H: Effects<P>,
         requires stopped { is_stopped self.old.course ≡ true }
         ensures goes { Goes self.old.course self.new.course }
+        ensures still { moves self.new.course ≡ false }
         ensures on { result ≡ Some Step.Over → ⊥ }
         ensures gone { result ≡ None → is_gone self.new.course.phase ≡ true }
         ensures rests { result ≡ Some Step.Waits → (status : ℕ) × (due_of self.old.course ≡ dues.TryRefusal status)
@@ -201,6 +207,7 @@ impl<H: Holder> Exchange<H> {
         H: Effects<P>,
         requires gone { is_gone self.old.course.phase ≡ true }
         ensures goes { Goes self.old.course self.new.course }
+        ensures gone { is_gone self.new.course.phase ≡ true }
         ensures over { result ≡ Step.Over → is_over self.new.course ≡ true }
         ensures rests { result ≡ Step.Waits → (held : H) × H.sends_nothing held self.new.holdings }
     {
@@ -223,6 +230,7 @@ impl<H: Holder> Exchange<H> {
         H: Effects<P>,
         requires stopped { is_stopped self.old.course ≡ true }
         ensures goes { Goes self.old.course self.new.course }
+        ensures still { moves self.new.course ≡ false }
         ensures over { result ≡ Step.Over → is_over self.new.course ≡ true }
         ensures rests { result ≡ Step.Waits → ((status : ℕ) × (due_of self.old.course ≡ dues.TryRefusal status)
             × SaysOn (H.user_past self.old.holdings) (H.user_past self.new.holdings)

@@ -2,3 +2,4 @@ pub mod Freed
 pub mod Message
 pub mod Settled
 pub mod Started
+pub mod Way

@@ -1,6 +1,6 @@
 //! What is done over what is held alone.
 
-ghost use Rattle.std.specs.Prelude.{◌≡◌, ◌++◌, ℕ, List, is_some, option_map, true, false, None, Some, IfSome, IsSomeAnd, ⊤};
+ghost use Rattle.std.specs.Prelude.{◌≡◌, ◌++◌, ℕ, List, Option, is_some, option_map, true, false, None, Some, IfSome, IsSomeAnd, ⊤};
 ghost use Rattle.proxy_rules.specs.Arrivals.{Came};
 ghost use Rattle.shard_message.specs.Ended.{HasGiven, HasGivenSince, IsBarred};
 ghost use Rattle.shard_message.specs.Outset.{BeginsClean, Outset};
@@ -11,7 +11,8 @@ ghost use Rattle.shard_exchange.specs.declared.answers.HeadTurn.TheVariants.{Not
 ghost use Rattle.shard_message.specs.Lines.{line_in};
 ghost use Rattle.shard_message.specs.Usable.{usable_by};
 ghost use Rattle.shard_message.specs.Waits.{GivesNone, MovesNone};
-ghost use Rattle.shard_holdings.specs.Freed.{IsFreed};
+ghost use Rattle.proxy_rules.specs.Since.{held_or};
+ghost use Rattle.shard_holdings.specs.Freed.{IsFreed, freed_of};
 ghost use Rattle.shard_holdings.specs.Message.{has_come};
 ghost use Rattle.shard_holdings.specs.Settled.{WithdrawsAs};
 
@@ -59,10 +60,12 @@ impl<O: Kinds> Holder for Holdings<O> {
           × ((s : Outset O.User O.Service O.Origin) → ⟦<Moving<O> as Accounted<O>>⟧.since s tx → BeginsClean O.Origin.Wire end s.origin later.origin later.message)
     ] };
 
-    ghost frees = { λ held later usable. elim held.tx [
-      | None ↦ ⊥
-      | Some tx ↦ IsFreed (⟦<Moving<O> as Accounted<O>>⟧.service tx) (λ leased. leased.wire) later.connection usable
-    ] };
+    ghost stays = { λ held later. later.tx ≡ held.tx };
+
+    ghost frees = { λ held later usable. IsSomeAnd held.tx (λ tx. IsFreed (⟦<Moving<O> as OnItsWay>⟧.heard tx) (⟦<Moving<O> as Accounted<O>>⟧.service tx) (λ leased. leased.wire) later.connection usable
+        × IsSomeAnd later.tx (λ next. (s : Outset O.User O.Service O.Origin) → ⟦<Moving<O> as Accounted<O>>⟧.since s tx
+        → (given : Option O.Service) × (given ≡ held_or (freed_of (⟦<Moving<O> as Accounted<O>>⟧.service tx) usable) s.given)
+        × ⟦<Moving<O> as Accounted<O>>⟧.since (record s { given = given }) next)) };
 
     ghost repeats = { λ held. elim held.tx [
       | None ↦ IfSome held.origin (λ origin. HasGiven O.Origin.past origin held.before.0)

@@ -9,5 +9,6 @@
 mod doing;
 mod holding;
 mod holdings;
+pub mod laws;
 
 pub use holdings::{Held, Holdings};

@@ -64,6 +64,9 @@ pub trait OnItsWay {
     // the connection to its service may carry another request
     ghost reusable: { Self → Bool };
 
+    // its service has said all
+    ghost heard: { Self → Bool };
+
     // what its course is told where nothing else ends it: by how its transaction ended, or by the stop where that is open; and by whether
     // something bars a request from being withdrawn
     ghost ends: { Self → (bars : Type 0) → AnyEnd → Type 0 };
@@ -81,6 +84,7 @@ impl<O: Kinds> OnItsWay for Moving<O> {
     ghost use Rattle.std.specs.Prelude.{◌≡◌, ◌&&◌, ⊤};
     ghost use Rattle.adapt_hold.specs.Holding.{shows};
     ghost use Rattle.adapt_sides.specs.Turns.Gift.{nothing};
+    ghost use Rattle.trace_core.specs.History.{is_service_over};
     ghost use Rattle.adapt_turn.specs.declared.turn.Outcome.TheVariants.{Done};
     ghost use Rattle.http_relay.specs.Giving.{gift_of};
     ghost use Rattle.http_relay.specs.Reading.{request_of};
@@ -97,6 +101,11 @@ impl<O: Kinds> OnItsWay for Moving<O> {
     ghost reusable = { λ moving. elim moving [
       | Request tx ↦ may_serve_again tx.value.tx.ends
       | Response tx ↦ may_serve_again tx.value.tx.ends
+    ] };
+
+    ghost heard = { λ moving. elim moving [
+      | Request tx ↦ is_service_over (shows tx.value.tx.hold.history)
+      | Response tx ↦ is_service_over (shows tx.value.tx.hold.history)
     ] };
 
     ghost ends = { λ moving bars end. elim moving [
@@ -288,8 +297,10 @@ impl<O: Kinds> Moving<O> {
         }
     }
 
-    /// Gives up the connection to the service once the service has said all.
+    /// Gives up the connection to the service once the service has said all. `None` before that, and where it is gone.
     pub fn take_freed(&mut self) -> Option<FreedConnection<O::Service>>
+        ensures over { IfSome result (λ free. ⟦<Self as OnItsWay>⟧.heard self.old ≡ true) }
+        ensures due { result ≡ None → ⟦<Self as OnItsWay>⟧.heard self.old ≡ true → ⟦<Self as Accounted<O>>⟧.service self.old ≡ None }
         ensures reusable { IfSome result (λ free. free.is_reusable ≡ ⟦<Self as OnItsWay>⟧.reusable self.old) }
         ensures wire { IfSome result (λ free. ⟦<Self as Accounted<O>>⟧.service self.old ≡ Some free.wire) }
         ensures carries { (s : Outset O.User O.Service O.Origin) → ⟦<Self as Accounted<O>>⟧.since s self.old

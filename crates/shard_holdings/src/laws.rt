@@ -1,0 +1,33 @@
+//! What holds of every message on its way. The law is the contract of a function that does nothing.
+
+ghost use Rattle.std.specs.Prelude.{ℕ};
+ghost use Rattle.shard_exchange.specs.Outcomes.{MovesOn};
+ghost use Rattle.shard_message.specs.Begun.{beginning};
+ghost use Rattle.shard_message.specs.Outset.{Outset, SetsOut};
+ghost use Rattle.shard_holdings.specs.Way.{AreSteps, Carries, IsSince};
+
+use crate::holdings::Holdings;
+use exchange_core::Course;
+use shard_exchange::{Effects, Holder};
+use shard_message::{Accounted, Moving, Outside};
+
+/// A message that moves is the one that its exchange started, however many steps were taken since: so of each way in which it set out its
+/// connections gave and took what `a_message_that_moves_takes_one` of `shard_message::laws` says. `held` is what was held before it
+/// started, `begun` after that, and `now` is what is held later. A step is what `Exchange::act` says of a message that moves before and
+/// after it.
+pub fn a_message_stays_the_one_that_set_out<P, O: Outside<P>>(
+    at: &P,
+    out: &O,
+    course: Course,
+    held: &Holdings<O>,
+    begun: &Holdings<O>,
+    now: &Holdings<O>,
+)
+    ensures began { (set : ⟦<Holdings<O> as Effects<P>>⟧.starts held.now begun.now out.now at.now course) → (s : Outset O.User O.Service O.Origin)
+        → SetsOut O.User.Wire O.Origin.Wire (beginning set.reserved.planned set.arrival.value set.manner) set.source set.line set.hop s
+        → IsSince ⟦<Moving<O> as Accounted<O>>⟧.since s begun.now.tx }
+    ensures stays { (n : ℕ) → AreSteps (λ one next. (old : O) × (spot : P) × MovesOn ⟦<Holdings<O> as Holder>⟧.stays
+        (λ held turned later round. ⟦<Holdings<O> as Effects<P>>⟧.rounds held turned old later spot round)
+        (λ turned usable. ⟦<Holdings<O> as Holder>⟧.frees turned next usable) one next) n begun.now now.now
+        → Carries ⟦<Moving<O> as Accounted<O>>⟧.since begun.now.tx now.now.tx }
+{}
