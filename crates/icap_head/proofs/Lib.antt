@@ -8,6 +8,7 @@ pub mod Lacking
 pub mod LineFront
 pub mod LookUps
 pub mod OneReading
+pub mod Plain
 pub mod Readings
 pub mod Refusals
 pub mod Sections

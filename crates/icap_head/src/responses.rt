@@ -65,7 +65,21 @@ pub fn read_response(alloc: Global, text: &[u8]) -> Result<Head<IcapResponse>, H
     find_response(alloc, text)
 }
 
+/// Most heads have no folds: such a head is read as it came, without a copy.
 fn find_response(alloc: Global, text: &[u8]) -> Result<Head<IcapResponse>, HeadFault>
+    ensures ok { IfOk result (λ head. HasResponse text.now (response_parts head.value) head.length) }
+    ensures err { IfErr result (λ fault. ((fault ≡ HeadFault.NoMemory) × ((value : Response) × (size : ℕ) × HasResponse text.now value size))
+        ⊎ RefusesResponse fault text.now) }
+{
+    match read_plain(alloc, text) {
+        Ok(head) => Ok(head),
+        Err(HeadFault::NoMemory) => Err(HeadFault::NoMemory),
+        Err(_) => read_folded(alloc, text),
+    }
+}
+
+/// The same of any text: on a copy with its folds written over.
+fn read_folded(alloc: Global, text: &[u8]) -> Result<Head<IcapResponse>, HeadFault>
     ensures ok { IfOk result (λ head. HasResponse text.now (response_parts head.value) head.length) }
     ensures err { IfErr result (λ fault. ((fault ≡ HeadFault.NoMemory) × ((value : Response) × (size : ℕ) × HasResponse text.now value size))
         ⊎ RefusesResponse fault text.now) }

@@ -1,16 +1,15 @@
-use Rattle.std.proofs.Common.{◌≡◌, ℕ, List, ◌⊎◌, IfOk, IfErr, ◌∙◌, subst}
-use Rattle.icap_head.specs.declared.reading.HeadFault.TheVariants.{NoMemory}
-use Rattle.icap_head.specs.StartLines.{StatusForm}
-use Rattle.icap_head.specs.Heads.{Response, HasPlainResponse, RefusesIcapHead, response_parts}
+use Rattle.icap_head.specs.Fields.{field_list}
+use Rattle.icap_head.specs.Heads.{StartsResponse, response_parts}
+use Rattle.icap_head.proofs.Folding.{head_stays}
+use Rattle.icap_head.proofs.Plain.{want_stays}
 use Rattle.icap_head.proofs.responses.find_response.Goals as goal
 
-pub returns-clause-ok : goal.returns-clause-ok
-returns-clause-ok c =
-    let P : List ℕ → Type 0 = λ t. IfOk c.read_plain.result (λ head. HasPlainResponse t (response_parts head.value) head.length) in
-    subst P (c.as_slice.ensures.value ∙ c.unfolded-plain.ensures) c.read_plain.ensures.ok
+pub returns-in-Ok-clause-ok : goal.returns-in-Ok-clause-ok
+returns-in-Ok-clause-ok c =
+    let head = c.in-Ok.head in
+    head_stays (StartsResponse (response_parts head.value)) c.args.text.now (field_list head.value.fields) head.length c.in-Ok.ensures.ok
 
-pub returns-clause-err : goal.returns-clause-err
-returns-clause-err c =
-    let P : List ℕ → Type 0 = λ t. IfErr c.read_plain.result (λ fault. ((fault ≡ NoMemory)
-    × ((value : Response) × (size : ℕ) × HasPlainResponse t value size)) ⊎ RefusesIcapHead StatusForm fault t) in
-    subst P (c.as_slice.ensures.value ∙ c.unfolded-plain.ensures) c.read_plain.ensures.err
+pub returns-in-Err-NoMemory-clause-err : goal.returns-in-Err-NoMemory-clause-err
+returns-in-Err-NoMemory-clause-err c =
+    let fault = c.in-Err-NoMemory.field-0 in
+    want_stays c.args.text.now fault c.in-Err-NoMemory.field-0-is c.in-Err-NoMemory.ensures.err
