@@ -1,6 +1,6 @@
 -- What one more field adds to the values of a name.
 use Rattle.std.proofs.Common.{◌≡◌, ℕ, ◌+◌, ◌<◌, true, List, [], ◌∷◌, ◌++◌, length, map, take, drop, refl, sym, ap, ◌∙◌, arith}
-use Rattle.std.proofs.Common.{length-append}
+use Rattle.std.proofs.Common.{length-append, lt-ltb, nat_lt}
 use Rattle.std.proofs.lemmas.List.{map-append, take-append-drop}
 use Rattle.std.proofs.lemmas.List.Elements.{filter-append, filter_more}
 use Rattle.std.specs.Str.{str_eq_ignore_ascii_case}
@@ -27,6 +27,21 @@ some_values : (values : List (List ℕ)) (v : Values) → IsValues values v → 
 some_values values NoValue is some = absurd (some refl)
 some_values values (One value) is some = rw is (omega arith)
 some_values values Many is some = omega arith
+
+-- a field of that name is found
+pub has_value : (name : List ℕ) (fields : List (List ℕ × List ℕ)) (i : ℕ) → i < length fields
+    → str_eq_ignore_ascii_case (name_at fields i) name ≡ true → true ≡ nat_lt 0 (length (values_of name fields))
+has_value name fields i l e =
+    let more = ap length (values-more name fields i l e) in
+    let all = ap length (values-front name fields (i + 1)) in
+    let some : 0 < length (values_of name fields) = omega (
+      arith,
+      more,
+      all,
+      length-append (values_of name (take i fields)) (value_at fields i ∷ []),
+      length-append (values_of name (take (i + 1) fields)) (values_of name (drop (i + 1) fields)),
+    ) in
+    sym (lt-ltb 0 (length (values_of name fields)) some)
 
 -- a value behind another
 pub second_value : (name : List ℕ) (fields : List (List ℕ × List ℕ)) (i : ℕ) (v : Values) → i < length fields

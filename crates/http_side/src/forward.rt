@@ -1,15 +1,16 @@
 //! What is forwarded to the next hop and to a service: the framing, the end of the user's connection, and the heads
 //! (RFC 9112, sections 6 and 9.6; RFC 9110, section 7.6).
-ghost use Rattle.std.specs.Prelude.{◌≡◌, length, IfOk};
+ghost use Rattle.std.specs.Prelude.{◌≡◌, length, IfOk, if◌then◌else◌, None};
 ghost use Rattle.std.specs.Vec.{vec_capacity};
 ghost use Rattle.http_side.specs.Lengths.{content_length, coding};
+ghost use Rattle.http_side.specs.Heads.{both_lengths};
 ghost use Rattle.http_side.specs.Forward.{kept_length, has_no_place, is_response, has_body, has_own_body, is_to_old_user, unsized_framing, next_framing, closes, says_close, gets_zero, is_absolute, extra_of, forwarded, encapsulated, length_of, is_chunked};
 
 use crate::body::Framing;
 use crate::connection::is_named_by;
 use crate::fields::Fields;
 use crate::lengths::{coding, content_length};
-use crate::request::{HttpRequest, has_both_lengths};
+use crate::request::HttpRequest;
 use crate::response::HttpResponse;
 use crate::targets::authority_of;
 use crate::writing::{Extra, written_head};
@@ -108,13 +109,7 @@ impl<'a> Message<'a> {
     {
         match self {
             Message::Request(request) => length_of(&request.fields()),
-            Message::Response(response) => {
-                if has_both_lengths(&response.fields()) {
-                    None
-                } else {
-                    length_of(&response.fields())
-                }
-            }
+            Message::Response(response) => uncoded_length(&response.fields()),
         }
     }
 
@@ -151,6 +146,17 @@ fn length_of(fields: &Fields<'_>) -> Option<u64>
     match content_length(fields) {
         Ok(length) => length,
         Err(_) => None,
+    }
+}
+
+/// The length that goes on where the fields say no coding.
+fn uncoded_length(fields: &Fields<'_>) -> Option<u64>
+    ensures { result ≡ (if both_lengths fields.now then None else length_of fields.now) }
+{
+    if fields.has(b"transfer-encoding") {
+        None
+    } else {
+        length_of(fields)
     }
 }
 
@@ -207,13 +213,12 @@ impl<'u, 'm> Forward<'u, 'm> {
         }
     }
 
-    /// Whether the user's connection ends after this response, as far as its head can tell.
+    /// Whether the user's connection ends after this response, as far as its head can tell. Only a user of HTTP/1.0 gets a response that
+    /// ends with the connection, so the others' framing isn't asked.
     pub fn closes(&self) -> bool
         ensures { result ≡ closes self.now }
     {
-        self.user.minor() == 0
-            || (is_named_by(&self.user.fields(), b"close")
-                || (!self.carries_on || self.framing() == Framing::Close))
+        self.user.minor() == 0 || (!self.carries_on || is_named_by(&self.user.fields(), b"close"))
     }
 
     /// Whether the head says that the connection ends after this message: a request's by the use of its connection.
@@ -231,8 +236,8 @@ impl<'u, 'm> Forward<'u, 'm> {
         ensures { result ≡ gets_zero self.now }
     {
         self.message.is_response()
-            && (!self.message.has_no_place()
-                && (self.message.kept_length().is_none() && !self.has_body()))
+            && (!self.has_body()
+                && (!self.message.has_no_place() && self.message.kept_length().is_none()))
     }
 
     /// Whether a request's target is written in absolute form.
