@@ -1,6 +1,6 @@
 //! The text of a request before its chunks.
 
-ghost use Rattle.std.specs.Prelude.{◌≡◌, ◌+◌, ◌<◌, ◌++◌, length, OnOk, IfOk};
+ghost use Rattle.std.specs.Prelude.{◌≡◌, ◌+◌, ◌-◌, ◌*◌, ◌^◌, ◌<◌, ◌++◌, length, min, OnOk, IfOk};
 ghost use Rattle.std.specs.Net.Addr.{ipv4_octets};
 ghost use Rattle.adapt_bytes.specs.declared.limits.TheConstants.{COUNT_LIMIT};
 ghost use Rattle.adapt_bytes.specs.Numeral.{numeral};
@@ -30,7 +30,9 @@ pub(crate) fn request_head(
     requires { length req.now + length res.now < COUNT_LIMIT }
     ensures { IfOk result (λ text. text.items ≡ request_head plan.now from carried.now host.now port path.now req.now res.now) }
 {
-    let mut out = Vec::new(alloc);
+    let heads = req.len() + res.len();
+    let size = room_of(carried.len(), host.len(), path.len(), heads);
+    let mut out = Vec::with_capacity(alloc, size)?;
     put_start(&mut out, plan.point, host, port, path)?;
     put_host(&mut out, host, port)?;
     put_user(&mut out, from)?;
@@ -46,6 +48,21 @@ pub(crate) fn request_head(
     )?;
     put_heads(&mut out, plan.point, req, res)?;
     Ok(out)
+}
+
+/// Bytes for the words of a head, its numbers and the user's address: they take at most 208.
+const WORDS_ROOM: usize = 224;
+
+/// Room for a whole head and the heads that follow it, whose parts have these lengths: its text is then written into one allocation.
+fn room_of(carried: usize, host: usize, path: usize, heads: usize) -> usize
+    ensures { result ≡ min (224 + carried + 2 * host + path + heads) (2 ^ 64 - 1) }
+{
+    WORDS_ROOM
+        .saturating_add(carried)
+        .saturating_add(host)
+        .saturating_add(host)
+        .saturating_add(path)
+        .saturating_add(heads)
 }
 
 /// The text of an OPTIONS request to the service there.
