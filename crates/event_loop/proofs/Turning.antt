@@ -525,8 +525,9 @@ did_taken {K} w a m b key work reports marks others d =
 abbrev pub ReadyBelow : (before after : ReadyList) → ℕ → List Deed → Type 0
 ReadyBelow before after n deeds = (key : ℕ) → is_marked before key ≡ true → Gets key deeds after × (key < n → IsDriven key deeds)
 
-pub ready_start : (ready : ReadyList) → ReadyBelow ready ready 0 []
-ready_start ready key was = (inr was, λ less. absurd (omega (arith, less)))
+-- no key below this one has a mark
+pub ready_start : (ready : ReadyList) (n : ℕ) → ((key : ℕ) → is_marked ready key ≡ true → n ≤ key) → ReadyBelow ready ready n []
+ready_start ready n low key was = let least = low key was in (inr was, λ less. absurd (omega (arith, less, least)))
 
 -- one exchange more was driven
 pub ready_driven : {K : Type 0} (w : Work K) (a b m t c : EventLoop K) (n : ℕ) → Did w a b (ReadyBelow a.ready b.ready n)
@@ -558,13 +559,9 @@ ready_still w a b n did unset =
           less was,
     ))
 
-below_count : (xs : List Bool) (key : ℕ) → get_or xs key false ≡ true → key < length xs
-below_count [] key h = cc
-below_count (x ∷ xs) zero h = omega arith
-below_count (x ∷ xs) (suc key) h = let less = below_count xs key h in omega arith
-
 -- at the end each one that had a mark was driven, wherever one is looked for
-pub ready_over : {K : Type 0} (w : Work K) (a b c : EventLoop K) (n : ℕ) → Did w a b (ReadyBelow a.ready b.ready n) → count b.ready ≤ n
+pub ready_over : {K : Type 0} (w : Work K) (a b c : EventLoop K) (n : ℕ) → Did w a b (ReadyBelow a.ready b.ready n)
+    → ((key : ℕ) → is_marked a.ready key ≡ true → key < n)
     → c.work ≡ b.work → c.ready.marked ≡ b.ready.marked → c.reports ≡ b.reports
     → Did w a c (λ deeds. (key : ℕ) → is_marked a.ready key ≡ true → IsDriven key deeds)
 ready_over w a b c n did all work marked reports =
@@ -580,10 +577,7 @@ ready_over w a b c n did all work marked reports =
       deeds = did.deeds;
       does = does_then w a b c did.deeds [] did.does looked;
       holds = λ tied key was.
-          let marks = did.does.marks in
-          let less : key < count a.ready = below_count a.ready.marked.items key was in
-          let below : key < n = omega arith in
-          (did.holds tied key was).1 below;
+          (did.holds tied key was).1 (all key was);
     }
 
 pub no_way : (driven : Driven) → (driven ≡ CutShort) ⊎ ((driven ≡ Waiting) ⊎ (driven ≡ Over)) → [] ≡ ways driven

@@ -1,6 +1,6 @@
 //! Exchanges whose turns were cut short.
 
-ghost use Rattle.std.specs.Prelude.{◌≡◌, ◌<◌, ℕ, IfOk, IsTrue, Contains, true, false};
+ghost use Rattle.std.specs.Prelude.{◌≡◌, ◌<◌, ◌≤◌, ◌-◌, ℕ, IfOk, IsTrue, Contains, slice_index_or, true, false};
 
 use std::alloc::{AllocError, Global};
 
@@ -9,9 +9,11 @@ use std::alloc::{AllocError, Global};
 #[derive(Drop)]
 pub struct ReadyList {
     marked: Vec<bool>,
-    /// Whether one may be marked.
-    any: bool,
-    ghost none: { any ≡ false → Contains marked.items true → ⊥ },
+    /// No key below this one is marked.
+    low: usize,
+    /// Nor is this one, nor any above it.
+    high: usize,
+    ghost within: { (key : ℕ) → slice_index_or marked.items key false ≡ true → (low ≤ key) × (key < high) },
 }
 
 impl ReadyList {
@@ -22,30 +24,70 @@ impl ReadyList {
         ensures { IfOk result (λ list. count list ≡ keys) }
     {
         let marked = Vec::from_elem(alloc, false, keys)?;
-        let any = marked.contains(&true);
-        Ok(ReadyList { marked, any })
+        let mut list = ReadyList {
+            marked,
+            low: 0,
+            high: keys,
+        };
+        list.look();
+        Ok(list)
     }
 
     /// Whether no exchange waits for a turn. It answers what `look` found last.
     pub fn is_empty(&self) -> bool
         ensures { IsTrue result → (key : ℕ) → is_marked self.now key ≡ false }
     {
-        !self.any
+        self.low >= self.high
     }
 
-    /// Looks whether one is marked.
+    /// Looks which is the first and which the last that is marked.
     pub fn look(&mut self)
-        ensures any { IsTrue self.new.any → Contains self.old.marked.items true }
+        ensures any { self.new.low < self.new.high → Contains self.old.marked.items true }
         ensures same { self.new.marked ≡ self.old.marked }
     {
-        self.any = self.marked.contains(&true);
+        let low = self.first();
+        let high = self.end();
+        self.low = low;
+        self.high = high;
     }
 
-    /// How many keys there are.
-    pub fn keys(&self) -> usize
-        ensures { result ≡ count self.now }
+    /// The first key that is marked; where none is, the end of those that were looked at.
+    fn first(&self) -> usize
+        ensures least { (key : ℕ) → is_marked self.now key ≡ true → result ≤ key }
+        ensures found { result < self.now.high → is_marked self.now result ≡ true }
     {
-        self.marked.len()
+        for key in self.low..self.high {
+            if self.has(key) {
+                return key;
+            }
+        }
+        self.high
+    }
+
+    /// The key behind the last one that is marked.
+    fn end(&self) -> usize
+        ensures above { (key : ℕ) → is_marked self.now key ≡ true → key < result }
+        ensures within { result ≤ self.now.high }
+    {
+        let mut end = self.high;
+        while end > self.low && !self.has(end - 1) {
+            end -= 1;
+        }
+        end
+    }
+
+    /// The key from which on exchanges may be marked.
+    pub fn low(&self) -> usize
+        ensures { (key : ℕ) → is_marked self.now key ≡ true → result ≤ key }
+    {
+        self.low
+    }
+
+    /// The key before which exchanges may be marked.
+    pub fn high(&self) -> usize
+        ensures { (key : ℕ) → is_marked self.now key ≡ true → key < result }
+    {
+        self.high
     }
 
     /// Marks an exchange, which may be marked already.
@@ -54,9 +96,10 @@ impl ReadyList {
         ensures others { (other : ℕ) → (other ≡ key → ⊥) → is_marked self.new other ≡ is_marked self.old other }
         ensures count { count self.new ≡ count self.old }
     {
-        self.any = true;
         if let Some(mark) = self.marked.get_mut(key) {
             *mark = true;
+            self.low = self.low.min(key);
+            self.high = self.high.max(key + 1);
         }
     }
 
@@ -76,7 +119,6 @@ impl ReadyList {
         ensures others { (other : ℕ) → (other ≡ key → ⊥) → is_marked self.new other ≡ is_marked self.old other }
         ensures count { count self.new ≡ count self.old }
     {
-        self.any = true;
         if let Some(mark) = self.marked.get_mut(key) {
             *mark = false;
         }

@@ -80,7 +80,7 @@ impl<K: Work> EventLoop<K> {
         if self.ready.is_empty() {
             return Ok(());
         }
-        for key in 0..self.ready.keys() {
+        for key in self.ready.low()..self.ready.high() {
             if self.ready.has(key) {
                 self.read_clock(rt)?;
                 self.ready.take(key);

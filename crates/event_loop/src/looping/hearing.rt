@@ -39,9 +39,22 @@ fn serve<K: Work, R: Wait + Clock>(
     ensures { Answers K.Work work.old work.new }
 {
     if askers.catch_up() {
-        let asked = hear_each(askers, inboxes);
-        answer_each(rt, work, askers, &asked, now);
+        serve_heard(rt, work, askers, inboxes, now);
     }
+}
+
+/// Hears the connections of a port, and answers them. All their requests have room in this call alone: most turns hear none.
+fn serve_heard<K: Work, R: Wait + Clock>(
+    rt: &R,
+    work: &mut K,
+    askers: &mut Askers,
+    inboxes: &[Inbox],
+    now: u64,
+)
+    ensures { Answers K.Work work.old work.new }
+{
+    let asked = hear_each(askers, inboxes);
+    answer_each(rt, work, askers, &asked, now);
 }
 
 /// Answers what each connection asks for. One for whose answer no memory is found is closed.

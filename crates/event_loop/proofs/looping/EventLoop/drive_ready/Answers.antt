@@ -5,7 +5,7 @@ use Rattle.event_loop.proofs.looping.EventLoop.drive_ready.Goals as goal
 use Rattle.event_loop.proofs.looping.EventLoop.drive_ready.Goals.{then-has+in_ok-read_clock, else-has}
 
 pub loop-key-init : goal.loop-key-init
-loop-key-init g c = did_start g.K.Work c.args.self.now (ready_start c.args.self.now.ready)
+loop-key-init g c = did_start g.K.Work c.args.self.now (ready_start c.args.self.now.ready c.low-key.result c.low-key.ensures)
 
 pub loop-key-preserved : goal.loop-key-preserved
 loop-key-preserved g c =
