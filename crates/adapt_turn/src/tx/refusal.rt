@@ -117,6 +117,7 @@ impl<B: Ledgers, E: EndTypes> Tx<B, E> {
         ensures outcome { self.new.outcome ≡ self.old.outcome }
         ensures refuses { ⟦<Self as Refusing>⟧.refuses self.new cause }
         ensures kept { (self.new.ends.source ≡ self.old.ends.source) × (self.new.ends.source_wire ≡ self.old.ends.source_wire) × (self.new.ends.service ≡ self.old.ends.service) × (self.new.ends.next_wire ≡ self.old.ends.next_wire) }
+        ensures maker { self.new.ends.maker ≡ self.old.ends.maker }
         ensures framings { (E.Writer.body_framing self.new.ends.next ≡ E.Writer.body_framing self.old.ends.next) × (E.Writer.body_framing self.new.ends.back ≡ E.Writer.body_framing self.old.ends.back) }
     {
         let point = self.point();
@@ -160,6 +161,7 @@ impl<B: Ledgers, E: EndTypes> Tx<B, E> {
         ensures outcome { self.new.outcome ≡ Outcome.Fail cause }
         ensures refuses { ⟦<Self as Refusing>⟧.refuses self.new cause }
         ensures kept { (self.new.ends.source_wire ≡ self.old.ends.source_wire) × (self.new.ends.service ≡ self.old.ends.service) × (self.new.ends.next_wire ≡ self.old.ends.next_wire) × (self.new.ends.source ≡ self.old.ends.source) }
+        ensures maker { self.new.ends.maker ≡ self.old.ends.maker }
     {
         let _state = self.hold.state();
         fail(rt, bank, &mut self.hold, cause);

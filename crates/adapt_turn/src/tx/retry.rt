@@ -62,6 +62,7 @@ impl<B: Ledgers, E: EndTypes> Tx<B, E> {
         ensures outcome { self.new.outcome ≡ Outcome.Fail cause }
         ensures refuses { ⟦<Self as Refusing>⟧.refuses self.new cause }
         ensures kept { (self.new.ends.source_wire ≡ self.old.ends.source_wire) × (self.new.ends.service ≡ self.old.ends.service) × (self.new.ends.next_wire ≡ self.old.ends.next_wire) × (self.new.ends.source ≡ self.old.ends.source) }
+        ensures maker { self.new.ends.maker ≡ self.old.ends.maker }
         ensures over { (shows self.new.hold.history).closed ≡ true }
     {
         self.fail_by(rt, bank, cause);

@@ -166,6 +166,7 @@ impl<B: Ledgers, E: EndTypes> Tx<B, E> {
         ensures still { (shows self.old.hold.history).closed ≡ true → self.new ≡ self.old }
         ensures over { (shows self.new.hold.history).closed ≡ true }
         ensures kept { (self.new.ends.source_wire ≡ self.old.ends.source_wire) × (self.new.ends.service ≡ self.old.ends.service) × (self.new.ends.next_wire ≡ self.old.ends.next_wire) × (self.new.ends.source ≡ self.old.ends.source) }
+        ensures maker { self.new.ends.maker ≡ self.old.ends.maker }
     {
         if !self.is_closed() {
             self.fail_by(rt, bank, Cause::Stopping);
