@@ -161,7 +161,8 @@ fn is_awaited<S: Seating, R: Wait>(users: &S, rt: &R, key: usize) -> bool {
 /// Whether the user of an exchange in this phase is lost: it is gone, or has ended its bytes in the way of others, who would wait for
 /// their turn in the queue for a service's connection.
 fn is_lost<S: Seating, R: Wait>(users: &S, rt: &R, key: usize, phase: Phase) -> bool
-    ensures { result ≡ true → (is_gone (get (S.seats_of users.now).all key) ≡ true) ⊎ (has_ended (get (S.seats_of users.now).all key) ≡ true) }
+    ensures lost { result ≡ true → (is_gone (get (S.seats_of users.now).all key) ≡ true) ⊎ (has_ended (get (S.seats_of users.now).all key) ≡ true) }
+    ensures found { is_gone (get (S.seats_of users.now).all key) ≡ true → result ≡ true }
 {
     let seats = users.seats();
     seats.is_gone(key)

@@ -60,6 +60,13 @@ pub fn turn_away(stream: Stream<User>) {
     let _ = stream.offer(own_refusal(503));
 }
 
+/// Ends an exchange that is over. It is moved off the heap in this call alone, so that no step makes room for it.
+fn finish<X: Slotted>(exchange: Box<X>)
+    requires { X.is_over exchange.value ≡ true }
+{
+    Box::into_inner(exchange).finish();
+}
+
 impl<'a, E: Exchanges + Drop, G: Gate> Shard<'a, E, G> {
     /// A thread's work before the first user. `Err` where no memory was found.
     pub fn new(alloc: Global, exchanges: E, gate: &'a G) -> Result<Shard<'a, E, G>, AllocError> {
@@ -111,7 +118,7 @@ impl<'a, E: Exchanges + Drop, G: Gate> Shard<'a, E, G> {
         if let Some(old) = self.slots.place(at.key, exchange) {
             let mut old = old;
             self.exchanges.act(at, &mut old, Task::Lose);
-            Box::into_inner(old).finish();
+            finish(old);
         }
     }
 
@@ -225,7 +232,7 @@ impl<'a, E: Exchanges + Drop, G: Gate> Shard<'a, E, G> {
         }
         match drive_on(&mut self.exchanges, at, &mut exchange) {
             Driven::Over => {
-                Box::into_inner(exchange).finish();
+                finish(exchange);
                 self.exchanges.users_mut().leave(at.rt, at.key);
                 Driven::Over
             }
@@ -244,7 +251,7 @@ impl<'a, E: Exchanges + Drop, G: Gate> Shard<'a, E, G> {
         if let Some(exchange) = self.slots.take(at.key) {
             let mut exchange = exchange;
             self.exchanges.act(at, &mut exchange, Task::Lose);
-            Box::into_inner(exchange).finish();
+            finish(exchange);
         }
         let _ = self.unannounced.take(at.key);
         self.exchanges.users_mut().leave(at.rt, at.key);
@@ -264,7 +271,7 @@ impl<'a, E: Exchanges + Drop, G: Gate> Shard<'a, E, G> {
         };
         let mut exchange = exchange;
         if self.exchanges.act(at, &mut exchange, Task::Halt) == Step::Over {
-            Box::into_inner(exchange).finish();
+            finish(exchange);
             self.exchanges.users_mut().leave(at.rt, at.key);
         } else {
             self.keep(at, exchange);
@@ -283,7 +290,7 @@ impl<'a, E: Exchanges + Drop, G: Gate> Shard<'a, E, G> {
         let mut exchange = exchange;
         match leave_on(&mut self.exchanges, at, &mut exchange) {
             Driven::Over => {
-                Box::into_inner(exchange).finish();
+                finish(exchange);
                 self.exchanges.users_mut().leave(at.rt, at.key);
                 Driven::Over
             }

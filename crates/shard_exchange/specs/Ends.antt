@@ -1,18 +1,20 @@
 -- How the course of an exchange leaves a message, and what its user is owed then.
 use Rattle.std.specs.Prelude.{◌≡◌, ◌↔◌, ℕ, Bool, true, false, not, ◌&&◌, ◌||◌, if◌then◌else◌, ⊤, Option, None, Some}
 use Rattle.exchange_core.specs.declared.event.Event.{Event}
-use Rattle.exchange_core.specs.declared.event.Event.TheVariants.{Sent, Begun, Withdrawn, Answered, UserLost, Stop, Failed}
+use Rattle.exchange_core.specs.declared.event.Event.TheVariants.{Sent, Begun, Served, Withdrawn, Answered, UserLost, Stop, Failed}
 use Rattle.exchange_core.specs.declared.phase.Phase.{Phase}
 use Rattle.exchange_core.specs.declared.phase.Phase.TheVariants.{Idle, Head, Refusing, Closing, Gone}
 use Rattle.exchange_core.specs.declared.course.Course.{Course}
 use Rattle.exchange_core.specs.declared.connection.Connection.{Connection}
 use Rattle.exchange_core.specs.declared.connection.Connection.TheVariants.{Absent, Ready, InUse, Spent}
 use Rattle.exchange_core.specs.declared.event.RefusalCause.{RefusalCause}
-use Rattle.exchange_core.specs.Course.{is_in_use, is_leased, is_mid_text, point_of}
-use Rattle.exchange_core.specs.May.{may_come, is_at_gate, is_moving, is_refusing, is_gone, is_idle, is_answer, is_request, is_withdrawing}
+use Rattle.exchange_core.specs.declared.event.RefusalCause.TheVariants.{Scarce}
+use Rattle.exchange_core.specs.Course.{after, is_leased, is_mid_text}
+use Rattle.exchange_core.specs.May.{may_come, is_at_gate, is_moving, is_refusing, is_gone, is_idle, is_answer, is_withdrawing}
 use Rattle.exchange_core.specs.Dues.{status_of}
 use Rattle.shard_exchange.specs.declared.ends.End.{End}
 use Rattle.shard_exchange.specs.declared.ends.End.TheVariants as ends
+use Rattle.shard_exchange.specs.EndedBy.{served_as}
 use Rattle.shard_exchange.specs.declared.ends.EndedBy.{EndedBy}
 use Rattle.shard_exchange.specs.declared.ends.EndedBy.TheVariants as ended
 
@@ -76,20 +78,34 @@ IsOwedBy ended.Deadline old new = IsOwed old new 504
 IsOwedBy ended.Stop old new = IsOwed old new 503
 IsOwedBy _ old new = ⊤
 
--- the response that moved ended so: its user got the answer, so the origin's connection lasts exactly where that end says so
-abbrev pub LastsAs : (answered : Bool) → (old new : Course) → End → Type 0
-LastsAs answered old new (ends.Answered keeps lasts) = answered ≡ true
-    → (is_moving old.phase && not (is_request (point_of old.phase))) ≡ true
-    → is_in_use new.connection ≡ false → new.lasts ≡ lasts
-LastsAs answered old new _ = ⊤
+-- the course knows of a byte of an answer where one is out
+abbrev pub begun_with : (answered : Bool) → Course → Course
+begun_with answered c = if answered && may_come c Begun then after c Begun else c
+
+-- and of the service's connection, where it is told of it
+abbrev pub served_with : Option Bool → Course → Course
+served_with None c = c
+served_with (Some usable) c = if may_come c (Served usable) then after c (Served usable) else c
+
+-- A good end is told as just that, where the course may go there: the response is waited for, unless memory was wanting for it; or the user
+-- has the whole answer, and its connection and the origin's one go on or not, as that end says.
+abbrev pub IsTold : (old new : Course) → End → Type 0
+IsTold old new (ends.Sent has_memory) = may_come old Sent ≡ true
+    → new ≡ (if has_memory then after old Sent else after (after old Sent) (Failed Scarce))
+IsTold old new (ends.Answered keeps lasts) = may_come old (Answered keeps lasts) ≡ true → new ≡ after old (Answered keeps lasts)
+IsTold old new _ = ⊤
+
+-- so it is once the course knows of the answer, where one is out, and of the service's connection
+abbrev pub Succeeds : (answered : Bool) → (served : Option Bool) → (old new : Course) → End → Type 0
+Succeeds answered served old new end = (answered ≡ true → (begun_with answered old).begun ≡ true)
+    → IsTold (served_with served (begun_with answered old)) new end
 
 -- A message is over, to whose user a byte of an answer went or not, with one of these ends, and what is held follows from it. A user that
--- got such a byte isn't refused;
--- another one is, where the message failed, with the status of just that cause. A further request is read only after an answer that keeps
--- the connection, and a response is waited for only where its request was sent. The origin's connection lasts exactly where that
--- end says so.
--- A request goes back to its plan exactly where it was withdrawn, and there was memory for it; without that it failed as its origin did.
-pub record IsEnded (may follows : End → Type 0) (answered : Bool) (old new : Course) : Type 0 where
+-- got such a byte isn't refused; another one is, where the message failed, with the status of just that cause. A further request is read
+-- only after an answer that keeps the connection, and a response is waited for only where its request was sent; and each of them is, where
+-- the course may go there. The origin's connection lasts only where that end says so. A request goes back to its plan exactly where it was
+-- withdrawn, and there was memory for it; without that it failed as its origin did.
+pub record IsEnded (may follows : End → Type 0) (answered reusable : Bool) (old new : Course) : Type 0 where
   pub end : End
   pub is_so : may end
   pub next : follows end
@@ -99,7 +115,7 @@ pub record IsEnded (may follows : End → Type 0) (answered : Bool) (old new : C
   pub lost : end ≡ ends.Lost → is_gone new.phase ≡ true
   pub keeps : is_idle new.phase ≡ true → end ≡ ends.Answered true new.lasts
   pub lasts : new.lasts ≡ true → (old.lasts || keeps_origin end) ≡ true
-  pub lasting : LastsAs answered old new end
+  pub succeeds : Succeeds answered (served_as reusable end) old new end
   pub awaits : is_answer new.phase ≡ true → end ≡ ends.Sent true
   pub withdrawn : is_withdrawing new.phase ≡ true ↔ end ≡ ends.Withdrawn true
   pub wanting : end ≡ ends.Withdrawn false → answered ≡ false → IsOwed old new 502

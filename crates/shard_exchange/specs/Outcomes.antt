@@ -2,17 +2,18 @@
 use Rattle.std.specs.Prelude.{◌≡◌, ◌⊎◌, ℕ, List, Bool, true, false, ⊤, not, ◌&&◌, ◌||◌, if◌then◌else◌, Option, Some, None, Result, Ok, Err}
 use Rattle.trace_core.specs.declared.history.Point.{Point}
 use Rattle.exchange_core.specs.declared.course.Course.{Course}
-use Rattle.exchange_core.specs.declared.connection.Connection.TheVariants.{InUse}
+use Rattle.exchange_core.specs.declared.event.RefusalCause.{RefusalCause}
 use Rattle.exchange_core.specs.declared.dialing.Dialing.{Dialing}
 use Rattle.exchange_core.specs.declared.due.Due.{Due}
 use Rattle.exchange_core.specs.declared.due.Due.TheVariants.{ReadRequest, Plan, Lend, Await, Ask, Hear, Reserve, TryTell, Tell, Dial, Start}
-use Rattle.exchange_core.specs.declared.due.Due.TheVariants.{AskGate, Turn, ReadResponse, GiveBack, HangUp, Refuse}
+use Rattle.exchange_core.specs.declared.due.Due.TheVariants.{AskGate, Turn, ReadResponse, GiveBack, Release, HangUp, Refuse, TryRefusal}
 use Rattle.exchange_core.specs.declared.event.Event.TheVariants.{HeadBegun, RequestRead, ResponseRead, Planned, Stale, Queued, Lent}
-use Rattle.exchange_core.specs.declared.event.Event.TheVariants.{Reserved, HalfTold, Stuck, Told, LetPass, Heard, Withdrawn, Failed}
-use Rattle.exchange_core.specs.declared.event.Event.TheVariants.{UserLost, Dropped, Late}
+use Rattle.exchange_core.specs.declared.event.Event.TheVariants.{Asked, Learned, Reserved, HalfTold, Told, LetPass, Renewed}
+use Rattle.exchange_core.specs.declared.event.Event.TheVariants.{Heard, Withdrawn, Failed}
+use Rattle.exchange_core.specs.declared.event.Event.TheVariants.{UserLost, Dropped, Late, Returned, Released, HungUp}
 use Rattle.exchange_core.specs.declared.event.RefusalCause.TheVariants.{Scarce, Deadline}
 use Rattle.exchange_core.specs.declared.phase.Phase.{Phase}
-use Rattle.exchange_core.specs.Course.{after, point_of, is_in_use, is_offered, is_ready, is_reused, learned}
+use Rattle.exchange_core.specs.Course.{after, point_of, is_offered, is_ready}
 use Rattle.exchange_core.specs.May.{dialing_of, may_come, may_keep_origin, may_take_kept, is_request, is_idle, is_at_gate, is_withdrawing}
 use Rattle.exchange_core.specs.May.{is_refusing, is_closing, is_gone}
 use Rattle.adapt_sides.specs.declared.fault.RelayFault.{RelayFault}
@@ -35,8 +36,11 @@ use Rattle.shard_exchange.specs.declared.answers.Withdrawal.{Withdrawal}
 use Rattle.shard_exchange.specs.declared.answers.Withdrawal.TheVariants.{Again}
 use Rattle.shard_exchange.specs.Hand.{Hand}
 use Rattle.shard_exchange.specs.Reasons.{is_end_of_wire, lend_reason, origin_head_reason, unplanned_reason, user_head_reason}
+use Rattle.shard_exchange.specs.declared.answers.Round.TheVariants as rounds
 use Rattle.shard_exchange.specs.declared.ends.End.{End}
-use Rattle.shard_exchange.specs.Ends.{moves, IsEnded, IsOwed, IsServedBy}
+use Rattle.shard_exchange.specs.declared.ends.EndedBy.TheVariants as ended
+use Rattle.shard_exchange.specs.EndedBy.{MayEnd}
+use Rattle.shard_exchange.specs.Ends.{moves, IsEnded, IsServedBy}
 use Rattle.shard_exchange.specs.Saying.{LaysPage, SaysOn, interim_text, refusal_by}
 
 -- What a message's plan leads to: a user that was told to send its body isn't told again, nor one whose response comes; and a service is
@@ -61,6 +65,23 @@ SaidLeads (Part out) phase = is_refusing phase ≡ true
 SaidLeads Nothing phase = (is_refusing phase || is_gone phase) ≡ true
 SaidLeads Broken phase = is_gone phase ≡ true
 
+-- Where the last refusal leads of which so much was said, of a user whose exchange was stopped: it stays due, and what is held stays so; or
+-- the user is gone.
+abbrev pub LastLeads : {H : Type 0} → (held holds : H) → (old new : Course) → Said → Type 0
+LastLeads held holds old new (Part out) = (new ≡ old) × (holds ≡ held)
+LastLeads held holds old new Nothing = (new ≡ old) × (holds ≡ held)
+LastLeads held holds old new _ = is_gone new.phase ≡ true
+
+-- The user of an exchange that was stopped gets what is left of the refusal of this status, once.
+pub record SaysLast {H : Type 0} (user : H → Past → Type 0) (hand : H → Hand) (pages : List ℕ → Type 0) (held holds : H) (status : ℕ)
+    (old new : Course) : Type 0 where
+  pub later : H
+  pub said : Said
+  pub laid : LaysPage pages status (hand held).refused (hand later).refused.page
+  pub text : SaysOn (user held) (user later) (refusal_by status (hand later).refused.page) (hand held).refused.out
+      (hand later).refused.out said
+  pub leads : LastLeads later holds old new said
+
 -- A user gets what is left of the refusal of this status: the plain one, or the one with a page that was laid.
 pub record SaysRefusal (user later : Past → Type 0) (old new : Hand) (status : ℕ) (phase : Phase) : Type 0 where
   pub said : Said
@@ -79,6 +100,11 @@ pub record SaysInterim (user later : Past → Type 0) (held holds : Hand) (stays
   pub said : Said
   pub text : SaysOn user later interim_text held.told holds.told said
   pub leads : TellLeads stays old new said
+
+-- a refusal that is due goes on where it stands: with the page that was laid
+pub record Refuses (pages : List ℕ → Type 0) (user later : Past → Type 0) (held holds : Hand) (status : ℕ) (phase : Phase) : Type 0 where
+  pub lays : LaysPage pages status held.refused holds.refused.page
+  pub says : SaysRefusal user later held holds status phase
 
 -- what a message may need is reserved; or that is wanting, and the message fails of just that
 abbrev pub IsReserved : (old new : Course) → Type 0
@@ -113,19 +139,18 @@ abbrev pub WaitsOn : (waited : Bool → Type 0) → (late : Bool) → (old new :
 WaitsOn waited late old new = (long : Bool) × waited long × (new ≡ (if long then after old (Failed Scarce) else
     (if late then after old (Failed Deadline) else old)))
 
+-- it is released
+abbrev pub IsReleased : (old new : Course) → Type 0
+IsReleased old new = new ≡ after old Released
+
 -- a connection is leased once it is the message's turn
 abbrev pub IsAwaited : {O : Type 0} → (leases : Point → (reused : Bool) → Type 0) → (fails : O → LendFault → Type 0)
     → (waited : O → Bool → Type 0) → (late : O → Bool) → (old new : Course) → Type 0
 IsAwaited {O} leases fails waited late old new = IsLentOr leases fails (λ later. WaitsOn (waited later) (late later) old new) old new
 
--- on a connection that is used now the service of the message's own point is asked
+-- the service of the message's own point is asked for its options, or the message fails
 abbrev pub IsAsked : (asks : Point → Type 0) → (old new : Course) → Type 0
-IsAsked asks old new = is_in_use old.connection ≡ false → is_in_use new.connection ≡ true → asks (point_of old.phase)
-
--- A service that is asked anew is that of the message's own point, and a fresh connection stands in place of one that was idle before.
-abbrev pub IsAskedAnew : {H : Type 0} → (asks : Point → Type 0) → (renews : H → Type 0) → (old new : Course) → Type 0
-IsAskedAnew {H} asks renews old new = is_reused old.connection ≡ true → new.connection ≡ InUse false
-    → asks (point_of old.phase) × ((held : H) × renews held)
+IsAsked asks old new = (asks (point_of old.phase) × (new ≡ after old Asked)) ⊎ ((why : RefusalCause) × (new ≡ after old (Failed why)))
 
 -- an origin's connection that is dialed leads where the message's plan says, and is known as the kept or the fresh one that it is: a kept
 -- one only where the request may be sent again, and wasn't withdrawn
@@ -153,6 +178,10 @@ abbrev pub NoHeadLeads : Option Reason → (old new : Course) → Type 0
 NoHeadLeads (Some reason) old new = new ≡ after old (Failed (cause_of reason))
 NoHeadLeads None old new = new ≡ after old UserLost
 
+-- what is held bears the message that it bore before, and its plan
+abbrev pub Bears : {H : Type 0} → (bears : H → H → Type 0) → (held holds : H) → Type 0
+Bears {H} bears held holds = (first : H) → bears first held → bears first holds
+
 -- where a turn at the head of the user's request leads that brought this
 abbrev pub RequestLeads : (begun late : Bool) → (old new : Course) → Option HeadTurn → Type 0
 RequestLeads begun late old new (Some head_turns.Whole) = new ≡ after (begun_of old) RequestRead
@@ -164,11 +193,12 @@ RequestLeads begun late old new (Some (head_turns.Fault fault)) =
 RequestLeads begun late old new None = new ≡ after old UserLost
 
 -- A turn at the head of the user's request was taken, and the course knows what it brought.
-pub record IsRequested {H : Type 0} (reads : H → H → Option HeadTurn → Type 0) (begun : H → Bool) (late : Bool) (held : H)
-    (old new : Course) : Type 0 where
+pub record IsRequested {H : Type 0} (reads : H → H → Option HeadTurn → Type 0) (bears : H → H → Type 0) (begun : H → Bool) (late : Bool)
+    (held holds : H) (old new : Course) : Type 0 where
   pub turned : H
   pub turn : Option HeadTurn
   pub brought : reads held turned turn
+  pub kept : Bears bears turned holds
   pub leads : RequestLeads (begun turned) late old new turn
 
 -- a byte of the origin's answer was read
@@ -195,42 +225,51 @@ TurnLeads repeats asked late old new None = new ≡ after old (Failed Scarce)
 
 -- A turn at the head of the origin's response was taken, and the course knows what it brought.
 pub record IsRead {H : Type 0} (hears : H → H → Option HeadTurn → Type 0) (repeats : H → Type 0) (withdraws : H → Withdrawal → Type 0)
-    (late : Bool) (held : H)
-    (old new : Course) : Type 0 where
+    (late : Bool) (held holds : H) (old new : Course) : Type 0 where
   pub turned : H
   pub turn : Option HeadTurn
   pub brought : hears held turned turn
+  pub kept : turn ≡ Some head_turns.Whole → holds ≡ turned
   pub leads : TurnLeads (repeats turned) (withdraws turned) late old new turn
 
--- Where the origin's connection lasts, and the proxy neither drains nor stops, it was laid down for later exchanges, or there was
--- no room for
--- it. Else it was closed.
-abbrev pub IsHungUp : (lays : Bool → Type 0) → (closes : Type 0) → (old : Course) → Type 0
-IsHungUp lays closes old = (may_keep_origin old ≡ true → (kept : Bool) × lays kept) × (may_keep_origin old ≡ false → closes)
+-- Where the origin's connection lasts, and the proxy neither drains nor stops, it was laid down for later exchanges, or there was no room
+-- for it. Else it was closed.
+abbrev pub IsHungUp : (lays : Bool → Type 0) → (closes : Type 0) → (old new : Course) → Type 0
+IsHungUp lays closes old new = (may_keep_origin old ≡ true → (kept : Bool) × lays kept) × (may_keep_origin old ≡ false → closes)
+    × (new ≡ after old (HungUp false))
 
--- the service's connection was put back, exactly where by the course it may serve again, and it is there; else its lease was given up
-abbrev pub IsGivenBack : (puts gives_up : Type 0) → (there : Bool) → (old : Course) → Type 0
-IsGivenBack puts gives_up there old = ((is_ready old.connection && there) ≡ true → puts)
-    × ((is_ready old.connection && there) ≡ false → gives_up)
+-- The service's connection was put back, exactly where by the course it may serve again, and it is there; else its lease was given up. A
+-- message that moves stays as it is.
+abbrev pub IsGivenBack : (puts gives_up stays : Type 0) → (there : Bool) → (old new : Course) → Type 0
+IsGivenBack puts gives_up stays there old new = ((is_ready old.connection && there) ≡ true → puts)
+    × ((is_ready old.connection && there) ≡ false → gives_up) × stays × (new ≡ after old (Returned false))
 
--- A service is said to have been asked for a message only once its answer was read, and is kept. Its connection is ready for others then
--- exactly where it may serve again after that answer.
-abbrev pub IsHeard : {H : Type 0} → (learns : Point → Response → Type 0) → (usable : H → Response → Bool) → (old new : Course) → Type 0
-IsHeard {H} learns usable old new = new.asked ≡ true → old.asked ≡ false
-    → (answer : Response) × learns (point_of old.phase) answer × ((held : H)
-    × (new.connection ≡ learned old.connection (usable held answer)))
+-- What comes of asking the service of the message's own point: nothing yet; or its answer was read, and is kept, and its connection is
+-- ready for others then exactly where it may serve again after that answer; or the same service is asked anew, on a fresh connection in
+-- place of one that was idle before; or the message fails.
+abbrev pub IsHeard : {H : Type 0} → (learns : Point → Response → Type 0) → (usable : H → Response → Bool) → (asks : Point → Type 0)
+    → (renews : H → Type 0) → (old new : Course) → Type 0
+IsHeard {H} learns usable asks renews old new = (new ≡ old)
+    ⊎ ((held : H) × (answer : Response) × learns (point_of old.phase) answer × (new ≡ after old (Learned (usable held answer))))
+    ⊎ ((held : H) × renews held × asks (point_of old.phase) × (may_come old Renewed ≡ true) × (new ≡ after old Renewed))
+    ⊎ ((why : RefusalCause) × (new ≡ after old (Failed why)))
 
 -- an answer to the user may be made of this message: it is a response, or a request that its service was offered
 abbrev pub has_answer : Phase → Bool
 has_answer phase = not (is_request (point_of phase)) || is_offered phase
 
--- A message is over because the deadline passed: a user that got no byte of an answer is refused with 504, unless a part of another text
--- is out.
-pub record IsOverdue {O : Type 0} (late : O → Bool) (answered : Bool) (old new : Course) : Type 0 where
+-- A message is over because the deadline passed, and nothing moved in the round before that.
+pub record IsOverdue {O : Type 0} (late : O → Bool) (follows : End → Type 0) (answered reusable : Bool) (round : Round) (old new : Course) :
+    Type 0 where
   pub out : O
   pub is_late : late out ≡ true
-  pub over : moves new ≡ false
-  pub owed : answered ≡ false → IsOwed old new 504
+  pub still : round ≡ rounds.Waiting
+  pub ended : IsEnded (MayEnd ended.Deadline (λ _. ⊤)) follows answered reusable old new
+
+-- it is over as its transaction ended, in the round before that
+pub record IsOver (ends follows : End → Type 0) (answered reusable : Bool) (round : Round) (old new : Course) : Type 0 where
+  pub last : round ≡ rounds.Over
+  pub ended : IsEnded (MayEnd ended.Itself ends) follows answered reusable old new
 
 -- A round of turns of a message was taken. While the message moves, the course knows of a byte of an answer where one went to the user.
 -- Once it is over, a user that got one isn't refused. It is over as its transaction ended, or because the deadline passed. The service's
@@ -249,12 +288,15 @@ pub record IsTurned {H O : Type 0} (rounds : H → H → O → Round → Type 0)
   pub alone : answered turned ≡ true → is_refusing new.phase ≡ false
   pub served : IsServedBy (reusable turned) old.connection new.connection
   pub withdrawn : is_withdrawing new.phase ≡ true → repeats turned × (answered turned ≡ false) × (may_come old Withdrawn ≡ true)
-  pub over : moves new ≡ false → IsEnded (ends turned (may_come old Withdrawn)) (follows turned) (answered turned) old new
-      ⊎ IsOverdue late (answered turned) old new
+  pub over : moves new ≡ false
+      → IsOver (ends turned (may_come old Withdrawn)) (follows turned) (answered turned) (reusable turned) round old new
+      ⊎ IsOverdue late (follows turned) (answered turned) (reusable turned) round old new
 
 -- the gate lets a message pass, and what is held stays as it is; or it is over
-abbrev pub IsGated : {H : Type 0} → (ends follows : End → Type 0) → (answered : Bool) → (held holds : H) → (old new : Course) → Type 0
-IsGated ends follows answered held holds old new = ((new ≡ after old LetPass) × (holds ≡ held)) ⊎ IsEnded ends follows answered old new
+abbrev pub IsGated : {H : Type 0} → (ends follows : End → Type 0) → (answered reusable : Bool) → (held holds : H) → (old new : Course)
+    → Type 0
+IsGated ends follows answered reusable held holds old new = ((new ≡ after old LetPass) × (holds ≡ held))
+    ⊎ IsEnded (MayEnd ended.Gate ends) follows answered reusable old new
 
 -- A message that moves on is the one that moved before: nothing changed; it stays while its service's connection goes back; or it went
 -- through a round of turns, after which its service's connection came out of it, or didn't.
@@ -263,31 +305,58 @@ abbrev pub MovesOn : {H O : Type 0} → (stays : H → H → Type 0) → (rounds
 MovesOn {H} {O} stays rounds frees held holds = (holds ≡ held) ⊎ (stays held holds
     ⊎ ((turned : H) × (later : O) × (round : Round) × rounds held turned later round × ((usable : Option Bool) × frees turned usable)))
 
--- What a step does where this is due: it reads the head of a request, plans the message, leases a connection, asks its service
--- and hears its
--- options, reserves what that may need, tells the user to send its body, dials the origin, starts the transaction, asks the gate,
--- takes a round
--- of turns, reads the head of the origin's response, gives the service's connection back, hangs up, or says what is left of the refusal.
-abbrev pub Does : (requested planned lent awaited asked heard dialed started gated turned read given hung : Type 0)
-    → (pages : (status : ℕ) → List ℕ → Type 0) → (user later : Past → Type 0) → (held holds : Hand) → (late : Bool) → (old new : Course)
-    → Due → Type 0
-Does requested _ _ _ _ _ _ _ _ _ _ _ _ _ _ _ _ _ _ _ _ ReadRequest = requested
-Does _ planned _ _ _ _ _ _ _ _ _ _ _ _ _ _ _ _ _ _ _ Plan = planned
-Does _ _ lent _ _ _ _ _ _ _ _ _ _ _ _ _ _ _ _ _ _ Lend = lent
-Does _ _ _ awaited _ _ _ _ _ _ _ _ _ _ _ _ _ _ _ _ _ Await = awaited
-Does _ _ _ _ asked _ _ _ _ _ _ _ _ _ _ _ _ _ _ _ _ Ask = asked
-Does _ _ _ _ _ heard _ _ _ _ _ _ _ _ _ _ _ _ _ _ _ Hear = heard
-Does _ _ _ _ _ _ _ _ _ _ _ _ _ _ _ _ _ _ _ old new Reserve = IsReserved old new
-Does _ _ _ _ _ _ _ _ _ _ _ _ _ _ user later held holds _ old new TryTell = SaysInterim user later held holds (after old Stuck) old new
-Does _ _ _ _ _ _ _ _ _ _ _ _ _ _ user later held holds late old new Tell =
-    SaysInterim user later held holds (if late then after old (Failed Deadline) else old) old new
-Does _ _ _ _ _ _ dialed _ _ _ _ _ _ _ _ _ _ _ _ _ _ Dial = dialed
-Does _ _ _ _ _ _ _ started _ _ _ _ _ _ _ _ _ _ _ _ _ Start = started
-Does _ _ _ _ _ _ _ _ gated _ _ _ _ _ _ _ _ _ _ _ _ AskGate = gated
-Does _ _ _ _ _ _ _ _ _ turned _ _ _ _ _ _ _ _ _ _ _ Turn = turned
-Does _ _ _ _ _ _ _ _ _ _ read _ _ _ _ _ _ _ _ _ _ ReadResponse = read
-Does _ _ _ _ _ _ _ _ _ _ _ given _ _ _ _ _ _ _ _ _ GiveBack = given
-Does _ _ _ _ _ _ _ _ _ _ _ _ hung _ _ _ _ _ _ _ _ HangUp = hung
-Does _ _ _ _ _ _ _ _ _ _ _ _ _ pages user later held holds _ _ new (Refuse status) =
-    LaysPage (pages status) status held.refused holds.refused.page × SaysRefusal user later held holds status new.phase
-Does _ _ _ _ _ _ _ _ _ _ _ _ _ _ _ _ _ _ _ _ _ _ = ⊤
+-- What a step comes to, each thing where it is due.
+pub record Deeds : Type 1 where
+  -- it reads the head of a request
+  pub requested : Type 0
+  -- it plans the message
+  pub planned : Type 0
+  -- it leases a connection to its service, or has the message wait for one
+  pub lent : Type 0
+  pub awaited : Type 0
+  -- it asks the service for its options, and hears them
+  pub asked : Type 0
+  pub heard : Type 0
+  -- it reserves what the message may need
+  pub reserved : Type 0
+  -- it tells the user to send its body, where it takes the text at once, or waits until it does
+  pub tried : Type 0
+  pub told : Type 0
+  -- it dials the origin, starts the transaction, and asks the gate
+  pub dialed : Type 0
+  pub started : Type 0
+  pub gated : Type 0
+  -- it takes a round of turns
+  pub turned : Type 0
+  -- it reads the head of the origin's response
+  pub read : Type 0
+  -- it gives the service's connection back, then the reservation, and hangs up
+  pub given : Type 0
+  pub released : Type 0
+  pub hung : Type 0
+  -- it says what is left of the refusal of this status, and so at a stop
+  pub refused : (status : ℕ) → Type 0
+  pub last : (status : ℕ) → Type 0
+
+-- what a step does where this is due
+abbrev pub Does : Deeds → Due → Type 0
+Does deeds ReadRequest = deeds.requested
+Does deeds Plan = deeds.planned
+Does deeds Lend = deeds.lent
+Does deeds Await = deeds.awaited
+Does deeds Ask = deeds.asked
+Does deeds Hear = deeds.heard
+Does deeds Reserve = deeds.reserved
+Does deeds TryTell = deeds.tried
+Does deeds Tell = deeds.told
+Does deeds Dial = deeds.dialed
+Does deeds Start = deeds.started
+Does deeds AskGate = deeds.gated
+Does deeds Turn = deeds.turned
+Does deeds ReadResponse = deeds.read
+Does deeds GiveBack = deeds.given
+Does deeds Release = deeds.released
+Does deeds HangUp = deeds.hung
+Does deeds (Refuse status) = deeds.refused status
+Does deeds (TryRefusal status) = deeds.last status
+Does deeds _ = ⊤

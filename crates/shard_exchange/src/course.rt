@@ -1,16 +1,16 @@
 //! What the course of an exchange is told: that a head begins, how a message ended, and that the proxy stops.
 
-ghost use Rattle.std.specs.Prelude.{◌≡◌, ◌⊎◌, ◌||◌, Bool as AnyBool, true, false};
+ghost use Rattle.std.specs.Prelude.{◌≡◌, ◌⊎◌, ◌||◌, true, false};
 ghost use Rattle.exchange_core.specs.declared.event.RefusalCause.{RefusalCause as AnyCause};
 ghost use Rattle.exchange_core.specs.declared.connection.Connection.{Connection as AnyConnection};
 ghost use Rattle.exchange_core.specs.Course.{after, connection_after, lasts_after, is_mid_text};
 ghost use Rattle.exchange_core.specs.Dues.{due_of, status_of};
 ghost use Rattle.exchange_core.specs.declared.due.Due.TheVariants as dues;
-ghost use Rattle.exchange_core.specs.declared.event.Event.TheVariants.{Failed, Begun, Answered, Withdrawn, Stop};
+ghost use Rattle.exchange_core.specs.declared.event.Event.TheVariants.{Failed, Begun, Withdrawn, Stop};
 ghost use Rattle.exchange_core.specs.declared.event.RefusalCause.TheVariants.{Elsewhere};
 ghost use Rattle.exchange_core.specs.May.{may_come, is_answer, is_gone, is_head, is_idle, is_refusing, is_withdrawing};
 ghost use Rattle.exchange_core.specs.Log.{Goes};
-ghost use Rattle.shard_exchange.specs.Ends.{moves, ends_message, keeps_origin, Stays, Leaves, LastsAs, IsOwed, Halts, IsToldServed};
+ghost use Rattle.shard_exchange.specs.Ends.{moves, ends_message, keeps_origin, Stays, Leaves, IsOwed, Halts, IsToldServed, IsTold, Succeeds, begun_with, served_with};
 ghost use Rattle.shard_exchange.specs.Outcomes.{begun_of};
 
 use crate::ends::{End, Report};
@@ -44,6 +44,7 @@ fn tell_begun(course: &mut Exchange, has_answered: bool) -> bool
     ensures goes { Goes course.old course.new }
     ensures line { course.new.connection ≡ course.old.connection }
     ensures stays { result ≡ true → Stays course.old course.new }
+    ensures told { result ≡ true → course.new ≡ begun_with has_answered course.old }
     ensures begun { result ≡ true → has_answered ≡ true → course.new.begun ≡ true }
     ensures lasts { course.new.lasts ≡ course.old.lasts }
     ensures same { has_answered ≡ false → (result ≡ true) × (course.new ≡ course.old) }
@@ -71,8 +72,7 @@ fn tell_end(course: &mut Exchange, end: End)
     ensures alone { course.old.begun ≡ true → is_refusing course.new.phase ≡ false }
     ensures keeps { is_idle course.new.phase ≡ true → end ≡ End.Answered true course.new.lasts }
     ensures lasts { course.new.lasts ≡ true → (course.old.lasts || keeps_origin end) ≡ true }
-    ensures lasting { (keeps : AnyBool) → (lasts : AnyBool) → end ≡ End.Answered keeps lasts → may_come course.old (Answered keeps lasts) ≡ true
-        → course.new.lasts ≡ lasts }
+    ensures succeeds { IsTold course.old course.new end }
     ensures awaits { is_answer course.new.phase ≡ true → end ≡ End.Sent true }
     ensures withdrawn { is_withdrawing course.new.phase ≡ true → end ≡ End.Withdrawn true }
     ensures again { end ≡ End.Withdrawn true → may_come course.old Withdrawn ≡ true → is_withdrawing course.new.phase ≡ true }
@@ -100,9 +100,10 @@ fn tell_end(course: &mut Exchange, end: End)
 fn tell_served(course: &mut Exchange, served: Option<bool>)
     requires moves { moves course.old ≡ true }
     ensures goes { Goes course.old course.new }
+    ensures told { course.new ≡ served_with served course.old }
+    ensures begun { course.new.begun ≡ course.old.begun }
     ensures served { IsToldServed served course.old.connection course.new.connection }
     ensures stays { Stays course.old course.new }
-    ensures begun { course.new.begun ≡ course.old.begun }
     ensures lasts { course.new.lasts ≡ course.old.lasts }
     ensures may { may_come course.new Withdrawn ≡ may_come course.old Withdrawn }
     ensures text { is_mid_text course.new ≡ is_mid_text course.old }
@@ -133,9 +134,9 @@ fn tell_cut(course: &mut Exchange, cuts: bool)
 
 /// Tells the course of a transaction that is over. A user to whom a byte of an answer went gets no refusal after it. One to whom none
 /// went gets the refusal of the cause by which its message failed, or of the stop. A further request is read only after an answer that
-/// keeps its connection, and a response is waited for only where its request was sent. The service's connection serves again exactly
-/// where the report says so, and so does the origin's last. A request goes back to its plan exactly where it was withdrawn, and there was
-/// memory for it.
+/// keeps its connection, and a response is waited for only where its request was sent; each of them is, where the course may go there. The
+/// service's connection serves again exactly where the report says so, and so does the origin's last. A request goes back to its plan
+/// exactly where it was withdrawn, and there was memory for it.
 pub(crate) fn tell(course: &mut Exchange, report: Report)
     requires moves { moves course.old ≡ true }
     requires runs { course.old.stopping ≡ false }
@@ -150,7 +151,7 @@ pub(crate) fn tell(course: &mut Exchange, report: Report)
     ensures alone { report.has_answered ≡ true → is_refusing course.new.phase ≡ false }
     ensures keeps { is_idle course.new.phase ≡ true → report.end ≡ End.Answered true course.new.lasts }
     ensures lasts { course.new.lasts ≡ true → (course.old.lasts || keeps_origin report.end) ≡ true }
-    ensures lasting { LastsAs report.has_answered course.old course.new report.end }
+    ensures succeeds { report.cuts ≡ false → Succeeds report.has_answered report.served course.old course.new report.end }
     ensures awaits { is_answer course.new.phase ≡ true → report.end ≡ End.Sent true }
     ensures withdrawn { is_withdrawing course.new.phase ≡ true → report.end ≡ End.Withdrawn true }
     ensures again { report.end ≡ End.Withdrawn true → report.has_answered ≡ false → report.cuts ≡ false → may_come course.old Withdrawn ≡ true

@@ -1,6 +1,6 @@
 //! What an exchange asks of what it holds.
 
-ghost use Rattle.std.specs.Prelude.{◌≡◌, ◌&&◌, ℕ, Bool, List, IsTrue, Some, Result, is_ok, true, false, IfSome, IfOk, IfErr};
+ghost use Rattle.std.specs.Prelude.{◌≡◌, ◌&&◌, ℕ, Bool, List, IsTrue, Some, Result, is_ok, true, false, IfOk, IfErr};
 ghost use Rattle.exchange_core.specs.Course.{is_ready};
 ghost use Rattle.exchange_core.specs.declared.course.Course.{Course as AnyCourse};
 ghost use Rattle.exchange_core.specs.declared.dialing.Dialing.{Dialing as AnyDialing};
@@ -15,7 +15,7 @@ ghost use Rattle.icap_head.specs.Heads.{Response as AnyResponse, response_parts}
 ghost use Rattle.trace_core.specs.declared.history.Point.{Point as AnyPoint};
 ghost use Rattle.service_lines.specs.declared.connector.LendFault.{LendFault as AnyFault};
 ghost use Rattle.shard_exchange.specs.Hand.{Keeps, KeepsButTold, KeepsButRefused, KeepsButLease, KeepsButRoom, KeepsButOrigin, SetsOut, ComesBack};
-ghost use Rattle.shard_exchange.specs.EndedBy.{EndsBy, IfItself};
+ghost use Rattle.shard_exchange.specs.EndedBy.{MayEnd, is_good, served_as};
 ghost use Rattle.shard_exchange.specs.Leases.{Renews};
 ghost use Rattle.exchange_report.specs.Reasons.{cause_of};
 ghost use Rattle.shard_exchange.specs.Reasons.{lies_elsewhere, unplanned_reason};
@@ -121,6 +121,7 @@ pub trait Effects<P>: Holder {
         ensures lent { is_ok result ≡ (Self.hand self.new).leased }
         ensures leases { IfOk result (leases self.new point) }
         ensures fails { IfErr result (fails out.new at.now) }
+        ensures bears { (first : Self) → Self.bears first self.old → Self.bears first self.new }
         ensures kept { KeepsButLease (Self.hand self.old) (Self.hand self.new) };
 
     /// Leases a connection to a message that waits, once it is its turn. With a connection it has left the queue.
@@ -134,6 +135,7 @@ pub trait Effects<P>: Holder {
         ensures lent { is_ok result ≡ (Self.hand self.new).leased }
         ensures leases { IfOk result (leases self.new point) }
         ensures fails { IfErr result (fails out.new at.now) }
+        ensures bears { (first : Self) → Self.bears first self.old → Self.bears first self.new }
         ensures kept { KeepsButLease (Self.hand self.old) (Self.hand self.new) };
 
     /// Has a message wait for a connection. False where it may not.
@@ -147,6 +149,7 @@ pub trait Effects<P>: Holder {
     fn ask(&mut self, at: &P, out: &Self::Outside, point: Point) -> Result<(), Reason>
         ensures asks { IfOk result (λ _. asks self.new out.now point) }
         ensures suits { IfErr result (λ reason. lies_elsewhere reason ≡ true) }
+        ensures bears { (first : Self) → Self.bears first self.old → Self.bears first self.new }
         ensures kept { Keeps (Self.hand self.old) (Self.hand self.new) };
 
     /// Begins to ask the point's service anew, on a fresh connection.
@@ -154,6 +157,7 @@ pub trait Effects<P>: Holder {
         ensures asks { IfOk result (λ _. asks self.new out.new point) }
         ensures fresh { IfOk result (λ _. Renews leases self.old self.new) }
         ensures suits { IfErr result (λ reason. lies_elsewhere reason ≡ true) }
+        ensures bears { (first : Self) → Self.bears first self.old → Self.bears first self.new }
         ensures kept { Keeps (Self.hand self.old) (Self.hand self.new) };
 
     /// Keeps what the point's service said of its options: whether its connection may serve again.
@@ -167,6 +171,7 @@ pub trait Effects<P>: Holder {
         ensures usable { IfOk result (λ usable. usable ≡ Self.usable_after self.old (response_parts answer.now)) }
         ensures learned { IfOk result (λ _. learns out.old out.new at.now point (response_parts answer.now)) }
         ensures suits { IfErr result (λ reason. lies_elsewhere reason ≡ true) }
+        ensures bears { (first : Self) → Self.bears first self.old → Self.bears first self.new }
         ensures kept { Keeps (Self.hand self.old) (Self.hand self.new) };
 
     /// Takes note that the service's connection failed while it was asked.
@@ -177,6 +182,7 @@ pub trait Effects<P>: Holder {
         requires { ((Self.hand self.old).room ≡ false) × ((Self.hand self.old).moving ≡ false) }
         ensures reserved { is_ok result ≡ (Self.hand self.new).room }
         ensures suits { IfErr result (λ reason. cause_of reason ≡ Scarce) }
+        ensures bears { (first : Self) → Self.bears first self.old → Self.bears first self.new }
         ensures kept { KeepsButRoom (Self.hand self.old) (Self.hand self.new) };
 
     /// Opens the connection that a request goes to for which this was reserved, or takes one that was kept, where it may: whether it is a
@@ -187,6 +193,7 @@ pub trait Effects<P>: Holder {
         ensures leads { IfOk result (λ kept. dials self.old self.new out.old out.new at.now dialing kept) }
         ensures fresh { IfOk result (λ kept. kept ≡ true → dialing ≡ KeptFirst) }
         ensures suits { IfErr result (λ reason. lies_elsewhere reason ≡ true) }
+        ensures bears { (first : Self) → Self.bears first self.old → Self.bears first self.new }
         ensures kept { KeepsButOrigin (Self.hand self.old) (Self.hand self.new) };
 
     /// Starts the transaction of a message that has all that it needs. Where it can't, what it would have stood over stays here.
@@ -226,13 +233,13 @@ pub trait Effects<P>: Holder {
         ensures withdrawn { result.end ≡ End.Withdrawn true
             → (may_come course.now Withdrawn ≡ true) × Self.repeats self.old × (result.has_answered ≡ false) }
         ensures back { ComesBack (Self.hand self.old) (Self.hand self.new) }
-        ensures ends { EndsBy by result.end }
         ensures answered { result.has_answered ≡ Self.answered self.old }
         ensures followed { Self.follows self.old result.end self.new }
-        ensures told { IfItself by (Self.ends self.old (may_come course.now Withdrawn) result.end) }
+        ensures told { MayEnd by (Self.ends self.old (may_come course.now Withdrawn)) result.end }
         ensures cuts { result.has_answered ≡ false → result.cuts ≡ false }
         ensures cut { Self.cut_is self.old result.has_answered result.cuts }
-        ensures served { IfSome result.served (λ usable. usable ≡ Self.reusable self.old) };
+        ensures whole { is_good result.end ≡ true → result.cuts ≡ false }
+        ensures served { result.served ≡ served_as (Self.reusable self.old) result.end };
 
     /// Has the request that went out be the message again, where its origin has said nothing, and memory is found for that. At this course
     /// its connection was kept, and has ended.
@@ -247,6 +254,7 @@ pub trait Effects<P>: Holder {
     fn keep_origin(&mut self, at: &P, out: &mut Self::Outside, course: &Exchange) -> bool
         requires { (Self.hand self.old).origin ≡ true }
         ensures hung { (Self.hand self.new).origin ≡ false }
+        ensures message { Self.keeps_message self.old self.new }
         ensures kept { KeepsButOrigin (Self.hand self.old) (Self.hand self.new) }
         ensures lasts { result ≡ true → may_keep_origin course.now ≡ true }
         ensures laid { may_keep_origin course.now ≡ true → lays self.old out.old out.new at.now result }
@@ -267,6 +275,7 @@ pub trait Effects<P>: Holder {
     fn release<R: Wait>(&mut self, rt: &R, at: &P, out: &mut Self::Outside)
         requires { (Self.hand self.old).room ≡ true }
         ensures released { (Self.hand self.new).room ≡ false }
+        ensures message { Self.keeps_message self.old self.new }
         ensures kept { KeepsButRoom (Self.hand self.old) (Self.hand self.new) };
 
     /// Says the refusal of this status to the user, as far as it takes it, from where the last call ended. At this course it is due, so
@@ -295,6 +304,7 @@ pub trait Effects<P>: Holder {
     /// The head of a request was read. Its user was told nothing yet.
     fn note_request(&mut self, at: &P, out: &mut Self::Outside)
         ensures untold { (Self.hand self.new).told ≡ 0 }
+        ensures bears { (first : Self) → Self.bears first self.old → Self.bears first self.new }
         ensures kept { KeepsButTold (Self.hand self.old) (Self.hand self.new) };
 
     /// The head of the origin's response was read.

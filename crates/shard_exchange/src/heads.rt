@@ -23,7 +23,7 @@ impl<H: Holder> Exchange<H> {
     ghost use Rattle.exchange_core.specs.declared.due.Due.TheVariants as dues;
     ghost use Rattle.exchange_core.specs.declared.event.Event.TheVariants.{RequestRead, ResponseRead, Failed};
     ghost use Rattle.exchange_core.specs.declared.event.RefusalCause.TheVariants.{Deadline};
-    ghost use Rattle.shard_exchange.specs.Outcomes.{begun_of, heard_of, FaultLeads, IsRead, IsRequested, NoHeadLeads, RequestLeads, SilenceLeads, TurnLeads};
+    ghost use Rattle.shard_exchange.specs.Outcomes.{Bears, begun_of, heard_of, FaultLeads, IsRead, IsRequested, NoHeadLeads, RequestLeads, SilenceLeads, TurnLeads};
     ghost use Rattle.shard_exchange.specs.Steps.{Heeds};
 
     /// Reads the head of the next request.
@@ -36,7 +36,7 @@ impl<H: Holder> Exchange<H> {
     where
         H: Effects<P>,
         requires due { due_of self.old.course ≡ dues.ReadRequest }
-        ensures read { IsRequested H.reads H.has_begun (H.is_late out.old at.now) self.old.holdings self.old.course self.new.course }
+        ensures read { IsRequested H.reads H.bears H.has_begun (H.is_late out.old at.now) self.old.holdings self.new.holdings self.old.course self.new.course }
         ensures goes { Goes self.old.course self.new.course }
         ensures heeds { Heeds (H.is_late out.new at.now) self.new.course result }
         ensures rests { result ≡ Step.Waits → H.reads self.old.holdings self.new.holdings (Some head_turns.Nothing) }
@@ -51,35 +51,33 @@ impl<H: Holder> Exchange<H> {
         H: Effects<P>,
         requires due { due_of self.old.course ≡ dues.ReadRequest }
         ensures leads { RequestLeads (H.has_begun self.old.holdings) (H.is_late out.old at.now) self.old.course self.new.course turn }
+        ensures bears { Bears H.bears self.old.holdings self.new.holdings }
         ensures goes { Goes self.old.course self.new.course }
         ensures heeds { Heeds (H.is_late out.new at.now) self.new.course result }
         ensures rests { result ≡ Step.Waits → (turn ≡ Some head_turns.Nothing) × (self.new.holdings ≡ self.old.holdings) }
     {
         match turn {
             Some(HeadTurn::Whole) => self.has_request(at, out),
-            Some(HeadTurn::More | HeadTurn::Interim) => {
-                self.note_begun();
-                Step::On
-            }
-            Some(HeadTurn::Nothing) => self.wait_for_request(at, out),
+            Some(HeadTurn::More | HeadTurn::Interim) => self.note_begun(),
+            Some(HeadTurn::Nothing) => return self.wait_for_request(at, out),
             Some(HeadTurn::Fault(fault)) => self.request_failed(at, out, fault),
             None => self.lose_user(),
         }
+        Step::On
     }
 
     /// The head of a request was read.
-    fn has_request<P>(&mut self, at: &P, out: &mut H::Outside) -> Step
+    fn has_request<P>(&mut self, at: &P, out: &mut H::Outside)
     where
         H: Effects<P>,
         requires due { due_of self.old.course ≡ dues.ReadRequest }
         ensures course { self.new.course ≡ after (begun_of self.old.course) RequestRead }
+        ensures bears { Bears H.bears self.old.holdings self.new.holdings }
         ensures goes { Goes self.old.course self.new.course }
-        ensures on { result ≡ Step.On }
     {
         self.holdings.note_request(at, out);
         begin_head(&mut self.course);
         self.course.done(Event::RequestRead);
-        Step::On
     }
 
     /// Takes note of the first byte of a request, where one came. It may have come with the request before.
@@ -96,13 +94,13 @@ impl<H: Holder> Exchange<H> {
     }
 
     /// There is no head of a request.
-    fn request_failed<P>(&mut self, at: &P, out: &mut H::Outside, fault: RelayFault) -> Step
+    fn request_failed<P>(&mut self, at: &P, out: &mut H::Outside, fault: RelayFault)
     where
         H: Effects<P>,
         requires due { due_of self.old.course ≡ dues.ReadRequest }
         ensures leads { (head : AnyOption AnyHttpFault) × NoHeadLeads (reasons.user_head_reason fault head) self.old.course self.new.course }
+        ensures bears { Bears H.bears self.old.holdings self.new.holdings }
         ensures goes { Goes self.old.course self.new.course }
-        ensures on { result ≡ Step.On }
     {
         match user_head_reason(fault, self.holdings.head_fault()) {
             Some(reason) => self.refuse(at, out, reason),
@@ -139,7 +137,7 @@ impl<H: Holder> Exchange<H> {
     where
         H: Effects<P>,
         requires due { due_of self.old.course ≡ dues.ReadResponse }
-        ensures read { IsRead H.hears H.repeats H.withdraws (H.is_late out.old at.now) self.old.holdings self.old.course self.new.course }
+        ensures read { IsRead H.hears H.repeats H.withdraws (H.is_late out.old at.now) self.old.holdings self.new.holdings self.old.course self.new.course }
         ensures goes { Goes self.old.course self.new.course }
         ensures heeds { Heeds (H.is_late out.new at.now) self.new.course result }
         ensures rests { result ≡ Step.Waits → H.hears self.old.holdings self.new.holdings (Some head_turns.Nothing) }
@@ -154,35 +152,35 @@ impl<H: Holder> Exchange<H> {
         H: Effects<P>,
         requires due { due_of self.old.course ≡ dues.ReadResponse }
         ensures leads { TurnLeads (H.repeats self.old.holdings) (H.withdraws self.old.holdings) (H.is_late out.old at.now) self.old.course self.new.course turn }
+        ensures kept { turn ≡ Some head_turns.Whole → self.new.holdings ≡ self.old.holdings }
         ensures goes { Goes self.old.course self.new.course }
         ensures heeds { Heeds (H.is_late out.new at.now) self.new.course result }
         ensures rests { result ≡ Step.Waits → (turn ≡ Some head_turns.Nothing) × (self.new.holdings ≡ self.old.holdings) }
     {
         match turn {
             Some(HeadTurn::Whole) => self.has_response(at, out),
-            Some(HeadTurn::More) => {
-                self.note_heard();
-                Step::On
+            Some(HeadTurn::More) => self.note_heard(),
+            Some(HeadTurn::Interim) => return self.has_dropped_interim(at, out),
+            Some(HeadTurn::Nothing) => {
+                return self.wait_or_refuse(at, out, Reason::OriginDeadline);
             }
-            Some(HeadTurn::Interim) => self.has_dropped_interim(at, out),
-            Some(HeadTurn::Nothing) => self.wait_or_refuse(at, out, Reason::OriginDeadline),
             Some(HeadTurn::Fault(fault)) => self.response_failed(at, out, fault),
             None => self.refuse(at, out, Reason::NoMemory),
         }
+        Step::On
     }
 
     /// The head of the origin's response was read.
-    fn has_response<P>(&mut self, at: &P, out: &mut H::Outside) -> Step
+    fn has_response<P>(&mut self, at: &P, out: &mut H::Outside)
     where
         H: Effects<P>,
         requires due { due_of self.old.course ≡ dues.ReadResponse }
         ensures course { self.new.course ≡ after self.old.course ResponseRead }
+        ensures held { self.new.holdings ≡ self.old.holdings }
         ensures goes { Goes self.old.course self.new.course }
-        ensures on { result ≡ Step.On }
     {
         self.holdings.note_response(at, out);
         self.course.done(Event::ResponseRead);
-        Step::On
     }
 
     /// A byte of the origin's answer was read: from then on its request isn't sent again.
@@ -210,7 +208,8 @@ impl<H: Holder> Exchange<H> {
     {
         self.note_heard();
         if H::is_late(at, out) {
-            self.refuse(at, out, Reason::OriginDeadline)
+            self.refuse(at, out, Reason::OriginDeadline);
+            Step::On
         } else {
             Step::Unmoved
         }
@@ -218,22 +217,21 @@ impl<H: Holder> Exchange<H> {
 
     /// The origin's connection gives no head. One that was kept may be closed just now: then its request goes back to its plan, once, as
     /// long as no byte of an answer came.
-    fn response_failed<P>(&mut self, at: &P, out: &mut H::Outside, fault: RelayFault) -> Step
+    fn response_failed<P>(&mut self, at: &P, out: &mut H::Outside, fault: RelayFault)
     where
         H: Effects<P>,
         requires due { due_of self.old.course ≡ dues.ReadResponse }
         ensures leads { FaultLeads (H.repeats self.old.holdings) (H.withdraws self.old.holdings) fault self.old.course self.new.course }
         ensures goes { Goes self.old.course self.new.course }
-        ensures on { result ≡ Step.On }
     {
         if is_end_of_wire(fault)
             && self.course.may(Event::Withdrawn)
             && self.holdings.withdraw(at, out, &self.course) == Withdrawal::Again
         {
             self.course.take(Event::Withdrawn);
-            return Step::On;
+            return;
         }
         let reason = origin_head_reason(fault, self.holdings.head_fault());
-        self.refuse(at, out, reason)
+        self.refuse(at, out, reason);
     }
 }

@@ -44,8 +44,14 @@ pub trait Holder: InHand {
     // begins, its origin's connection has given nothing since the request set out
     ghost follows: { Self → AnyEnd → Self → Type 0 };
 
-    // the message that moves stays as it is
+    // the service's connection went back, and nothing else of what is held changed
     ghost stays: { Self → Self → Type 0 };
+
+    // the message that is held is the one that was held first, and so is its plan
+    ghost bears: { (first : Self) → Self → Type 0 };
+
+    // the message that is held stays as it is
+    ghost keeps_message: { Self → Self → Type 0 };
 
     // the connection of a service that has said all comes out of the transaction, and may carry another request or not; or none comes out,
     // since it hasn't said all, or is gone. The message that moves is the same
@@ -99,12 +105,14 @@ pub trait Holder: InHand {
     /// A turn at asking the service for its options. `None` where nobody asks, or there is no connection for it.
     fn hear(&mut self, buffer: &mut [u8; WIRE_ROOM]) -> Option<OptionsTurn>
         ensures nothing { result ≡ Some OptionsTurn.Nothing → hears_nothing self.old self.new }
+        ensures bears { (first : Self) → bears first self.old → bears first self.new }
         ensures kept { Keeps (Self.hand self.old) (Self.hand self.new) };
 
     /// Tells the user to send its body, as far as it takes the text, from where the last call ended. At this course that is due.
     fn tell(&mut self, course: &Exchange) -> Said
         requires due { is_for_telling (due_of course.now) ≡ true }
         ensures says { SaysOn (user_past self.old) (user_past self.new) interim_text (Self.hand self.old).told (Self.hand self.new).told result }
+        ensures bears { (first : Self) → bears first self.old → bears first self.new }
         ensures kept { KeepsButTold (Self.hand self.old) (Self.hand self.new) };
 
     // the user was told that nothing more comes
@@ -117,6 +125,7 @@ pub trait Holder: InHand {
     /// Closes the user's connection. At this course the user is gone.
     fn lose_user(&mut self, course: &Exchange)
         requires gone { is_gone course.now.phase ≡ true }
+        ensures bears { (first : Self) → bears first self.old → bears first self.new }
         ensures kept { Keeps (Self.hand self.old) (Self.hand self.new) };
 
     /// Closes the origin's connection.

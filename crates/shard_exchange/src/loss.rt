@@ -11,10 +11,12 @@ use std::sync::Wait;
 
 impl<H: Holder> Exchange<H> {
     ghost use Rattle.exchange_core.specs.Course.{is_leased};
-    ghost use Rattle.exchange_core.specs.May.{is_free, is_gone};
+    ghost use Rattle.exchange_core.specs.May.{is_free, is_gone, may_come};
+    ghost use Rattle.exchange_core.specs.declared.event.Event.TheVariants.{Withdrawn};
     ghost use Rattle.exchange_core.specs.Dues.{is_over};
     ghost use Rattle.exchange_core.specs.Log.{Goes};
-    ghost use Rattle.shard_exchange.specs.Ends.{Frees};
+    ghost use Rattle.shard_exchange.specs.EndedBy.{MayEnd};
+    ghost use Rattle.shard_exchange.specs.Ends.{moves, Frees, IsEnded};
 
     /// Puts the service's connection back of a user's connection that is over.
     fn free_connection<P>(&mut self, at: &P, out: &mut H::Outside)
@@ -80,6 +82,9 @@ impl<H: Holder> Exchange<H> {
         H: Effects<P>,
         ensures goes { Goes self.old.course self.new.course }
         ensures gone { is_gone self.new.course.phase ≡ true }
+        ensures ended { moves self.old.course ≡ true
+            → IsEnded (MayEnd EndedBy.User (H.ends self.old.holdings (may_come self.old.course Withdrawn))) (λ end. H.follows self.old.holdings end self.new.holdings)
+            (H.answered self.old.holdings) (H.reusable self.old.holdings) self.old.course self.new.course }
     {
         // For the proof alone: this course is one that can be reached.
         let _ = self.course.course();

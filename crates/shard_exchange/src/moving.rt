@@ -21,48 +21,42 @@ impl<H: Holder> Exchange<H> {
     ghost use Rattle.exchange_core.specs.May.{may_come, is_gone, is_moving, is_refusing, is_withdrawing};
     ghost use Rattle.exchange_core.specs.declared.due.Due.TheVariants as dues;
     ghost use Rattle.exchange_core.specs.declared.event.Event.TheVariants.{Begun, Renewed, Withdrawn};
-    ghost use Rattle.shard_exchange.specs.EndedBy.{IfItself};
-    ghost use Rattle.shard_exchange.specs.Ends.{moves, Halts, IsEnded, IsOwedBy, IsServedBy};
+    ghost use Rattle.shard_exchange.specs.EndedBy.{MayEnd};
+    ghost use Rattle.shard_exchange.specs.Ends.{moves, Halts, IsEnded, IsServedBy};
     ghost use Rattle.shard_exchange.specs.Outcomes.{has_answer, IsGated, IsStarted, IsTurned};
     ghost use Rattle.shard_exchange.specs.Steps.{Heeds, GoesOn};
 
     /// Starts the transaction of a message that has all that it needs. Where it can't begin, the message fails.
-    pub(crate) fn start<P, R: Wait>(&mut self, rt: &R, at: &P, out: &mut H::Outside) -> Step
+    pub(crate) fn start<P, R: Wait>(&mut self, rt: &R, at: &P, out: &mut H::Outside)
     where
         H: Effects<P>,
         requires due { due_of self.old.course ≡ dues.Start }
         requires held { (self.old.course.stake ≡ true) × (self.old.course.origin ≡ true) }
         ensures started { IsStarted (H.starts self.old.holdings self.new.holdings out.old at.now self.old.course) self.new.course }
         ensures goes { GoesOn self.old.course self.new.course }
-        ensures on { result ≡ Step.On }
     {
         match self.holdings.start(rt, at, out, self.course.course()) {
-            Started::Moves => {
-                self.course.done(Event::Started);
-                Step::On
-            }
+            Started::Moves => self.course.done(Event::Started),
             Started::Fails => self.refuse(at, out, Reason::NoMemory),
             Started::NoUser => self.lose_user(),
         }
     }
 
     /// Asks the gate before anything of the message is written.
-    pub(crate) fn ask_gate<P, R: Wait>(&mut self, rt: &R, at: &P, out: &mut H::Outside) -> Step
+    pub(crate) fn ask_gate<P, R: Wait>(&mut self, rt: &R, at: &P, out: &mut H::Outside)
     where
         H: Effects<P>,
         requires due { due_of self.old.course ≡ dues.AskGate }
         requires runs { self.old.course.stopping ≡ false }
         ensures gated { IsGated (H.ends self.old.holdings (may_come self.old.course Withdrawn)) (λ end. H.follows self.old.holdings end self.new.holdings)
-            (H.answered self.old.holdings) self.old.holdings self.new.holdings self.old.course self.new.course }
+            (H.answered self.old.holdings) (H.reusable self.old.holdings) self.old.holdings self.new.holdings self.old.course self.new.course }
         ensures goes { GoesOn self.old.course self.new.course }
-        ensures on { result ≡ Step.On }
     {
         if H::may_pass(at, out) {
             self.course.done(Event::LetPass);
         } else {
             self.settle(rt, at, out, EndedBy::Gate);
         }
-        Step::On
     }
 
     /// A round of turns of the message's transaction.
@@ -178,8 +172,8 @@ impl<H: Holder> Exchange<H> {
     }
 
     /// Takes the transaction apart of a message that is over, or ends by this. What it stood over comes back. A user to whom a byte of an
-    /// answer went isn't refused after it; one to whom none went is refused for the deadline or the stop that ended it. The service's
-    /// connection serves again only where its exchange was whole.
+    /// answer went isn't refused after it; one to whom none went is refused for the stop that ended it. The service's connection serves
+    /// again only where its exchange was whole.
     pub(crate) fn settle<P, R: Wait>(&mut self, rt: &R, at: &P, out: &mut H::Outside, by: EndedBy)
     where
         H: Effects<P>,
@@ -188,14 +182,11 @@ impl<H: Holder> Exchange<H> {
         ensures goes { Goes self.old.course self.new.course }
         ensures over { moves self.new.course ≡ false }
         ensures served { IsServedBy (H.reusable self.old.holdings) self.old.course.connection self.new.course.connection }
-        ensures lost { by ≡ EndedBy.User → is_gone self.new.course.phase ≡ true }
         ensures stops { by ≡ EndedBy.Stop → Halts self.old.course self.new.course false }
-        ensures alone { H.answered self.old.holdings ≡ true → is_refusing self.new.course.phase ≡ false }
-        ensures owed { H.answered self.old.holdings ≡ false → IsOwedBy by self.old.course self.new.course }
         ensures withdrawn { is_withdrawing self.new.course.phase ≡ true
             → H.repeats self.old.holdings × (H.answered self.old.holdings ≡ false) × (may_come self.old.course Withdrawn ≡ true) }
-        ensures told { IfItself by (IsEnded (H.ends self.old.holdings (may_come self.old.course Withdrawn)) (λ end. H.follows self.old.holdings end self.new.holdings)
-            (H.answered self.old.holdings) self.old.course self.new.course) }
+        ensures ended { IsEnded (MayEnd by (H.ends self.old.holdings (may_come self.old.course Withdrawn))) (λ end. H.follows self.old.holdings end self.new.holdings)
+            (H.answered self.old.holdings) (H.reusable self.old.holdings) self.old.course self.new.course }
     {
         let report = self.holdings.settle(rt, at, out, by, &self.course);
         tell(&mut self.course, report);

@@ -15,17 +15,16 @@ impl<H: Holder> Exchange<H> {
     ghost use Rattle.exchange_core.specs.Dues.{due_of};
     ghost use Rattle.exchange_core.specs.May.{dialing_of};
     ghost use Rattle.exchange_core.specs.declared.due.Due.TheVariants as dues;
-    ghost use Rattle.shard_exchange.specs.Outcomes.{IsDialed, IsPlanned, IsReserved};
+    ghost use Rattle.shard_exchange.specs.Outcomes.{Bears, IsDialed, IsPlanned, IsReserved};
     ghost use Rattle.shard_exchange.specs.Steps.{GoesOn};
 
     /// Plans the message, or finds that its service is to be asked for its options first.
-    pub(crate) fn plan<P>(&mut self, at: &P, out: &mut H::Outside) -> Step
+    pub(crate) fn plan<P>(&mut self, at: &P, out: &mut H::Outside)
     where
         H: Effects<P>,
         requires due { due_of self.old.course ≡ dues.Plan }
         ensures planned { IsPlanned (H.plans self.old.holdings self.new.holdings out.old at.now) self.old.course self.new.course }
         ensures goes { GoesOn self.old.course self.new.course }
-        ensures on { result ≡ Step.On }
     {
         let course = self.course.course();
         match self.holdings.plan(at, out, course.asked) {
@@ -36,30 +35,23 @@ impl<H: Holder> Exchange<H> {
                     waits,
                     repeatable: marks.repeatable,
                 });
-                Step::On
             }
-            Err(Unplanned::Stale) if !course.asked => {
-                self.course.done(Event::Stale);
-                Step::On
-            }
+            Err(Unplanned::Stale) if !course.asked => self.course.done(Event::Stale),
             Err(unplanned) => self.refuse(at, out, unplanned.reason()),
         }
     }
 
     /// Reserves what the message may need.
-    pub(crate) fn reserve<P, R: Wait>(&mut self, rt: &R, at: &P, out: &mut H::Outside) -> Step
+    pub(crate) fn reserve<P, R: Wait>(&mut self, rt: &R, at: &P, out: &mut H::Outside)
     where
         H: Effects<P>,
         requires due { due_of self.old.course ≡ dues.Reserve }
         ensures reserved { IsReserved self.old.course self.new.course }
+        ensures bears { Bears H.bears self.old.holdings self.new.holdings }
         ensures goes { GoesOn self.old.course self.new.course }
-        ensures on { result ≡ Step.On }
     {
         match self.holdings.reserve(rt, at, out) {
-            Ok(()) => {
-                self.course.done(Event::Reserved);
-                Step::On
-            }
+            Ok(()) => self.course.done(Event::Reserved),
             Err(want) => self.refuse(at, out, want),
         }
     }
@@ -72,20 +64,17 @@ impl<H: Holder> Exchange<H> {
     }
 
     /// Opens the connection that a request goes to, or takes one that was kept, where it may.
-    pub(crate) fn dial<P>(&mut self, at: &P, out: &mut H::Outside) -> Step
+    pub(crate) fn dial<P>(&mut self, at: &P, out: &mut H::Outside)
     where
         H: Effects<P>,
         requires due { due_of self.old.course ≡ dues.Dial }
         ensures dialed { IsDialed (H.dials self.old.holdings self.new.holdings out.old out.new at.now) self.old.course self.new.course }
+        ensures bears { Bears H.bears self.old.holdings self.new.holdings }
         ensures goes { GoesOn self.old.course self.new.course }
-        ensures on { result ≡ Step.On }
     {
         let dialing = self.dialing();
         match self.holdings.dial(at, out, dialing) {
-            Ok(kept) => {
-                self.course.done(Event::Dialed { kept });
-                Step::On
-            }
+            Ok(kept) => self.course.done(Event::Dialed { kept }),
             Err(reason) => self.refuse(at, out, reason),
         }
     }

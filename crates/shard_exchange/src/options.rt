@@ -20,24 +20,21 @@ impl<H: Holder> Exchange<H> {
     ghost use Rattle.exchange_core.specs.declared.event.Event.TheVariants.{Renewed};
     ghost use Rattle.exchange_core.specs.declared.due.Due.TheVariants as dues;
     ghost use Rattle.shard_exchange.specs.Leases.{Renews};
-    ghost use Rattle.shard_exchange.specs.Outcomes.{IsAsked, IsAskedAnew, IsHeard};
+    ghost use Rattle.shard_exchange.specs.Outcomes.{Bears, IsAsked, IsHeard};
     ghost use Rattle.shard_exchange.specs.Steps.{Heeds, GoesOn};
 
     /// Begins to ask the service for its options.
-    pub(crate) fn ask<P>(&mut self, at: &P, out: &mut H::Outside) -> Step
+    pub(crate) fn ask<P>(&mut self, at: &P, out: &mut H::Outside)
     where
         H: Effects<P>,
         requires due { due_of self.old.course ≡ dues.Ask }
         ensures asked { IsAsked (H.asks self.new.holdings out.new) self.old.course self.new.course }
+        ensures bears { Bears H.bears self.old.holdings self.new.holdings }
         ensures goes { GoesOn self.old.course self.new.course }
-        ensures on { result ≡ Step.On }
     {
         let point = self.phase().point();
         match self.holdings.ask(at, out, point) {
-            Ok(()) => {
-                self.course.done(Event::Asked);
-                Step::On
-            }
+            Ok(()) => self.course.done(Event::Asked),
             Err(reason) => self.refuse(at, out, reason),
         }
     }
@@ -52,78 +49,77 @@ impl<H: Holder> Exchange<H> {
     where
         H: Effects<P>,
         requires due { due_of self.old.course ≡ dues.Hear }
-        ensures heard { IsHeard (H.learns out.old out.new at.now) H.usable_after self.old.course self.new.course }
-        ensures anew { IsAskedAnew (H.asks self.new.holdings out.new) (λ held. Renews H.leases held self.new.holdings) self.old.course self.new.course }
+        ensures heard { IsHeard (H.learns out.old out.new at.now) H.usable_after (H.asks self.new.holdings out.new)
+            (λ held. Renews H.leases held self.new.holdings) self.old.course self.new.course }
+        ensures bears { Bears H.bears self.old.holdings self.new.holdings }
         ensures goes { Goes self.old.course self.new.course }
         ensures heeds { Heeds (H.is_late out.new at.now) self.new.course result }
         ensures rests { result ≡ Step.Waits → H.hears_nothing self.old.holdings self.new.holdings }
     {
         match self.holdings.hear(buffer) {
-            Some(OptionsTurn::More) => Step::On,
-            Some(OptionsTurn::Nothing) => self.wait_or_refuse(at, out, Reason::ServiceDeadline),
+            Some(OptionsTurn::More) => {}
+            Some(OptionsTurn::Nothing) => {
+                return self.wait_or_refuse(at, out, Reason::ServiceDeadline);
+            }
             Some(OptionsTurn::Answer(answer)) => self.has_heard(at, out, &answer),
             Some(OptionsTurn::Fault(fault)) => self.options_failed(at, out, fault),
             None => self.refuse(at, out, Reason::ServiceRefused),
         }
+        Step::On
     }
 
     /// Takes note of what the service said.
-    fn has_heard<P>(&mut self, at: &P, out: &mut H::Outside, answer: &IcapResponse) -> Step
+    fn has_heard<P>(&mut self, at: &P, out: &mut H::Outside, answer: &IcapResponse)
     where
         H: Effects<P>,
         requires due { due_of self.old.course ≡ dues.Hear }
-        ensures heard { IsHeard (H.learns out.old out.new at.now) H.usable_after self.old.course self.new.course }
-        ensures anew { IsAskedAnew (H.asks self.new.holdings out.new) (λ held. Renews H.leases held self.new.holdings) self.old.course self.new.course }
+        ensures heard { IsHeard (H.learns out.old out.new at.now) H.usable_after (H.asks self.new.holdings out.new)
+            (λ held. Renews H.leases held self.new.holdings) self.old.course self.new.course }
+        ensures bears { Bears H.bears self.old.holdings self.new.holdings }
         ensures goes { Goes self.old.course self.new.course }
-        ensures on { result ≡ Step.On }
     {
         let point = self.phase().point();
         match self.holdings.learn(at, out, point, answer) {
-            Ok(usable) => {
-                self.course.done(Event::Learned { usable });
-                Step::On
-            }
+            Ok(usable) => self.course.done(Event::Learned { usable }),
             Err(reason) => self.refuse(at, out, reason),
         }
     }
 
     /// A connection that was idle before may be closed just now: then a fresh one is asked, once, where a retry is allowed.
-    fn options_failed<P>(&mut self, at: &P, out: &mut H::Outside, fault: ClientFault) -> Step
+    fn options_failed<P>(&mut self, at: &P, out: &mut H::Outside, fault: ClientFault)
     where
         H: Effects<P>,
         requires due { due_of self.old.course ≡ dues.Hear }
-        ensures asked { self.new.course.asked ≡ self.old.course.asked }
-        ensures anew { IsAskedAnew (H.asks self.new.holdings out.new) (λ held. Renews H.leases held self.new.holdings) self.old.course self.new.course }
+        ensures heard { IsHeard (H.learns out.old out.new at.now) H.usable_after (H.asks self.new.holdings out.new)
+            (λ held. Renews H.leases held self.new.holdings) self.old.course self.new.course }
+        ensures bears { Bears H.bears self.old.holdings self.new.holdings }
         ensures goes { Goes self.old.course self.new.course }
-        ensures on { result ≡ Step.On }
     {
         if H::may_retry(at, out)
             && matches!(fault, ClientFault::Closed | ClientFault::Device)
             && self.course.may(Event::Renewed)
         {
-            return self.ask_anew(at, out);
+            self.ask_anew(at, out);
+        } else {
+            self.holdings.blame(at, out, fault);
+            self.refuse(at, out, options_reason(fault));
         }
-        self.holdings.blame(at, out, fault);
-        self.refuse(at, out, options_reason(fault))
     }
 
     /// Begins to ask the service of the message's point anew, on a fresh connection.
-    fn ask_anew<P>(&mut self, at: &P, out: &mut H::Outside) -> Step
+    fn ask_anew<P>(&mut self, at: &P, out: &mut H::Outside)
     where
         H: Effects<P>,
         requires due { due_of self.old.course ≡ dues.Hear }
         requires may { may_come self.old.course Renewed ≡ true }
-        ensures asked { self.new.course.asked ≡ self.old.course.asked }
-        ensures anew { IsAskedAnew (H.asks self.new.holdings out.new) (λ held. Renews H.leases held self.new.holdings) self.old.course self.new.course }
+        ensures heard { IsHeard (H.learns out.old out.new at.now) H.usable_after (H.asks self.new.holdings out.new)
+            (λ held. Renews H.leases held self.new.holdings) self.old.course self.new.course }
+        ensures bears { Bears H.bears self.old.holdings self.new.holdings }
         ensures goes { Goes self.old.course self.new.course }
-        ensures on { result ≡ Step.On }
     {
         let point = self.phase().point();
         match self.holdings.ask_anew(at, out, point) {
-            Ok(()) => {
-                self.course.take(Event::Renewed);
-                Step::On
-            }
+            Ok(()) => self.course.take(Event::Renewed),
             Err(reason) => self.refuse(at, out, reason),
         }
     }

@@ -21,14 +21,14 @@ impl<H: Holder> Exchange<H> {
     ghost use Rattle.exchange_core.specs.May.{is_gone};
     ghost use Rattle.exchange_core.specs.declared.due.Due.TheVariants as dues;
     ghost use Rattle.shard_exchange.specs.Hand.{Keeps};
-    ghost use Rattle.shard_exchange.specs.Saying.{LaysPage, SaysOn, interim_text, refusal_by};
+    ghost use Rattle.shard_exchange.specs.Saying.{SaysOn, interim_text, refusal_by};
     ghost use Rattle.shard_exchange.specs.Ends.{IsOwed};
-    ghost use Rattle.shard_exchange.specs.Outcomes.{SaysInterim, SaysRefusal};
+    ghost use Rattle.shard_exchange.specs.Outcomes.{Bears, Refuses, SaysInterim};
     ghost use Rattle.shard_exchange.specs.Steps.{Heeds, is_moved};
 
     /// Has a message that doesn't move go no further, for a reason of which what is due may fail: its user is refused, unless a part of
     /// another text is out.
-    pub(crate) fn refuse<P>(&mut self, at: &P, out: &mut H::Outside, reason: Reason) -> Step
+    pub(crate) fn refuse<P>(&mut self, at: &P, out: &mut H::Outside, reason: Reason)
     where
         H: Effects<P>,
         requires message { is_for_message (due_of self.old.course) ≡ true }
@@ -39,27 +39,24 @@ impl<H: Holder> Exchange<H> {
         ensures goes { Goes self.old.course self.new.course }
         ensures left { is_for_message (due_of self.new.course) ≡ false }
         ensures owed { IsOwed self.old.course self.new.course (reasons.status_of reason) }
-        ensures on { result ≡ Step.On }
     {
         self.holdings.note_refusal(at, out, &self.course, reason);
         self.course.failed(reason.cause());
-        Step::On
     }
 
     /// Has an exchange end whose user is gone, and whose message doesn't move.
-    pub(crate) fn lose_user(&mut self) -> Step
+    pub(crate) fn lose_user(&mut self)
         requires user { is_for_user (due_of self.old.course) ≡ true }
         requires still { is_moved (due_of self.old.course) ≡ false }
         ensures course { self.new.course ≡ after self.old.course UserLost }
+        ensures bears { Bears H.bears self.old.holdings self.new.holdings }
         ensures goes { Goes self.old.course self.new.course }
         ensures gone { is_gone self.new.course.phase ≡ true }
         ensures held { Keeps (H.hand self.old.holdings) (H.hand self.new.holdings) }
         ensures left { is_for_message (due_of self.new.course) ≡ false }
-        ensures on { result ≡ Step.On }
     {
         self.course.lost();
         self.holdings.lose_user(&self.course);
-        Step::On
     }
 
     /// Waits, unless the deadline has passed: then the user is let go.
@@ -98,7 +95,8 @@ impl<H: Holder> Exchange<H> {
         ensures heeds { Heeds (H.is_late out.new at.now) self.new.course result }
     {
         if H::is_late(at, out) {
-            self.refuse(at, out, reason)
+            self.refuse(at, out, reason);
+            Step::On
         } else {
             Step::Waits
         }
@@ -109,22 +107,20 @@ impl<H: Holder> Exchange<H> {
     where
         H: Effects<P>,
         requires due { due_of self.old.course ≡ dues.Refuse status }
-        ensures lays { LaysPage (H.has_page out.old at.now status) status (H.hand self.old.holdings).refused (H.hand self.new.holdings).refused.page }
-        ensures says { SaysRefusal (H.user_past self.old.holdings) (H.user_past self.new.holdings) (H.hand self.old.holdings) (H.hand self.new.holdings) status self.new.course.phase }
+        ensures refused { Refuses (H.has_page out.old at.now status) (H.user_past self.old.holdings) (H.user_past self.new.holdings)
+            (H.hand self.old.holdings) (H.hand self.new.holdings) status self.new.course.phase }
         ensures goes { Goes self.old.course self.new.course }
         ensures heeds { Heeds (H.is_late out.new at.now) self.new.course result }
         ensures rests { result ≡ Step.Waits → SaysOn (H.user_past self.old.holdings) (H.user_past self.new.holdings)
             (refusal_by status (H.hand self.new.holdings).refused.page) (H.hand self.old.holdings).refused.out (H.hand self.new.holdings).refused.out Said.Nothing }
     {
         match self.holdings.refuse(at, out, &self.course, status) {
-            Said::Whole => {
-                self.course.done(Event::Refused);
-                Step::On
-            }
-            Said::Part(_) => Step::On,
-            Said::Nothing => self.wait(at, out),
+            Said::Whole => self.course.done(Event::Refused),
+            Said::Part(_) => {}
+            Said::Nothing => return self.wait(at, out),
             Said::Broken => self.lose_user(),
         }
+        Step::On
     }
 
     /// Closes the user's connection: what the user still sends is dropped until it closes too.
@@ -167,46 +163,39 @@ impl<H: Holder> Exchange<H> {
     }
 
     /// The user has taken the whole text.
-    fn has_told(&mut self) -> Step
+    fn has_told(&mut self)
         requires due { comes_of (due_of self.old.course) Told ≡ true }
         ensures course { self.new.course ≡ after self.old.course Told }
         ensures held { self.new.holdings ≡ self.old.holdings }
         ensures goes { Goes self.old.course self.new.course }
-        ensures on { result ≡ Step.On }
     {
         self.course.done(Event::Told);
-        Step::On
     }
 
     /// The user has taken a part of the text, and not all.
-    fn has_told_part(&mut self) -> Step
+    fn has_told_part(&mut self)
         requires due { comes_of (due_of self.old.course) HalfTold ≡ true }
         ensures course { self.new.course ≡ (if self.old.course.half_told then self.old.course else after self.old.course HalfTold) }
         ensures held { self.new.holdings ≡ self.old.holdings }
         ensures goes { Goes self.old.course self.new.course }
-        ensures on { result ≡ Step.On }
     {
         if !self.course.course().half_told {
             self.course.done(Event::HalfTold);
         }
-        Step::On
     }
 
     /// Tells the user to send its body, where it takes the text at once.
-    pub(crate) fn try_tell(&mut self) -> Step
+    pub(crate) fn try_tell(&mut self)
         requires due { due_of self.old.course ≡ dues.TryTell }
         ensures says { SaysInterim (H.user_past self.old.holdings) (H.user_past self.new.holdings) (H.hand self.old.holdings) (H.hand self.new.holdings)
             (after self.old.course Stuck) self.old.course self.new.course }
+        ensures bears { Bears H.bears self.old.holdings self.new.holdings }
         ensures goes { Goes self.old.course self.new.course }
-        ensures on { result ≡ Step.On }
     {
         match self.holdings.tell(&self.course) {
             Said::Whole => self.has_told(),
             Said::Part(_) => self.has_told_part(),
-            Said::Nothing => {
-                self.course.done(Event::Stuck);
-                Step::On
-            }
+            Said::Nothing => self.course.done(Event::Stuck),
             Said::Broken => self.lose_user(),
         }
     }
@@ -218,6 +207,7 @@ impl<H: Holder> Exchange<H> {
         requires due { due_of self.old.course ≡ dues.Tell }
         ensures says { SaysInterim (H.user_past self.old.holdings) (H.user_past self.new.holdings) (H.hand self.old.holdings) (H.hand self.new.holdings)
             (if H.is_late out.old at.now then after self.old.course (Failed causes.Deadline) else self.old.course) self.old.course self.new.course }
+        ensures bears { Bears H.bears self.old.holdings self.new.holdings }
         ensures goes { Goes self.old.course self.new.course }
         ensures heeds { Heeds (H.is_late out.new at.now) self.new.course result }
         ensures rests { result ≡ Step.Waits → SaysOn (H.user_past self.old.holdings) (H.user_past self.new.holdings) interim_text
@@ -226,8 +216,9 @@ impl<H: Holder> Exchange<H> {
         match self.holdings.tell(&self.course) {
             Said::Whole => self.has_told(),
             Said::Part(_) => self.has_told_part(),
-            Said::Nothing => self.wait_or_refuse(at, out, Reason::UserDeadline),
+            Said::Nothing => return self.wait_or_refuse(at, out, Reason::UserDeadline),
             Said::Broken => self.lose_user(),
         }
+        Step::On
     }
 }

@@ -18,48 +18,43 @@ impl<H: Holder> Exchange<H> {
     ghost use Rattle.shard_exchange.specs.Steps.{GoesOn};
 
     /// Puts the service's connection back where it may serve again. Else it is closed, and its lease given up.
-    pub(crate) fn give_back<P>(&mut self, at: &P, out: &mut H::Outside) -> Step
+    pub(crate) fn give_back<P>(&mut self, at: &P, out: &mut H::Outside)
     where
         H: Effects<P>,
         requires due { due_of self.old.course ≡ dues.GiveBack }
-        ensures given { IsGivenBack (H.puts self.old.holdings out.old out.new at.now) (H.gives_up self.old.holdings out.old out.new at.now) (H.has_line self.old.holdings)
-            self.old.course }
-        ensures stays { H.stays self.old.holdings self.new.holdings }
+        ensures given { IsGivenBack (H.puts self.old.holdings out.old out.new at.now) (H.gives_up self.old.holdings out.old out.new at.now)
+            (H.stays self.old.holdings self.new.holdings) (H.has_line self.old.holdings) self.old.course self.new.course }
         ensures course { self.new.course ≡ after self.old.course (Returned false) }
         ensures goes { GoesOn self.old.course self.new.course }
-        ensures on { result ≡ Step.On }
     {
         let kept = self.holdings.give_back(at, out, &self.course);
         self.course.done(Event::Returned { kept });
-        Step::On
     }
 
     /// Closes the reservation.
-    pub(crate) fn release<P, R: Wait>(&mut self, rt: &R, at: &P, out: &mut H::Outside) -> Step
+    pub(crate) fn release<P, R: Wait>(&mut self, rt: &R, at: &P, out: &mut H::Outside)
     where
         H: Effects<P>,
         requires due { due_of self.old.course ≡ dues.Release }
         ensures course { self.new.course ≡ after self.old.course Released }
+        ensures message { H.keeps_message self.old.holdings self.new.holdings }
         ensures goes { GoesOn self.old.course self.new.course }
-        ensures on { result ≡ Step.On }
     {
         self.holdings.release(rt, at, out);
         self.course.done(Event::Released);
-        Step::On
     }
 
     /// Keeps the origin's connection for later exchanges where it lasts. Else it is closed.
-    pub(crate) fn hang_up<P>(&mut self, at: &P, out: &mut H::Outside) -> Step
+    pub(crate) fn hang_up<P>(&mut self, at: &P, out: &mut H::Outside)
     where
         H: Effects<P>,
         requires due { due_of self.old.course ≡ dues.HangUp }
-        ensures hung { IsHungUp (H.lays self.old.holdings out.old out.new at.now) (H.closes self.old.holdings out.old out.new at.now) self.old.course }
+        ensures hung { IsHungUp (H.lays self.old.holdings out.old out.new at.now) (H.closes self.old.holdings out.old out.new at.now) self.old.course self.new.course }
         ensures course { self.new.course ≡ after self.old.course (HungUp false) }
+        ensures message { H.keeps_message self.old.holdings self.new.holdings }
         ensures goes { GoesOn self.old.course self.new.course }
-        ensures on { result ≡ Step.On }
     {
         let kept = self.holdings.keep_origin(at, out, &self.course);
         self.course.done(Event::HungUp { kept });
-        Step::On
     }
 }

@@ -1,13 +1,14 @@
 //! The steps of an exchange: what is due is done.
 
-ghost use Rattle.std.specs.Prelude.{◌≡◌, ◌↔◌, ◌⊎◌, Some, None, true, false};
+ghost use Rattle.std.specs.Prelude.{◌≡◌, ◌↔◌, ◌⊎◌, ℕ, if◌then◌else◌, Some, None, true, false};
 ghost use Rattle.adapt_sides.specs.declared.saying.Said.TheVariants.{Nothing};
 ghost use Rattle.service_lines.specs.declared.connector.LendFault.TheVariants.{Busy};
 ghost use Rattle.shard_exchange.specs.declared.answers.HeadTurn.TheVariants as head_turns;
 ghost use Rattle.shard_exchange.specs.declared.answers.Round.TheVariants.{Waiting};
 ghost use Rattle.shard_exchange.specs.Resting.{RestsOn};
 ghost use Rattle.shard_exchange.specs.Saying.{SaysOn, interim_text, refusal_by};
-ghost use Rattle.shard_exchange.specs.Ends.{is_closing, moves, Halts};
+ghost use Rattle.exchange_core.specs.declared.due.Due.TheVariants as dues;
+ghost use Rattle.shard_exchange.specs.Ends.{is_closing, is_stopped, moves, Halts};
 
 use crate::effects::Effects;
 use crate::exchange::Exchange;
@@ -21,9 +22,11 @@ impl<H: Holder> Exchange<H> {
     ghost use Rattle.exchange_core.specs.Dues.{due_of, is_over, is_wait};
     ghost use Rattle.exchange_core.specs.Log.{Goes};
     ghost use Rattle.exchange_core.specs.May.{may_come, is_refusing};
-    ghost use Rattle.exchange_core.specs.declared.event.Event.TheVariants.{Withdrawn};
+    ghost use Rattle.exchange_core.specs.Course.{after};
+    ghost use Rattle.exchange_core.specs.declared.event.Event.TheVariants.{Failed, Stuck, Withdrawn};
+    ghost use Rattle.exchange_core.specs.declared.event.RefusalCause.TheVariants.{Deadline};
     ghost use Rattle.shard_exchange.specs.Leases.{Renews};
-    ghost use Rattle.shard_exchange.specs.Outcomes.{Does, IsAsked, IsAskedAnew, IsAwaited, IsDialed, IsGated, IsGivenBack, IsHeard, IsHungUp, IsLent, IsPlanned, IsRead, IsRequested, IsStarted, IsTurned, MovesOn};
+    ghost use Rattle.shard_exchange.specs.Outcomes.{Bears, Does, IsAsked, IsAwaited, IsDialed, IsGated, IsGivenBack, IsHeard, IsHungUp, IsLent, IsPlanned, IsRead, IsReleased, IsRequested, IsReserved, IsStarted, IsTurned, MovesOn, Refuses, SaysInterim, SaysLast};
     ghost use Rattle.shard_exchange.specs.Steps.{Heeds, IsDone, GoesOn, is_step};
 
     /// Does a task, and says how far that came. An exchange that only closes isn't stopped: it goes on with that.
@@ -57,31 +60,43 @@ impl<H: Holder> Exchange<H> {
             ⊎ ((task ≡ Task.TakeLeave) × (held : H) × H.sends_nothing held self.new.holdings) }
         ensures over { result ≡ Step.Over → is_over self.new.course ≡ true }
         ensures lost { task ≡ Task.Lose → is_over self.new.course ≡ true }
-        ensures does { is_step task self.old.course ≡ true → Does (IsRequested H.reads H.has_begun (H.is_late out.old at.now) self.old.holdings self.old.course self.new.course)
-            (IsPlanned (H.plans self.old.holdings self.new.holdings out.old at.now) self.old.course self.new.course)
-            (IsLent (H.leases self.new.holdings) (λ out. H.fails out at.now) (λ out. H.joins out at.now) self.old.course self.new.course)
-            (IsAwaited (H.leases self.new.holdings) (λ out. H.fails out at.now) (λ out. H.has_waited out at.now) (λ out. H.is_late out at.now)
-            self.old.course self.new.course)
-            (IsAsked (H.asks self.new.holdings out.new) self.old.course self.new.course)
-            (IsHeard (H.learns out.old out.new at.now) H.usable_after self.old.course self.new.course
-            × IsAskedAnew (H.asks self.new.holdings out.new) (λ held. Renews H.leases held self.new.holdings) self.old.course self.new.course)
-            (IsDialed (H.dials self.old.holdings self.new.holdings out.old out.new at.now) self.old.course self.new.course)
-            (IsStarted (H.starts self.old.holdings self.new.holdings out.old at.now self.old.course) self.new.course)
-            (IsGated (H.ends self.old.holdings (may_come self.old.course Withdrawn)) (λ end. H.follows self.old.holdings end self.new.holdings)
-            (H.answered self.old.holdings) self.old.holdings self.new.holdings self.old.course self.new.course)
-            (IsTurned (λ held turned later round. H.rounds held turned out.old later at.now round) (λ turned usable. H.frees turned self.new.holdings usable)
-            H.answered H.reusable H.ends (λ turned end. H.follows turned end self.new.holdings) H.repeats (λ out. H.is_late out at.now)
-            self.old.holdings self.old.course self.new.course)
-            (IsRead H.hears H.repeats H.withdraws (H.is_late out.old at.now) self.old.holdings self.old.course self.new.course)
-            (IsGivenBack (H.puts self.old.holdings out.old out.new at.now) (H.gives_up self.old.holdings out.old out.new at.now) (H.has_line self.old.holdings)
-            self.old.course × H.stays self.old.holdings self.new.holdings)
-            (IsHungUp (H.lays self.old.holdings out.old out.new at.now) (H.closes self.old.holdings out.old out.new at.now) self.old.course)
-            (H.has_page out.old at.now) (H.user_past self.old.holdings) (H.user_past self.new.holdings) (H.hand self.old.holdings) (H.hand self.new.holdings) (H.is_late out.old at.now)
-            self.old.course self.new.course (due_of self.old.course) }
+        ensures does { is_step task self.old.course ≡ true → Does (record {
+          requested = IsRequested H.reads H.bears H.has_begun (H.is_late out.old at.now) self.old.holdings self.new.holdings self.old.course self.new.course;
+          planned = IsPlanned (H.plans self.old.holdings self.new.holdings out.old at.now) self.old.course self.new.course;
+          lent = IsLent (H.leases self.new.holdings) (λ out. H.fails out at.now) (λ out. H.joins out at.now) self.old.course self.new.course × Bears H.bears self.old.holdings self.new.holdings;
+          awaited = IsAwaited (H.leases self.new.holdings) (λ out. H.fails out at.now) (λ out. H.has_waited out at.now) (λ out. H.is_late out at.now)
+              self.old.course self.new.course × Bears H.bears self.old.holdings self.new.holdings;
+          asked = IsAsked (H.asks self.new.holdings out.new) self.old.course self.new.course × Bears H.bears self.old.holdings self.new.holdings;
+          heard = IsHeard (H.learns out.old out.new at.now) H.usable_after (H.asks self.new.holdings out.new)
+              (λ held. Renews H.leases held self.new.holdings) self.old.course self.new.course × Bears H.bears self.old.holdings self.new.holdings;
+          reserved = IsReserved self.old.course self.new.course × Bears H.bears self.old.holdings self.new.holdings;
+          tried = SaysInterim (H.user_past self.old.holdings) (H.user_past self.new.holdings) (H.hand self.old.holdings) (H.hand self.new.holdings)
+              (after self.old.course Stuck) self.old.course self.new.course × Bears H.bears self.old.holdings self.new.holdings;
+          told = SaysInterim (H.user_past self.old.holdings) (H.user_past self.new.holdings) (H.hand self.old.holdings) (H.hand self.new.holdings)
+              (if H.is_late out.old at.now then after self.old.course (Failed Deadline) else self.old.course) self.old.course self.new.course × Bears H.bears self.old.holdings self.new.holdings;
+          dialed = IsDialed (H.dials self.old.holdings self.new.holdings out.old out.new at.now) self.old.course self.new.course × Bears H.bears self.old.holdings self.new.holdings;
+          started = IsStarted (H.starts self.old.holdings self.new.holdings out.old at.now self.old.course) self.new.course;
+          gated = IsGated (H.ends self.old.holdings (may_come self.old.course Withdrawn)) (λ end. H.follows self.old.holdings end self.new.holdings)
+              (H.answered self.old.holdings) (H.reusable self.old.holdings) self.old.holdings self.new.holdings self.old.course self.new.course;
+          turned = IsTurned (λ held turned later round. H.rounds held turned out.old later at.now round) (λ turned usable. H.frees turned self.new.holdings usable)
+              H.answered H.reusable H.ends (λ turned end. H.follows turned end self.new.holdings) H.repeats (λ out. H.is_late out at.now)
+              self.old.holdings self.old.course self.new.course;
+          read = IsRead H.hears H.repeats H.withdraws (H.is_late out.old at.now) self.old.holdings self.new.holdings self.old.course self.new.course;
+          given = IsGivenBack (H.puts self.old.holdings out.old out.new at.now) (H.gives_up self.old.holdings out.old out.new at.now)
+              (H.stays self.old.holdings self.new.holdings) (H.has_line self.old.holdings) self.old.course self.new.course;
+          released = IsReleased self.old.course self.new.course × H.keeps_message self.old.holdings self.new.holdings;
+          hung = IsHungUp (H.lays self.old.holdings out.old out.new at.now) (H.closes self.old.holdings out.old out.new at.now) self.old.course self.new.course × H.keeps_message self.old.holdings self.new.holdings;
+          refused = λ status. Refuses (H.has_page out.old at.now status) (H.user_past self.old.holdings) (H.user_past self.new.holdings)
+              (H.hand self.old.holdings) (H.hand self.new.holdings) status self.new.course.phase;
+          last = λ status. SaysLast H.user_past H.hand (H.has_page out.old at.now status) self.old.holdings self.new.holdings status self.old.course self.new.course;
+        }) (due_of self.old.course) }
         ensures stops { task ≡ Task.Halt → is_closing self.old.course.phase ≡ false → Halts self.old.course self.new.course (H.has_begun self.old.holdings) }
         ensures alone { task ≡ Task.Halt → moves self.old.course ≡ true → H.answered self.old.holdings ≡ true → is_refusing self.new.course.phase ≡ false }
+        // Who takes its leave gets what is left of the refusal that it is owed.
+        ensures last { task ≡ Task.TakeLeave → is_stopped self.old.course ≡ true → (status : ℕ) → due_of self.old.course ≡ dues.TryRefusal status
+            → SaysLast H.user_past H.hand (H.has_page out.old at.now status) self.old.holdings self.new.holdings status self.old.course self.new.course }
         // A message that moves before and after it is the same.
-        ensures on { moves self.old.course ≡ true → moves self.new.course ≡ true → MovesOn H.stays (λ held turned later round. H.rounds held turned out.old later at.now round)
+        ensures same { moves self.old.course ≡ true → moves self.new.course ≡ true → MovesOn H.stays (λ held turned later round. H.rounds held turned out.old later at.now round)
             (λ turned usable. H.frees turned self.new.holdings usable) self.old.holdings self.new.holdings }
     {
         match task {
@@ -121,27 +136,36 @@ impl<H: Holder> Exchange<H> {
           rest = H.sends_nothing self.old.holdings self.new.holdings;
         }) (due_of self.old.course) }
         ensures over { result ≡ Step.Over ↔ is_over self.new.course ≡ true }
-        ensures does { Does (IsRequested H.reads H.has_begun (H.is_late out.old at.now) self.old.holdings self.old.course self.new.course)
-            (IsPlanned (H.plans self.old.holdings self.new.holdings out.old at.now) self.old.course self.new.course)
-            (IsLent (H.leases self.new.holdings) (λ out. H.fails out at.now) (λ out. H.joins out at.now) self.old.course self.new.course)
-            (IsAwaited (H.leases self.new.holdings) (λ out. H.fails out at.now) (λ out. H.has_waited out at.now) (λ out. H.is_late out at.now)
-            self.old.course self.new.course)
-            (IsAsked (H.asks self.new.holdings out.new) self.old.course self.new.course)
-            (IsHeard (H.learns out.old out.new at.now) H.usable_after self.old.course self.new.course
-            × IsAskedAnew (H.asks self.new.holdings out.new) (λ held. Renews H.leases held self.new.holdings) self.old.course self.new.course)
-            (IsDialed (H.dials self.old.holdings self.new.holdings out.old out.new at.now) self.old.course self.new.course)
-            (IsStarted (H.starts self.old.holdings self.new.holdings out.old at.now self.old.course) self.new.course)
-            (IsGated (H.ends self.old.holdings (may_come self.old.course Withdrawn)) (λ end. H.follows self.old.holdings end self.new.holdings)
-            (H.answered self.old.holdings) self.old.holdings self.new.holdings self.old.course self.new.course)
-            (IsTurned (λ held turned later round. H.rounds held turned out.old later at.now round) (λ turned usable. H.frees turned self.new.holdings usable)
-            H.answered H.reusable H.ends (λ turned end. H.follows turned end self.new.holdings) H.repeats (λ out. H.is_late out at.now)
-            self.old.holdings self.old.course self.new.course)
-            (IsRead H.hears H.repeats H.withdraws (H.is_late out.old at.now) self.old.holdings self.old.course self.new.course)
-            (IsGivenBack (H.puts self.old.holdings out.old out.new at.now) (H.gives_up self.old.holdings out.old out.new at.now) (H.has_line self.old.holdings)
-            self.old.course × H.stays self.old.holdings self.new.holdings)
-            (IsHungUp (H.lays self.old.holdings out.old out.new at.now) (H.closes self.old.holdings out.old out.new at.now) self.old.course)
-            (H.has_page out.old at.now) (H.user_past self.old.holdings) (H.user_past self.new.holdings) (H.hand self.old.holdings) (H.hand self.new.holdings) (H.is_late out.old at.now)
-            self.old.course self.new.course (due_of self.old.course) }
+        ensures does { Does (record {
+          requested = IsRequested H.reads H.bears H.has_begun (H.is_late out.old at.now) self.old.holdings self.new.holdings self.old.course self.new.course;
+          planned = IsPlanned (H.plans self.old.holdings self.new.holdings out.old at.now) self.old.course self.new.course;
+          lent = IsLent (H.leases self.new.holdings) (λ out. H.fails out at.now) (λ out. H.joins out at.now) self.old.course self.new.course × Bears H.bears self.old.holdings self.new.holdings;
+          awaited = IsAwaited (H.leases self.new.holdings) (λ out. H.fails out at.now) (λ out. H.has_waited out at.now) (λ out. H.is_late out at.now)
+              self.old.course self.new.course × Bears H.bears self.old.holdings self.new.holdings;
+          asked = IsAsked (H.asks self.new.holdings out.new) self.old.course self.new.course × Bears H.bears self.old.holdings self.new.holdings;
+          heard = IsHeard (H.learns out.old out.new at.now) H.usable_after (H.asks self.new.holdings out.new)
+              (λ held. Renews H.leases held self.new.holdings) self.old.course self.new.course × Bears H.bears self.old.holdings self.new.holdings;
+          reserved = IsReserved self.old.course self.new.course × Bears H.bears self.old.holdings self.new.holdings;
+          tried = SaysInterim (H.user_past self.old.holdings) (H.user_past self.new.holdings) (H.hand self.old.holdings) (H.hand self.new.holdings)
+              (after self.old.course Stuck) self.old.course self.new.course × Bears H.bears self.old.holdings self.new.holdings;
+          told = SaysInterim (H.user_past self.old.holdings) (H.user_past self.new.holdings) (H.hand self.old.holdings) (H.hand self.new.holdings)
+              (if H.is_late out.old at.now then after self.old.course (Failed Deadline) else self.old.course) self.old.course self.new.course × Bears H.bears self.old.holdings self.new.holdings;
+          dialed = IsDialed (H.dials self.old.holdings self.new.holdings out.old out.new at.now) self.old.course self.new.course × Bears H.bears self.old.holdings self.new.holdings;
+          started = IsStarted (H.starts self.old.holdings self.new.holdings out.old at.now self.old.course) self.new.course;
+          gated = IsGated (H.ends self.old.holdings (may_come self.old.course Withdrawn)) (λ end. H.follows self.old.holdings end self.new.holdings)
+              (H.answered self.old.holdings) (H.reusable self.old.holdings) self.old.holdings self.new.holdings self.old.course self.new.course;
+          turned = IsTurned (λ held turned later round. H.rounds held turned out.old later at.now round) (λ turned usable. H.frees turned self.new.holdings usable)
+              H.answered H.reusable H.ends (λ turned end. H.follows turned end self.new.holdings) H.repeats (λ out. H.is_late out at.now)
+              self.old.holdings self.old.course self.new.course;
+          read = IsRead H.hears H.repeats H.withdraws (H.is_late out.old at.now) self.old.holdings self.new.holdings self.old.course self.new.course;
+          given = IsGivenBack (H.puts self.old.holdings out.old out.new at.now) (H.gives_up self.old.holdings out.old out.new at.now)
+              (H.stays self.old.holdings self.new.holdings) (H.has_line self.old.holdings) self.old.course self.new.course;
+          released = IsReleased self.old.course self.new.course × H.keeps_message self.old.holdings self.new.holdings;
+          hung = IsHungUp (H.lays self.old.holdings out.old out.new at.now) (H.closes self.old.holdings out.old out.new at.now) self.old.course self.new.course × H.keeps_message self.old.holdings self.new.holdings;
+          refused = λ status. Refuses (H.has_page out.old at.now status) (H.user_past self.old.holdings) (H.user_past self.new.holdings)
+              (H.hand self.old.holdings) (H.hand self.new.holdings) status self.new.course.phase;
+          last = λ status. SaysLast H.user_past H.hand (H.has_page out.old at.now status) self.old.holdings self.new.holdings status self.old.course self.new.course;
+        }) (due_of self.old.course) }
     {
         let step = self.do_due(rt, at, out, scratch);
         if self.course.course().is_over() {
@@ -174,53 +198,62 @@ impl<H: Holder> Exchange<H> {
           turns = (turned : H) × (later : H.Outside) × H.rounds self.old.holdings turned out.old later at.now Waiting × H.frees turned self.new.holdings None;
           rest = H.sends_nothing self.old.holdings self.new.holdings;
         }) (due_of self.old.course) }
-        ensures does { Does (IsRequested H.reads H.has_begun (H.is_late out.old at.now) self.old.holdings self.old.course self.new.course)
-            (IsPlanned (H.plans self.old.holdings self.new.holdings out.old at.now) self.old.course self.new.course)
-            (IsLent (H.leases self.new.holdings) (λ out. H.fails out at.now) (λ out. H.joins out at.now) self.old.course self.new.course)
-            (IsAwaited (H.leases self.new.holdings) (λ out. H.fails out at.now) (λ out. H.has_waited out at.now) (λ out. H.is_late out at.now)
-            self.old.course self.new.course)
-            (IsAsked (H.asks self.new.holdings out.new) self.old.course self.new.course)
-            (IsHeard (H.learns out.old out.new at.now) H.usable_after self.old.course self.new.course
-            × IsAskedAnew (H.asks self.new.holdings out.new) (λ held. Renews H.leases held self.new.holdings) self.old.course self.new.course)
-            (IsDialed (H.dials self.old.holdings self.new.holdings out.old out.new at.now) self.old.course self.new.course)
-            (IsStarted (H.starts self.old.holdings self.new.holdings out.old at.now self.old.course) self.new.course)
-            (IsGated (H.ends self.old.holdings (may_come self.old.course Withdrawn)) (λ end. H.follows self.old.holdings end self.new.holdings)
-            (H.answered self.old.holdings) self.old.holdings self.new.holdings self.old.course self.new.course)
-            (IsTurned (λ held turned later round. H.rounds held turned out.old later at.now round) (λ turned usable. H.frees turned self.new.holdings usable)
-            H.answered H.reusable H.ends (λ turned end. H.follows turned end self.new.holdings) H.repeats (λ out. H.is_late out at.now)
-            self.old.holdings self.old.course self.new.course)
-            (IsRead H.hears H.repeats H.withdraws (H.is_late out.old at.now) self.old.holdings self.old.course self.new.course)
-            (IsGivenBack (H.puts self.old.holdings out.old out.new at.now) (H.gives_up self.old.holdings out.old out.new at.now) (H.has_line self.old.holdings)
-            self.old.course × H.stays self.old.holdings self.new.holdings)
-            (IsHungUp (H.lays self.old.holdings out.old out.new at.now) (H.closes self.old.holdings out.old out.new at.now) self.old.course)
-            (H.has_page out.old at.now) (H.user_past self.old.holdings) (H.user_past self.new.holdings) (H.hand self.old.holdings) (H.hand self.new.holdings) (H.is_late out.old at.now)
-            self.old.course self.new.course (due_of self.old.course) }
+        ensures does { Does (record {
+          requested = IsRequested H.reads H.bears H.has_begun (H.is_late out.old at.now) self.old.holdings self.new.holdings self.old.course self.new.course;
+          planned = IsPlanned (H.plans self.old.holdings self.new.holdings out.old at.now) self.old.course self.new.course;
+          lent = IsLent (H.leases self.new.holdings) (λ out. H.fails out at.now) (λ out. H.joins out at.now) self.old.course self.new.course × Bears H.bears self.old.holdings self.new.holdings;
+          awaited = IsAwaited (H.leases self.new.holdings) (λ out. H.fails out at.now) (λ out. H.has_waited out at.now) (λ out. H.is_late out at.now)
+              self.old.course self.new.course × Bears H.bears self.old.holdings self.new.holdings;
+          asked = IsAsked (H.asks self.new.holdings out.new) self.old.course self.new.course × Bears H.bears self.old.holdings self.new.holdings;
+          heard = IsHeard (H.learns out.old out.new at.now) H.usable_after (H.asks self.new.holdings out.new)
+              (λ held. Renews H.leases held self.new.holdings) self.old.course self.new.course × Bears H.bears self.old.holdings self.new.holdings;
+          reserved = IsReserved self.old.course self.new.course × Bears H.bears self.old.holdings self.new.holdings;
+          tried = SaysInterim (H.user_past self.old.holdings) (H.user_past self.new.holdings) (H.hand self.old.holdings) (H.hand self.new.holdings)
+              (after self.old.course Stuck) self.old.course self.new.course × Bears H.bears self.old.holdings self.new.holdings;
+          told = SaysInterim (H.user_past self.old.holdings) (H.user_past self.new.holdings) (H.hand self.old.holdings) (H.hand self.new.holdings)
+              (if H.is_late out.old at.now then after self.old.course (Failed Deadline) else self.old.course) self.old.course self.new.course × Bears H.bears self.old.holdings self.new.holdings;
+          dialed = IsDialed (H.dials self.old.holdings self.new.holdings out.old out.new at.now) self.old.course self.new.course × Bears H.bears self.old.holdings self.new.holdings;
+          started = IsStarted (H.starts self.old.holdings self.new.holdings out.old at.now self.old.course) self.new.course;
+          gated = IsGated (H.ends self.old.holdings (may_come self.old.course Withdrawn)) (λ end. H.follows self.old.holdings end self.new.holdings)
+              (H.answered self.old.holdings) (H.reusable self.old.holdings) self.old.holdings self.new.holdings self.old.course self.new.course;
+          turned = IsTurned (λ held turned later round. H.rounds held turned out.old later at.now round) (λ turned usable. H.frees turned self.new.holdings usable)
+              H.answered H.reusable H.ends (λ turned end. H.follows turned end self.new.holdings) H.repeats (λ out. H.is_late out at.now)
+              self.old.holdings self.old.course self.new.course;
+          read = IsRead H.hears H.repeats H.withdraws (H.is_late out.old at.now) self.old.holdings self.new.holdings self.old.course self.new.course;
+          given = IsGivenBack (H.puts self.old.holdings out.old out.new at.now) (H.gives_up self.old.holdings out.old out.new at.now)
+              (H.stays self.old.holdings self.new.holdings) (H.has_line self.old.holdings) self.old.course self.new.course;
+          released = IsReleased self.old.course self.new.course × H.keeps_message self.old.holdings self.new.holdings;
+          hung = IsHungUp (H.lays self.old.holdings out.old out.new at.now) (H.closes self.old.holdings out.old out.new at.now) self.old.course self.new.course × H.keeps_message self.old.holdings self.new.holdings;
+          refused = λ status. Refuses (H.has_page out.old at.now status) (H.user_past self.old.holdings) (H.user_past self.new.holdings)
+              (H.hand self.old.holdings) (H.hand self.new.holdings) status self.new.course.phase;
+          last = λ status. SaysLast H.user_past H.hand (H.has_page out.old at.now status) self.old.holdings self.new.holdings status self.old.course self.new.course;
+        }) (due_of self.old.course) }
     {
         match self.course.due() {
-            Due::ReadRequest => self.read_request(at, out, &mut scratch.wire),
+            Due::ReadRequest => return self.read_request(at, out, &mut scratch.wire),
             Due::Plan => self.plan(at, out),
             Due::Lend => self.lend(at, out),
-            Due::Await => self.wait_in_queue(at, out),
+            Due::Await => return self.wait_in_queue(at, out),
             Due::Ask => self.ask(at, out),
-            Due::Hear => self.hear(at, out, &mut scratch.wire),
+            Due::Hear => return self.hear(at, out, &mut scratch.wire),
             Due::Reserve => self.reserve(rt, at, out),
             Due::TryTell => self.try_tell(),
-            Due::Tell => self.tell(at, out),
+            Due::Tell => return self.tell(at, out),
             Due::Dial => self.dial(at, out),
             Due::Start => self.start(rt, at, out),
             Due::AskGate => self.ask_gate(rt, at, out),
-            Due::Turn => self.turn(rt, at, out, scratch),
-            Due::ReadResponse => self.read_response(at, out, &mut scratch.wire),
+            Due::Turn => return self.turn(rt, at, out, scratch),
+            Due::ReadResponse => return self.read_response(at, out, &mut scratch.wire),
             Due::GiveBack => self.give_back(at, out),
             Due::Release => self.release(rt, at, out),
             Due::HangUp => self.hang_up(at, out),
-            Due::Refuse(status) => self.write_refusal(at, out, status),
+            Due::Refuse(status) => return self.write_refusal(at, out, status),
             Due::TryRefusal(status) => {
                 let _ = self.try_refusal(rt, at, out, status);
-                Step::On
             }
-            Due::Linger => self.close(at, out),
-            Due::Nothing => Step::On,
+            Due::Linger => return self.close(at, out),
+            Due::Nothing => {}
         }
+        Step::On
     }
 }

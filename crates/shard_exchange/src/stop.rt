@@ -1,12 +1,15 @@
 //! The end of the proxy: exchanges stop, and their users get their refusals.
 
 ghost use Rattle.std.specs.Prelude.{◌≡◌, ◌⊎◌, ◌&&◌, ◌||◌, ℕ, Some, None, true, false};
-ghost use Rattle.exchange_core.specs.declared.event.Event.TheVariants.{Stop};
+ghost use Rattle.exchange_core.specs.declared.course.Course.{Course};
+ghost use Rattle.exchange_core.specs.declared.event.Event.TheVariants.{Stop, Withdrawn};
 ghost use Rattle.exchange_core.specs.declared.due.Due.TheVariants as dues;
 ghost use Rattle.exchange_core.specs.May.{may_come, is_gone, is_head, is_idle, is_refusing};
 ghost use Rattle.exchange_core.specs.Dues.{due_of, is_over};
 ghost use Rattle.exchange_core.specs.Log.{Goes};
-ghost use Rattle.shard_exchange.specs.Ends.{moves, Frees, Halts, is_stopped};
+ghost use Rattle.shard_exchange.specs.EndedBy.{MayEnd};
+ghost use Rattle.shard_exchange.specs.Ends.{moves, Frees, Halts, IsEnded, is_stopped};
+ghost use Rattle.shard_exchange.specs.Outcomes.{SaysLast};
 ghost use Rattle.shard_exchange.specs.Saying.{SaysOn, refusal_by};
 
 use crate::answers::Lingered;
@@ -35,6 +38,7 @@ impl<H: Holder> Exchange<H> {
         requires { moves self.old.course ≡ false }
         ensures goes { Goes self.old.course self.new.course }
         ensures frees { Frees self.old.course self.new.course }
+        ensures line { self.new.course.connection ≡ self.old.course.connection }
     {
         if self.course.may(Event::HungUp { kept: false }) {
             self.holdings.hang_up();
@@ -51,6 +55,9 @@ impl<H: Holder> Exchange<H> {
         ensures goes { Goes self.old.course self.new.course }
         ensures still { moves self.new.course ≡ false }
         ensures stops { Halts self.old.course self.new.course false }
+        ensures ended { (mid : Course) × (held : H) × (self.new.course.phase ≡ mid.phase) × (self.new.course.connection ≡ mid.connection)
+            × IsEnded (MayEnd EndedBy.Stop (H.ends self.old.holdings (may_come self.old.course Withdrawn))) (λ end. H.follows self.old.holdings end held)
+            (H.answered self.old.holdings) (H.reusable self.old.holdings) self.old.course mid }
         ensures alone { H.answered self.old.holdings ≡ true → is_refusing self.new.course.phase ≡ false }
     {
         self.settle(rt, at, out, EndedBy::Stop);
@@ -162,6 +169,7 @@ impl<H: Holder> Exchange<H> {
         requires { due_of self.old.course ≡ dues.TryRefusal status }
         ensures goes { Goes self.old.course self.new.course }
         ensures leads { (self.new.course ≡ self.old.course) ⊎ (is_over self.new.course ≡ true) }
+        ensures last { SaysLast H.user_past H.hand (H.has_page out.old at.now status) self.old.holdings self.new.holdings status self.old.course self.new.course }
         ensures over { result ≡ Said.Whole → is_over self.new.course ≡ true }
         ensures broken { result ≡ Said.Broken → is_over self.new.course ≡ true }
         ensures nothing { result ≡ Said.Nothing → SaysOn (H.user_past self.old.holdings) (H.user_past self.new.holdings)
@@ -185,6 +193,8 @@ impl<H: Holder> Exchange<H> {
         ensures still { moves self.new.course ≡ false }
         ensures on { result ≡ Some Step.Over → ⊥ }
         ensures gone { result ≡ None → is_gone self.new.course.phase ≡ true }
+        ensures last { (status : ℕ) → due_of self.old.course ≡ dues.TryRefusal status
+            → SaysLast H.user_past H.hand (H.has_page out.old at.now status) self.old.holdings self.new.holdings status self.old.course self.new.course }
         ensures rests { result ≡ Some Step.Waits → (status : ℕ) × (due_of self.old.course ≡ dues.TryRefusal status)
             × SaysOn (H.user_past self.old.holdings) (H.user_past self.new.holdings)
             (refusal_by status (H.hand self.new.holdings).refused.page) (H.hand self.old.holdings).refused.out (H.hand self.new.holdings).refused.out Said.Nothing }
@@ -231,6 +241,8 @@ impl<H: Holder> Exchange<H> {
         requires stopped { is_stopped self.old.course ≡ true }
         ensures goes { Goes self.old.course self.new.course }
         ensures still { moves self.new.course ≡ false }
+        ensures last { (status : ℕ) → due_of self.old.course ≡ dues.TryRefusal status
+            → SaysLast H.user_past H.hand (H.has_page out.old at.now status) self.old.holdings self.new.holdings status self.old.course self.new.course }
         ensures over { result ≡ Step.Over → is_over self.new.course ≡ true }
         ensures rests { result ≡ Step.Waits → ((status : ℕ) × (due_of self.old.course ≡ dues.TryRefusal status)
             × SaysOn (H.user_past self.old.holdings) (H.user_past self.new.holdings)

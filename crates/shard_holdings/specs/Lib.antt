@@ -1,3 +1,4 @@
+pub mod Borne
 pub mod Freed
 pub mod Message
 pub mod Settled

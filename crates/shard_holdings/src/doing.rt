@@ -61,7 +61,7 @@ impl<P, O: Outside<P>> Effects<P> for Holdings<O> {
 
     ghost joins = { λ out at point joined. O.joins out at point joined };
 
-    ghost plans = { λ old new out at asked result. IfSome old.message (λ message.
+    ghost plans = { λ old new out at asked result. (new.message ≡ old.message) × IfSome old.message (λ message.
         PlansBy (O.config_is out) (O.limits_are out) (O.book_is out) (O.now_is out at) (O.user_is_at out at) asked message.value old.planned new.planned result) };
 
     ghost learns = { λ old new at point answer. IsLearned (O.config_is old) (O.now_is old at) (O.keeps old new at point) point answer };
@@ -74,7 +74,7 @@ impl<P, O: Outside<P>> Effects<P> for Holdings<O> {
         × (dialing ≡ KeptFirst → LeadsAsPlanned (λ room. room.planned) (λ address. (later : O) × O.takes out later at address (taken_if kept origin)) old.room)
         × (kept ≡ true → O.has_kept out origin) × HasGiven O.Origin.past origin new.before.0) };
 
-    ghost starts = { λ old new out at course. Starts (λ room. room.planned) (λ leased. leased.wire) (IsMannerOf (O.now_is out at) (O.config_is out) course)
+    ghost starts = { λ old new out at course. (new.before ≡ old.before) × Starts (λ room. room.planned) (λ leased. leased.wire) (IsMannerOf (O.now_is out at) (O.config_is out) course)
         (λ b user service origin tx. ⟦<Moving<O> as Moves<O>>⟧.begins b user service origin tx × ((s : Outset O.User O.Service O.Origin)
         → SetsOut O.User.Wire O.Origin.Wire b user service origin s → ⟦<Moving<O> as Accounted<O>>⟧.since s tx))
         old.message old.room old.user old.connection old.origin (is_offered course.phase) new.tx };

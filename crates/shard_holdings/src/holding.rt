@@ -12,6 +12,7 @@ ghost use Rattle.shard_message.specs.Lines.{line_in};
 ghost use Rattle.shard_message.specs.Usable.{usable_by};
 ghost use Rattle.shard_message.specs.Waits.{GivesNone, MovesNone};
 ghost use Rattle.proxy_rules.specs.Since.{held_or};
+ghost use Rattle.shard_holdings.specs.Borne.{plan_of};
 ghost use Rattle.shard_holdings.specs.Freed.{IsFreed, freed_of};
 ghost use Rattle.shard_holdings.specs.Message.{has_come};
 ghost use Rattle.shard_holdings.specs.Settled.{WithdrawsAs};
@@ -60,9 +61,15 @@ impl<O: Kinds> Holder for Holdings<O> {
           × ((s : Outset O.User O.Service O.Origin) → ⟦<Moving<O> as Accounted<O>>⟧.since s tx → BeginsClean O.Origin.Wire end s.origin later.origin later.message)
     ] };
 
-    ghost stays = { λ held later. later.tx ≡ held.tx };
+    ghost stays = { λ held later. (later.tx ≡ held.tx) × (later.before ≡ held.before) × (later.user ≡ held.user) × (later.origin ≡ held.origin)
+        × (later.message ≡ held.message) × (later.planned ≡ held.planned) × (later.room ≡ held.room) };
 
-    ghost frees = { λ held later usable. IsSomeAnd held.tx (λ tx. IsFreed (⟦<Moving<O> as OnItsWay>⟧.heard tx) (⟦<Moving<O> as Accounted<O>>⟧.service tx) (λ leased. leased.wire) later.connection usable
+    ghost bears = { λ first held. (held.message ≡ first.message)
+        × (plan_of (λ room. room.planned) held.planned held.room ≡ plan_of (λ room. room.planned) first.planned first.room) };
+
+    ghost keeps_message = { λ old new. new.message ≡ old.message };
+
+    ghost frees = { λ held later usable. (later.before ≡ held.before) × IsSomeAnd held.tx (λ tx. IsFreed (⟦<Moving<O> as OnItsWay>⟧.heard tx) (⟦<Moving<O> as Accounted<O>>⟧.service tx) (λ leased. leased.wire) later.connection usable
         × IsSomeAnd later.tx (λ next. (s : Outset O.User O.Service O.Origin) → ⟦<Moving<O> as Accounted<O>>⟧.since s tx
         → (given : Option O.Service) × (given ≡ held_or (freed_of (⟦<Moving<O> as Accounted<O>>⟧.service tx) usable) s.given)
         × ⟦<Moving<O> as Accounted<O>>⟧.since (record s { given = given }) next)) };

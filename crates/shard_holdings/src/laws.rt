@@ -24,7 +24,7 @@ pub fn a_message_stays_the_one_that_set_out<P, O: Outside<P>>(
     now: &Holdings<O>,
 )
     ensures began { (set : ⟦<Holdings<O> as Effects<P>>⟧.starts held.now begun.now out.now at.now course) → (s : Outset O.User O.Service O.Origin)
-        → SetsOut O.User.Wire O.Origin.Wire (beginning set.reserved.planned set.arrival.value set.manner) set.source set.line set.hop s
+        → SetsOut O.User.Wire O.Origin.Wire (beginning set.1.reserved.planned set.1.arrival.value set.1.manner) set.1.source set.1.line set.1.hop s
         → IsSince ⟦<Moving<O> as Accounted<O>>⟧.since s begun.now.tx }
     ensures stays { (n : ℕ) → AreSteps (λ one next. (old : O) × (spot : P) × MovesOn ⟦<Holdings<O> as Holder>⟧.stays
         (λ held turned later round. ⟦<Holdings<O> as Effects<P>>⟧.rounds held turned old later spot round)

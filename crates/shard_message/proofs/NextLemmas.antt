@@ -1,5 +1,6 @@
 -- The message that comes next, and the end that is told.
-use Rattle.std.proofs.Common.{◌≡◌, ◌↔◌, Bool, true, false, Option, Some, None, is_some, refl, sym, subst, ◌∙◌}
+use Rattle.std.proofs.Common.{◌≡◌, ◌↔◌, ℕ, List, Bool, true, false, Option, Some, None, IfSome, IsSomeAnd, is_some, refl, sym, subst, ◌∙◌}
+use Rattle.std.specs.Bool.{⊤}
 use Rattle.std.specs.Prelude.{Box}
 use Rattle.std.specs.declared.alloc.Global.{Global}
 use Rattle.trace_core.specs.declared.history.Cause.{Cause}
@@ -30,6 +31,22 @@ brings_more response next again further (sequels.Answered (Some message) lasts) 
 brings_more response next again further (sequels.Withdrawn None) more brings = tt
 brings_more response next again further (sequels.Withdrawn (Some message)) more brings = absurd brings
 brings_more response next again further (sequels.Failed cause is_old) more brings = tt
+
+-- a response that was told these lines
+pub told_lines : {L : Type 0} (items : L → List ℕ) (told lines : List ℕ) (carried : Option L) → IfSome carried (λ c. items c ≡ lines)
+    → IsSomeAnd carried (λ c. told ≡ items c) → told ≡ lines
+told_lines items told lines None is there = absurd there
+told_lines items told lines (Some c) is there = there ∙ is
+
+pub brings_told : {M : Type 0} (response told : M → Type 0) (sequel : Sequel M) → ((message : M) → response message → told message)
+    → Brings response (λ _. ⊤) (λ _. ⊤) sequel → Brings told (λ _. ⊤) (λ _. ⊤) sequel
+brings_told response told (sequels.Sent None) more brings = tt
+brings_told response told (sequels.Sent (Some message)) more brings = more message.value brings
+brings_told response told (sequels.Answered None lasts) more brings = tt
+brings_told response told (sequels.Answered (Some message) lasts) more brings = tt
+brings_told response told (sequels.Withdrawn None) more brings = tt
+brings_told response told (sequels.Withdrawn (Some message)) more brings = tt
+brings_told response told (sequels.Failed cause is_old) more brings = tt
 
 sent_by : {M : Type 0} (response next again : M → Type 0) (message : Option (Box M Global)) (has_memory : Bool)
     → has_memory ≡ is_some message

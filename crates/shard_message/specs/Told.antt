@@ -7,6 +7,7 @@ use Rattle.adapt_turn.specs.Refusals.{user_untouched}
 use Rattle.http_side.specs.Heads.{RequestParts}
 use Rattle.icap_client.specs.Carried.{carried_text}
 use Rattle.icap_client.specs.Turns.{is_reusable}
+use Rattle.icap_client.specs.declared.service.ServiceSide.{ServiceSide}
 use Rattle.http_relay.specs.declared.side.SourceSide.{SourceSide}
 use Rattle.http_relay.specs.Reading.{ComesAgain}
 use Rattle.proxy_rules.specs.Arrivals.{Arrival, HasCome}
@@ -28,6 +29,10 @@ has_answered point ends = not (user_untouched point (not ends.next.touched) (not
 abbrev pub is_old_in : Option RequestParts → Bool
 is_old_in None = false
 is_old_in (Some head) = head.minor == 0
+
+-- the fields of the head of a service's last answer
+abbrev pub fields_of : ServiceSide → FieldList
+fields_of side = side.replies.reader.remarks
 
 -- the lines of the fields with one of these names, of the last answer of the service; none without a service
 abbrev pub carried_by : {V W : Type 0} → (V → FieldList) → (names : List (List ℕ)) → Option (ServiceEnd V W) → List ℕ

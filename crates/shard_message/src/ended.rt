@@ -1,7 +1,7 @@
 //! How messages end.
 
-ghost use Rattle.std.specs.Prelude.{◌≡◌, ◌&&◌, IfSome, None};
-ghost use Rattle.shard_exchange.specs.EndedBy.{EndsBy, IfItself};
+ghost use Rattle.std.specs.Prelude.{◌≡◌, ◌&&◌, None, false, true};
+ghost use Rattle.shard_exchange.specs.EndedBy.{EndsBy, IfItself, is_good, served_as};
 ghost use Rattle.shard_message.specs.Ended.{IfOther, IsEndOf, is_cut, message_in};
 
 use crate::refusal_causes::refusal_cause_after;
@@ -47,6 +47,28 @@ impl<M> Sequel<M> {
     /// Whether it is the request again.
     pub(crate) fn is_again(&self) -> bool {
         matches!(self, Sequel::Withdrawn(Some(_)))
+    }
+
+    /// Whether the user's connection is to be cut where a part of an answer is out of it.
+    fn is_cut(&self) -> bool
+        ensures { result ≡ is_cut self.now }
+    {
+        match self {
+            Sequel::Failed { is_old, .. } => *is_old,
+            _ => false,
+        }
+    }
+}
+
+/// What is told of the service's connection with this end: that the service has said all, where the end is a good one, or its exchange was
+/// whole.
+fn served_by(end: End, is_reusable: bool) -> Option<bool>
+    ensures { result ≡ served_as is_reusable end }
+{
+    if matches!(end, End::Sent { .. } | End::Answered { .. }) || is_reusable {
+        Some(is_reusable)
+    } else {
+        None
     }
 }
 
@@ -94,22 +116,15 @@ pub(crate) fn report_of<M>(
     ensures itself { IfItself by (IsEndOf point sequel.now result.end) }
     ensures answered { result.has_answered ≡ has_answered }
     ensures cuts { result.cuts ≡ has_answered && is_cut sequel.now }
-    ensures served { IfSome result.served (λ usable. usable ≡ is_reusable) }
+    ensures whole { is_good result.end ≡ true → result.cuts ≡ false }
+    ensures served { result.served ≡ served_as is_reusable result.end }
 {
-    let (is_whole, is_old) = match sequel {
-        Sequel::Sent(_) | Sequel::Answered { .. } => (true, false),
-        Sequel::Withdrawn(_) => (false, false),
-        Sequel::Failed { is_old, .. } => (false, *is_old),
-    };
+    let end = end_of(by, point, sequel);
     Report {
         has_answered,
-        served: if is_whole || is_reusable {
-            Some(is_reusable)
-        } else {
-            None
-        },
-        end: end_of(by, point, sequel),
-        cuts: has_answered && is_old,
+        served: served_by(end, is_reusable),
+        end,
+        cuts: has_answered && sequel.is_cut(),
     }
 }
 

@@ -12,6 +12,7 @@ mod accounts;
 mod asking;
 mod carried;
 mod connection;
+mod connections;
 mod ended;
 mod heads;
 mod lasting;
@@ -38,9 +39,10 @@ mod withdrawal;
 pub use accounts::Accounted;
 pub use asking::{begin_anew, hear_on, is_fresh};
 pub use connection::{Connection, lay_wire};
+pub use connections::{Connections, Remains, take_connections};
 pub use heads::{fault_of, turn_on};
 pub use lasting::LastingOrigin;
-pub use moving::{Connections, Moves, Moving, OnItsWay, Remains, take_connections};
+pub use moving::{Moves, Moving, OnItsWay};
 pub use options::{begin_asking, hear_turn, is_reusable, keep};
 pub use outside::{
     Clocked, Dialed, Kinds, MessageEnd, Noting, Origins, Outside, Services, Settings, UserEnd,

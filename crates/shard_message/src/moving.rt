@@ -1,25 +1,25 @@
 //! Messages that move.
 
-ghost use Rattle.std.specs.Prelude.{◌≡◌, ◌&&◌, ℕ, is_some, None, Some, true, false, Bool, Option, Box as AnyBox, IfSome, IfOk, IfErr};
+ghost use Rattle.std.specs.Prelude.{◌≡◌, ◌&&◌, ℕ, is_some, map, string_bytes, None, Some, true, false, Bool, Option, Box as AnyBox, IfSome, IfOk, IfErr};
+ghost use Rattle.proxy_config.specs.declared.config.Config.{Config as AnyConfig};
 ghost use Rattle.std.specs.declared.alloc.Global.{Global as Heap};
 ghost use Rattle.exchange_core.specs.declared.event.Event.TheVariants.{Withdrawn};
 ghost use Rattle.exchange_core.specs.May.{may_come};
 ghost use Rattle.proxy_rules.specs.Arrivals.{Arrival};
 ghost use Rattle.shard_message.specs.Told.{has_answered, may_serve_again};
-ghost use Rattle.shard_exchange.specs.EndedBy.{EndsBy, IfItself};
+ghost use Rattle.shard_exchange.specs.EndedBy.{MayEnd, is_good, served_as};
 ghost use Rattle.shard_exchange.specs.declared.ends.End.{End as AnyEnd};
 ghost use Rattle.shard_message.specs.Begun.{Beginning, beginning};
 ghost use Rattle.shard_message.specs.Ended.{HasGiven, HasGivenSince, IsBarred, IsWithdrawable};
-ghost use Rattle.shard_message.specs.Lines.{HasLine, line_for};
 ghost use Rattle.shard_message.specs.Outset.{BeginsClean, IsLineAfter, Outset, SetsOut};
 ghost use Rattle.proxy_rules.specs.Since.{freed_wire, held_or};
 
 use crate::accounts::Accounted;
-use crate::connection::{Connection, lay_wire, take_wire};
+use crate::connection::Connection;
+use crate::connections::{Connections, Remains, request_remains, response_remains};
 use crate::outside::{Kinds, Outside};
 use crate::room::Room;
 use crate::settled::{Settled, settle_request, settle_response};
-use crate::slots::take_out;
 use crate::start::{Manner, set_out};
 use crate::taken::stake_of;
 use crate::turns::round_of;
@@ -75,6 +75,10 @@ pub trait OnItsWay {
     // with the bytes that were left over of this one; or the request again that was withdrawn
     ghost followed_by: { Self → AnyEnd → Option (AnyBox Arrival Heap) → Type 0 };
 
+    // where the response to a request comes after it, its service is told the lines of the fields that the configuration names, of the last
+    // answer of the request's service
+    ghost carries_on: { (config_is : AnyConfig → Type 0) → Self → AnyEnd → Option (AnyBox Arrival Heap) → Type 0 };
+
     // by whether a byte of an answer went to the user: its connection is cut, where the message failed and the user, of HTTP/1.0, may
     // take the end of the connection for the end of the answer
     ghost cut_is: { Self → (answered cut : Bool) → Type 0 };
@@ -89,8 +93,8 @@ impl<O: Kinds> OnItsWay for Moving<O> {
     ghost use Rattle.http_relay.specs.Giving.{gift_of};
     ghost use Rattle.http_relay.specs.Reading.{request_of};
     ghost use Rattle.proxy_rules.specs.Connections.{CarriesOn, Lasts};
-    ghost use Rattle.shard_message.specs.Ended.{EndsAs, IfAsked, IsNextBy, ended_as, fails};
-    ghost use Rattle.shard_message.specs.Told.{IsRequestAfter, IsRequestAgain, IsResponseTo, is_old_in};
+    ghost use Rattle.shard_message.specs.Ended.{EndsAs, IfAsked, IsNextBy, ended_as, fails, old_where_asked};
+    ghost use Rattle.shard_message.specs.Told.{IsRequestAfter, IsRequestAgain, IsResponseTo, carried_by, fields_of, is_old_in};
     ghost use Rattle.shard_message.specs.declared.moving.Moving.TheVariants.{Request, Response};
 
     ghost answered = { λ moving. elim moving [
@@ -121,9 +125,16 @@ impl<O: Kinds> OnItsWay for Moving<O> {
       | Response tx ↦ IsNextBy (λ _. ⊥) (λ next. IfAsked (λ user. IsRequestAfter user next) tx.value.tx.ends.maker.user) (λ _. ⊥) end next
     ] };
 
+    ghost carries_on = { λ config_is moving end next. elim moving [
+      | Request tx ↦ (config : AnyConfig) × config_is config × IsNextBy (λ response.
+          response.carried ≡ carried_by fields_of (map string_bytes config.carry.items) tx.value.tx.ends.service) (λ _. ⊤) (λ _. ⊤) end next
+      | Response tx ↦ ⊤
+    ] };
+
     ghost cut_is = { λ moving answered cut. elim moving [
       | Request tx ↦ cut ≡ answered && (fails (ended_as (shows tx.value.tx.hold.history).closed tx.value.tx.outcome) && is_old_in (request_of tx.value.tx.ends.source.head))
-      | Response tx ↦ ⊤
+      | Response tx ↦ cut ≡ answered && (fails (ended_as (shows tx.value.tx.hold.history).closed tx.value.tx.outcome)
+          && old_where_asked (λ user. is_old_in (request_of user.head)) tx.value.tx.ends.maker.user)
     ] };
 }
 
@@ -144,72 +155,6 @@ impl<O: Kinds> Moves<O> for Moving<O> {
       | Request tx ↦ (point_of b.message.user ≡ Reqmod) × BeginsWith b user service origin tx.value.tx.hold.history tx.value.tx.pace tx.value.tx.ends
       | Response tx ↦ (point_of b.message.user ≡ Respmod) × BeginsWith b origin service user tx.value.tx.hold.history tx.value.tx.pace tx.value.tx.ends
     ] };
-}
-
-/// The connections that a message moves over.
-#[derive(Drop)]
-pub struct Connections<O: Kinds> {
-    pub user: O::User,
-    /// None where the message isn't offered, or the connection was given up.
-    pub service: Option<O::Service>,
-    pub origin: O::Origin,
-}
-
-impl<O: Kinds> Connections<O> {
-    /// Puts them back once a message doesn't move any more: the service's connection beside its lease.
-    pub fn put_back(
-        self,
-        user: &mut Option<O::User>,
-        leased: &mut Option<Connection<O>>,
-        origin: &mut Option<O::Origin>,
-    )
-        ensures leased { is_some leased.new ≡ is_some leased.old }
-        ensures back { (user.new ≡ Some self.user) × (origin.new ≡ Some self.origin) }
-        ensures line { IfSome self.service (λ wire. HasLine (λ line. line.wire) leased.new wire) }
-    {
-        let Connections {
-            user: back,
-            service,
-            origin: opened,
-        } = self;
-        if let Some(wire) = service {
-            lay_wire(leased, wire);
-        }
-        *user = Some(back);
-        *origin = Some(opened);
-    }
-}
-
-/// The connections for a message: the service's one where it is offered. `None` where the user is gone.
-pub fn take_connections<O: Kinds>(
-    user: &mut Option<O::User>,
-    leased: &mut Option<Connection<O>>,
-    origin: &mut Option<O::Origin>,
-    is_offered: bool,
-) -> Option<Connections<O>>
-    requires { is_some origin.old ≡ true }
-    ensures leased { is_some leased.new ≡ is_some leased.old }
-    ensures taken { IfSome result (λ taken. (user.old ≡ Some taken.user) × (origin.old ≡ Some taken.origin) × (taken.service ≡ line_for (λ line. line.wire) is_offered leased.old)) }
-    ensures none { IfSome result (λ taken. (user.new ≡ None) × (origin.new ≡ None)) }
-    ensures left { result ≡ None → (user.old ≡ None) × (origin.new ≡ origin.old) × (leased.new ≡ leased.old) }
-{
-    let Some(user) = user.take() else {
-        return None;
-    };
-    let service = if is_offered { take_wire(leased) } else { None };
-    let origin = take_out(origin);
-    Some(Connections {
-        user,
-        service,
-        origin,
-    })
-}
-
-/// What a message stood over: its reservation, and its connections.
-#[must_use]
-pub struct Remains<O: Kinds> {
-    pub room: Room<O::Ledgers>,
-    pub connections: Connections<O>,
 }
 
 impl<O: Kinds> Moving<O> {
@@ -325,14 +270,15 @@ impl<O: Kinds> Moving<O> {
     ) -> Settled<O, Incoming>
     where
         O: Outside<P>,
-        ensures ends { EndsBy by result.report.end }
         ensures answered { result.report.has_answered ≡ ⟦<Self as OnItsWay>⟧.answered self }
-        ensures told { IfItself by (⟦<Self as OnItsWay>⟧.ends self (IsBarred (⟦<Self as OnItsWay>⟧.answered self)
-            (HasGivenSince O.Origin.past (⟦<Self as Accounted<O>>⟧.origin self) before.0) (may_come course.now Withdrawn)) result.report.end) }
+        ensures told { MayEnd by (⟦<Self as OnItsWay>⟧.ends self (IsBarred (⟦<Self as OnItsWay>⟧.answered self)
+            (HasGivenSince O.Origin.past (⟦<Self as Accounted<O>>⟧.origin self) before.0) (may_come course.now Withdrawn))) result.report.end }
         ensures cuts { result.report.has_answered ≡ false → result.report.cuts ≡ false }
         ensures cut { ⟦<Self as OnItsWay>⟧.cut_is self result.report.has_answered result.report.cuts }
-        ensures served { IfSome result.report.served (λ usable. usable ≡ ⟦<Self as OnItsWay>⟧.reusable self) }
+        ensures whole { is_good result.report.end ≡ true → result.report.cuts ≡ false }
+        ensures served { result.report.served ≡ served_as (⟦<Self as OnItsWay>⟧.reusable self) result.report.end }
         ensures followed { ⟦<Self as OnItsWay>⟧.followed_by self result.report.end result.message }
+        ensures carries { ⟦<Self as OnItsWay>⟧.carries_on (O.config_is out.old) self result.report.end result.message }
         ensures withdrawn { (has_memory : Bool) → result.report.end ≡ End.Withdrawn has_memory
             → IsWithdrawable by result.report.has_answered (HasGiven O.Origin.past (⟦<Self as Accounted<O>>⟧.origin self) before.0) (may_come course.now Withdrawn) }
         ensures clean { (s : Outset O.User O.Service O.Origin) → ⟦<Self as Accounted<O>>⟧.since s self
@@ -366,38 +312,4 @@ impl<O: Kinds> Moving<O> {
             Moving::Response(tx) => stake_of(rt, bank, Box::into_inner(tx).into_tx()),
         }
     }
-}
-
-/// What a request stood over.
-fn request_remains<O: Kinds>(room: Room<O::Ledgers>, way: Way<RequestWires<O>>) -> Remains<O>
-    ensures { (result.room ≡ room) × (result.connections ≡ record { user = way.source; service = way.service; origin = way.next }) }
-{
-    let Way {
-        source: user,
-        service,
-        next: origin,
-    } = way;
-    let connections = Connections {
-        user,
-        service,
-        origin,
-    };
-    Remains { room, connections }
-}
-
-/// What a response stood over.
-fn response_remains<O: Kinds>(room: Room<O::Ledgers>, way: Way<ResponseWires<O>>) -> Remains<O>
-    ensures { (result.room ≡ room) × (result.connections ≡ record { user = way.next; service = way.service; origin = way.source }) }
-{
-    let Way {
-        source: origin,
-        service,
-        next: user,
-    } = way;
-    let connections = Connections {
-        user,
-        service,
-        origin,
-    };
-    Remains { room, connections }
 }

@@ -64,19 +64,21 @@ pub fn make_room<B: Ledgers, R: Wait>(
     limits: Limits,
     planned: &mut Option<Box<Planned>>,
 ) -> Result<Room<B>, Reason>
-    ensures { IfErr result (λ reason. cause_of reason ≡ Scarce) }
+    ensures suits { IfErr result (λ reason. cause_of reason ≡ Scarce) }
+    ensures has { IfOk result (λ room. (room.planned ≡ planned.old) × (planned.new ≡ None)) }
+    ensures keeps { IfErr result (λ reason. planned.new ≡ planned.old) }
 {
-    let Some(planned) = planned.take() else {
+    let Some(message) = planned else {
         return Err(Reason::NoMemory);
     };
-    let bytes = claim(planned.offer.plan(), &limits);
+    let bytes = claim(message.offer.plan(), &limits);
     if bytes == 0 {
         return Err(Reason::Full);
     }
     match bank.open(rt, bytes) {
         Ok(stake) => Ok(Room {
             stake,
-            planned: Some(planned),
+            planned: planned.take(),
             limits,
         }),
         Err(fault) => Err(open_reason(fault)),

@@ -1,6 +1,6 @@
 //! What comes of a message whose transaction is over: an answer, a further request, or the same one again.
 
-ghost use Rattle.std.specs.Prelude.{◌≡◌, None, false, true, IfSome};
+ghost use Rattle.std.specs.Prelude.{◌≡◌, None, false, true, IfSome, IsSomeAnd, ⊤};
 ghost use Rattle.trace_core.specs.declared.history.Cause.TheVariants.{NextHop};
 ghost use Rattle.exchange_core.specs.declared.event.Event.TheVariants.{Withdrawn};
 ghost use Rattle.adapt_sides.specs.Turns.Gift.{nothing};
@@ -83,7 +83,7 @@ fn response_to<S: Asked>(
     carried: Option<Vec<u8>>,
 ) -> Option<Box<S::Message>>
     ensures response { IfSome result (λ boxed. S.is_response request boxed.value) }
-    ensures carries { IfSome result (λ boxed. IfSome carried (λ lines. S.told boxed.value ≡ lines.items)) }
+    ensures carries { IfSome result (λ boxed. IsSomeAnd carried (λ lines. S.told boxed.value ≡ lines.items)) }
 {
     match carried {
         Some(lines) => boxed(alloc, request.response(alloc, lines)),
@@ -91,8 +91,8 @@ fn response_to<S: Asked>(
     }
 }
 
-/// What comes of a request: the origin has it, unless an answer went back, and the response goes with these field lines. One that may be withdrawn is there again where its connection to
-/// the origin failed.
+/// What comes of a request: the origin has it, unless an answer went back, and the response goes with these field lines. One that may be
+/// withdrawn is there again where its connection to the origin failed.
 pub(crate) fn after_request<S: Asked, K: Hop>(
     alloc: Global,
     request: S,
@@ -104,6 +104,7 @@ pub(crate) fn after_request<S: Asked, K: Hop>(
 ) -> Sequel<S::Message>
     ensures sequel { IsSequel outcome (K.gift back.now ≡ nothing) (S.carries_on Outcome.Done closes request) false may_withdraw (S.is_old request) result }
     ensures brings { Brings (S.is_response request) (S.is_next request) (S.is_again request) result }
+    ensures carries { Brings (λ response. IsSomeAnd carried (λ lines. S.told response ≡ lines.items)) (λ _. ⊤) (λ _. ⊤) result }
 {
     match outcome {
         Outcome::Done if back.is_idle() => Sequel::Sent(response_to(alloc, request, carried)),

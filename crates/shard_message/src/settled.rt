@@ -1,19 +1,20 @@
 //! Transactions taken apart: what they stood over, and what comes of their messages.
 
-ghost use Rattle.std.specs.Prelude.{◌≡◌, ◌&&◌, ⊤, Bool as AnyBool, None, false, true, IfSome, not};
+ghost use Rattle.std.specs.Prelude.{◌≡◌, ◌&&◌, ⊤, Bool as AnyBool, None, false, true, map, not, string_bytes};
+ghost use Rattle.proxy_config.specs.declared.config.Config.{Config as AnyConfig};
 ghost use Rattle.exchange_core.specs.declared.event.Event.TheVariants.{Withdrawn};
 ghost use Rattle.exchange_core.specs.May.{may_come};
-ghost use Rattle.shard_exchange.specs.EndedBy.{EndsBy, IfItself};
+ghost use Rattle.shard_exchange.specs.EndedBy.{EndsBy, IfItself, is_good, served_as};
 ghost use Rattle.adapt_hold.specs.Holding.{shows};
 ghost use Rattle.adapt_sides.specs.Turns.Gift.{nothing};
 ghost use Rattle.adapt_turn.specs.ChosenHead.{wire_of};
 ghost use Rattle.adapt_turn.specs.Refusals.{user_untouched};
 ghost use Rattle.shard_message.specs.Ended.{EndsAs, HasGiven, HasGivenSince, IfAsked, IfOther, IsBarred, IsEndOf, IsNextBy, IsWithdrawable, ended_as, fails, is_by_itself, is_cut, message_in, old_where_asked};
-ghost use Rattle.shard_message.specs.Told.{reusable_by};
+ghost use Rattle.shard_message.specs.Told.{carried_by, reusable_by};
 
 use crate::carried::carried_by;
+use crate::connections::{Connections, Remains};
 use crate::ended::{Sequel, message_of, outcome_by, report_of};
-use crate::moving::{Connections, Remains};
 use crate::outside::{Kinds, MessageEnd, Outside};
 use crate::room::room_of;
 use crate::sequels::{after_request, after_response};
@@ -170,7 +171,8 @@ fn report_on<P, O: Outside<P>, V: Served, M>(
     ensures itself { IfItself by (IsEndOf account.seen.plan.point sequel.now result.end) }
     ensures answered { result.has_answered ≡ account.has_answered }
     ensures cuts { result.cuts ≡ account.has_answered && is_cut sequel.now }
-    ensures served { IfSome result.served (λ usable. usable ≡ reusable_by V.reusable service.now) }
+    ensures whole { is_good result.end ≡ true → result.cuts ≡ false }
+    ensures served { result.served ≡ served_as (reusable_by V.reusable service.now) result.end }
 {
     if !sequel.is_again() {
         give_account(at, out, user, service, account);
@@ -239,8 +241,11 @@ where
     ensures withdrawn { (has_memory : AnyBool) → result.report.end ≡ End.Withdrawn has_memory → IsWithdrawable by result.report.has_answered (HasGiven O.Origin.past tx.ends.next_wire before.0) (may_come course.now Withdrawn) }
     ensures cuts { result.report.has_answered ≡ false → result.report.cuts ≡ false }
     ensures cut { result.report.cuts ≡ result.report.has_answered && (fails (ended_as (shows tx.hold.history).closed tx.outcome) && E.Reader.is_old tx.ends.source) }
-    ensures served { IfSome result.report.served (λ usable. usable ≡ reusable_by E.Client.reusable tx.ends.service) }
+    ensures whole { is_good result.report.end ≡ true → result.report.cuts ≡ false }
+    ensures served { result.report.served ≡ served_as (reusable_by E.Client.reusable tx.ends.service) result.report.end }
     ensures next { IsNextBy (E.Reader.is_response tx.ends.source) (E.Reader.is_next tx.ends.source) (E.Reader.is_again tx.ends.source) result.report.end result.message }
+    ensures carries { (config : AnyConfig) × O.config_is out.old config × IsNextBy (λ response.
+        E.Reader.told response ≡ carried_by E.Client.fields (map string_bytes config.carry.items) tx.ends.service) (λ _. ⊤) (λ _. ⊤) result.report.end result.message }
     ensures wires { result.remains.connections ≡ record { user = tx.ends.source_wire; service = wire_of tx.ends.service; origin = tx.ends.next_wire } }
 {
     let has_answered = tx.has_answered();
@@ -311,8 +316,9 @@ where
         (E.Reader.lasts (ended_as (shows tx.hold.history).closed tx.outcome) tx.ends.source) ⊤ result.report.end) }
     ensures stands { (has_memory : AnyBool) → result.report.end ≡ End.Withdrawn has_memory → ⊥ }
     ensures cuts { result.report.has_answered ≡ false → result.report.cuts ≡ false }
-    ensures cut { (shows tx.hold.history).closed ≡ true → result.report.cuts ≡ result.report.has_answered && (fails tx.outcome && old_where_asked E.Reader.is_old (E.Maker.asked tx.ends.maker)) }
-    ensures served { IfSome result.report.served (λ usable. usable ≡ reusable_by E.Client.reusable tx.ends.service) }
+    ensures cut { result.report.cuts ≡ result.report.has_answered && (fails (ended_as (shows tx.hold.history).closed tx.outcome) && old_where_asked E.Reader.is_old (E.Maker.asked tx.ends.maker)) }
+    ensures whole { is_good result.report.end ≡ true → result.report.cuts ≡ false }
+    ensures served { result.report.served ≡ served_as (reusable_by E.Client.reusable tx.ends.service) result.report.end }
     ensures next { IsNextBy (λ _. ⊥) (λ next. IfAsked (λ user. E.Reader.is_next user next) (E.Maker.asked tx.ends.maker)) (λ _. ⊥) result.report.end result.message }
     ensures wires { result.remains.connections ≡ record { user = tx.ends.next_wire; service = wire_of tx.ends.service; origin = tx.ends.source_wire } }
 {

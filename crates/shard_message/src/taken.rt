@@ -23,7 +23,7 @@ pub(crate) fn parts_of<B: Ledgers, E: EndTypes, R: Wait>(
     ensures ends { (shows tx.hold.history).closed ≡ true → result.ends ≡ tx.ends }
     ensures outcome { result.outcome ≡ ended_as (shows tx.hold.history).closed tx.outcome }
     ensures plan { result.seen.plan ≡ tx.hold.history.plan }
-    ensures kept { (result.ends.source ≡ tx.ends.source) × (result.ends.source_wire ≡ tx.ends.source_wire) × (result.ends.next_wire ≡ tx.ends.next_wire) }
+    ensures kept { (result.ends.source ≡ tx.ends.source) × (result.ends.source_wire ≡ tx.ends.source_wire) × (result.ends.next_wire ≡ tx.ends.next_wire) × (result.ends.maker ≡ tx.ends.maker) }
 {
     let mut tx = tx;
     tx.halt(rt, bank);

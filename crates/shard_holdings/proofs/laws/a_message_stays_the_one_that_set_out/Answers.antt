@@ -4,11 +4,11 @@ use Rattle.shard_holdings.proofs.laws.a_message_stays_the_one_that_set_out.Goals
 
 pub returns-clause-began : goal.returns-clause-began
 returns-clause-began g c = λ set s sets.
-    record { tx = set.tx; moves = set.moves; line = s.line; given = s.given; stands = set.begins_so.1 s sets }
+    record { tx = set.1.tx; moves = set.1.moves; line = s.line; given = s.given; stands = set.1.begins_so.1 s sets }
 
 pub returns-clause-stays : goal.returns-clause-stays
 returns-clause-stays g c = λ n steps. carried_by_steps _ (λ held. held.tx) _ (λ one next step. elim step.2 [
   | inl same ↦ carried_as_it_is _ one.tx next.tx (ap (λ held. held.tx) same)
-  | inr (inl stays) ↦ carried_as_it_is _ one.tx next.tx stays
-  | inr (inr turned) ↦ carried_by_round _ _ _ _ _ one.tx turned.0.tx next.tx turned.3.7 turned.4.1
+  | inr (inl stays) ↦ carried_as_it_is _ one.tx next.tx stays.0
+  | inr (inr turned) ↦ carried_by_round _ _ _ _ _ one.tx turned.0.tx next.tx turned.3.7 turned.4.1.1
 ]) n c.args.begun.now c.args.now.now steps

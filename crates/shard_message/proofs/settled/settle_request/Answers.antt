@@ -1,7 +1,8 @@
 use Rattle.std.proofs.Common.{◌≡◌, false, true, ap}
+use Rattle.std.specs.Bool.{⊤}
 use Rattle.adapt_sides.specs.Turns.Gift.{nothing}
 use Rattle.adapt_turn.specs.declared.turn.Outcome.TheVariants.{Done}
-use Rattle.shard_message.proofs.NextLemmas.{ends_told, next_told, withdrawn_told}
+use Rattle.shard_message.proofs.NextLemmas.{brings_told, ends_told, next_told, told_lines, withdrawn_told}
 use Rattle.shard_message.proofs.settled.settle_request.Goals as goal
 
 pub returns-clause-told : goal.returns-clause-told
@@ -36,3 +37,17 @@ returns-clause-next g c =
     (rw c.parts_of-stake.ensures.kept.0 at c.after_request-sequel.ensures.brings) c.report_on-report.ensures.ends
     c.report_on-report.ensures.itself
     (ap (λ r. r.end) c.settled_of.ensures.report) c.settled_of.ensures.message c.settled_of.ensures.none
+
+-- the response goes on with the lines of the fields that the configuration names
+pub returns-clause-carries : goal.returns-clause-carries
+returns-clause-carries g c =
+    let config = c.config.result.now in
+    let lines = rw c.deref.ensures.value at (rw c.parts_of-stake.ensures.service at c.carried_by-carried.ensures) in (
+      config,
+      c.config.ensures,
+      next_told _ (λ _. ⊤) (λ _. ⊤) _ c.after_request-sequel.result c.args.by c.report_on-report.result.end _ _
+          (brings_told _ _ c.after_request-sequel.result
+          (λ message. told_lines (λ text. text.items) (g.E.Reader.Asked.told message) _ c.carried_by-carried.result lines)
+          c.after_request-sequel.ensures.carries) c.report_on-report.ensures.ends c.report_on-report.ensures.itself
+          (ap (λ r. r.end) c.settled_of.ensures.report) c.settled_of.ensures.message c.settled_of.ensures.none,
+    )

@@ -6,5 +6,6 @@ returns-clause-read g c = record {
   turned = c.read_request-turn.new.self;
   turn = c.read_request-turn.result;
   brought = c.read_request-turn.ensures.reads;
+  kept = c.take_request_turn.ensures.bears;
   leads = c.take_request_turn.ensures.leads;
 }

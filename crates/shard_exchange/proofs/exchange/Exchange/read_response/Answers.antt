@@ -6,5 +6,6 @@ returns-clause-read g c = record {
   turned = c.read_response-turn.new.self;
   turn = c.read_response-turn.result;
   brought = c.read_response-turn.ensures.hears;
+  kept = c.take_turn.ensures.kept;
   leads = c.take_turn.ensures.leads;
 }

@@ -1,49 +1,73 @@
-use Rattle.std.proofs.Common.{◌≡◌, ◌∙◌, Bool, sym, subst}
+use Rattle.std.proofs.Common.{◌≡◌, ◌∙◌, Bool, true, false, Option, None, Some, ◌||◌, if◌then◌else◌, sym, subst, refl, ap}
+use Rattle.std.proofs.Math.Bool.{or-true}
+use Rattle.exchange_core.specs.declared.connection.Connection.{Connection}
+use Rattle.exchange_core.specs.declared.connection.Connection.TheVariants.{Absent, Ready, InUse, Spent}
 use Rattle.exchange_core.specs.declared.course.Course.{Course}
-use Rattle.exchange_core.specs.declared.event.RefusalCause.{RefusalCause}
-use Rattle.exchange_core.specs.declared.event.RefusalCause.TheVariants as causes
-use Rattle.exchange_core.specs.Dues.{status_of}
-use Rattle.shard_exchange.specs.EndedBy.{EndsBy, IfItself}
 use Rattle.shard_exchange.specs.declared.ends.End.{End}
 use Rattle.shard_exchange.specs.declared.ends.End.TheVariants as ends
-use Rattle.shard_exchange.specs.declared.ends.EndedBy.{EndedBy}
-use Rattle.shard_exchange.specs.declared.ends.EndedBy.TheVariants as ended
-use Rattle.shard_exchange.specs.Ends.{IsOwed, IsOwedBy, LastsAs}
+use Rattle.shard_exchange.specs.EndedBy.{is_good, served_as}
+use Rattle.shard_exchange.specs.Ends.{IsServedBy, IsToldServed, Succeeds}
 use Rattle.shard_exchange.proofs.exchange.Exchange.settle.Goals as goal
 
--- the deadline and the stop each have a status
-owed_by : (by : EndedBy) (end : End) (old new : Course) → EndsBy by end
-    → ((why : RefusalCause) → end ≡ ends.Failed why → IsOwed old new (status_of why))
-    → (end ≡ ends.Stopped → IsOwed old new 503) → IsOwedBy by old new
-owed_by ended.Itself end old new e failed stopped = tt
-owed_by ended.Gate end old new e failed stopped = tt
-owed_by ended.Deadline end old new e failed stopped = failed causes.Deadline e
-owed_by ended.Stop end old new e failed stopped = stopped e
-owed_by ended.User end old new e failed stopped = tt
+-- what the message stood over has come back
+pub invariant_of-self : goal.invariant_of-self
+invariant_of-self g c =
+    let old = c.args.self.now in
+    let back = c.settle-report.ensures.back in
+    let leaves = c.tell.ensures.leaves in
+    let room = g.H.InHand.hand old.holdings in
+    let moved = old.moves ∙ c.requires.moves in
+    record {
+      leased = back.0 ∙ (old.leased ∙ sym leaves.0.0);
+      moves = back.3 ∙ sym leaves.1;
+      staked = ap (λ (r : Bool). r || (g.H.InHand.hand c.settle-report.new.self).moving) back.1
+          ∙ sym (leaves.0.1 ∙ (sym old.staked ∙ (ap (λ (m : Bool). room.room || m) moved ∙ or-true room.room)));
+      opened = ap (λ (r : Bool). r || (g.H.InHand.hand c.settle-report.new.self).moving) back.2
+          ∙ sym (leaves.0.2 ∙ (sym old.opened ∙ (ap (λ (m : Bool). room.origin || m) moved ∙ or-true room.origin)));
+    }
 
-pub returns-clause-owed : goal.returns-clause-owed
-returns-clause-owed g c = λ none.
+-- a connection of which nothing is told is what it was
+untold : (usable : Bool) (old new : Connection) → new ≡ old → IsServedBy usable old new
+untold usable Absent new same = same
+untold usable (Ready reused) new same = same
+untold usable (InUse reused) new same = subst (λ (c : Connection). IsServedBy usable (InUse reused) c) (sym same) tt
+untold usable Spent new same = same
+
+served_where : (told usable : Bool) (old new : Connection) → IsToldServed (if told then Some usable else None) old new
+    → IsServedBy usable old new
+served_where true usable old new h = h
+served_where false usable old new h = untold usable old new h
+
+pub returns-clause-served : goal.returns-clause-served
+returns-clause-served g c =
     let report = c.settle-report in
-    let unanswered = report.ensures.answered ∙ none in
-    owed_by c.args.by report.result.end c.args.self.now.course c.tell.new.course report.ensures.ends
-    (λ why e. c.tell.ensures.owed why e unanswered (report.ensures.cuts unanswered)) (λ e. c.tell.ensures.stopped e unanswered)
+    let old = c.args.self.now in
+    let usable = g.H.Holder.reusable old.holdings in
+    served_where (is_good report.result.end || usable) usable old.course.connection c.tell.new.course.connection
+    (subst (λ (s : Option Bool). IsToldServed s old.course.connection c.tell.new.course.connection) report.ensures.served c.tell.ensures.served)
 
--- where nothing else ended it, the message is over with the end that was told
-itself : (by : EndedBy) (told : Type 0) (ended_so : Type 0) → IfItself by told → (told → ended_so) → IfItself by ended_so
-itself ended.Itself told ended_so t f = f t
-itself ended.Gate told ended_so t f = f t
-itself ended.Deadline told ended_so t f = tt
-itself ended.Stop told ended_so t f = tt
-itself ended.User told ended_so t f = tt
+-- a good end cuts no connection, so it is told as one
+succeeding : (told answered : Bool) (served : Option Bool) (usable : Bool) (old new : Course) (cuts : Bool) (end : End) → told ≡ answered
+    → served ≡ served_as usable end → (is_good end ≡ true → cuts ≡ false) → (cuts ≡ false → Succeeds told served old new end)
+    → Succeeds answered (served_as usable end) old new end
+succeeding told answered served usable old new cuts (ends.Sent has_memory) some is whole tells =
+    subst (λ (a : Bool). Succeeds a (Some usable) old new (ends.Sent has_memory)) some
+    (subst (λ (s : Option Bool). Succeeds told s old new (ends.Sent has_memory)) is (tells (whole refl)))
+succeeding told answered served usable old new cuts (ends.Answered keeps lasts) some is whole tells =
+    subst (λ (a : Bool). Succeeds a (Some usable) old new (ends.Answered keeps lasts)) some
+    (subst (λ (s : Option Bool). Succeeds told s old new (ends.Answered keeps lasts)) is (tells (whole refl)))
+succeeding told answered served usable old new cuts (ends.Withdrawn has_memory) some is whole tells = λ begun. tt
+succeeding told answered served usable old new cuts (ends.Failed why) some is whole tells = λ begun. tt
+succeeding told answered served usable old new cuts ends.Stopped some is whole tells = λ begun. tt
+succeeding told answered served usable old new cuts ends.Lost some is whole tells = λ begun. tt
 
-pub returns-clause-told : goal.returns-clause-told
-returns-clause-told g c =
+pub returns-clause-ended : goal.returns-clause-ended
+returns-clause-ended g c =
     let report = c.settle-report in
     let tells = c.tell.ensures in
-    itself c.args.by _ _ report.ensures.told
-    (λ is_so. record {
+    record {
       end = report.result.end;
-      is_so = is_so;
+      is_so = report.ensures.told;
       next = report.ensures.followed;
       over = tells.leaves.1;
       alone = λ some. tells.alone (report.ensures.answered ∙ some);
@@ -51,8 +75,9 @@ returns-clause-told g c =
       lost = tells.lost;
       keeps = tells.keeps;
       lasts = tells.lasts;
-      lasting = subst (λ (some : Bool). LastsAs some c.args.self.now.course c.tell.new.course report.result.end) report.ensures.answered
-          tells.lasting;
+      succeeds = succeeding report.result.has_answered (g.H.Holder.answered c.args.self.now.holdings) report.result.served
+          (g.H.Holder.reusable c.args.self.now.holdings) c.args.self.now.course c.tell.new.course report.result.cuts report.result.end
+          report.ensures.answered report.ensures.served report.ensures.whole tells.succeeds;
       awaits = tells.awaits;
       withdrawn = (
         tells.withdrawn,
@@ -60,7 +85,7 @@ returns-clause-told g c =
             tells.again e again.2 (report.ensures.cuts again.2) again.0,
       );
       wanting = λ e none. let unanswered = report.ensures.answered ∙ none in tells.wanting e unanswered (report.ensures.cuts unanswered);
-    })
+    }
 
 -- a request that was withdrawn is here to be sent again, and nothing of an answer went out
 pub returns-clause-withdrawn : goal.returns-clause-withdrawn

@@ -3,3 +3,12 @@ use Rattle.shard_exchange.proofs.exchange.Exchange.stop_moving.Goals as goal
 
 pub returns-clause-goes : goal.returns-clause-goes
 returns-clause-goes g c = goes_on _ _ _ c.settle.ensures.goes c.leave_origin.ensures.goes
+
+pub returns-clause-ended : goal.returns-clause-ended
+returns-clause-ended g c = (
+  c.settle.new.self.course,
+  c.settle.new.self.holdings,
+  c.leave_origin.ensures.frees.0,
+  c.leave_origin.ensures.line,
+  c.settle.ensures.ended,
+)

@@ -10,10 +10,10 @@ use Rattle.exchange_core.specs.Course.{after, renewed}
 use Rattle.exchange_core.specs.May.{may_come, is_at_gate, is_moving, is_refusing, is_withdrawing}
 use Rattle.exchange_core.proofs.Stepping.{goes_on}
 use Rattle.shard_exchange.specs.declared.answers.Round.{Round}
-use Rattle.shard_exchange.specs.declared.answers.Round.TheVariants.{Broken}
 use Rattle.shard_exchange.specs.declared.ends.End.{End}
-use Rattle.shard_exchange.specs.Ends.{moves, IsEnded, IsServedBy}
-use Rattle.shard_exchange.specs.Outcomes.{has_answer, IsTurned}
+use Rattle.shard_exchange.specs.declared.answers.Round.TheVariants as came
+use Rattle.shard_exchange.specs.Ends.{moves, IsServedBy}
+use Rattle.shard_exchange.specs.Outcomes.{has_answer, IsOver, IsOverdue, IsTurned}
 use Rattle.shard_exchange.proofs.exchange.Exchange.turn.Goals as goal
 
 pub returns-in-Over-clause-goes : goal.returns-in-Over-clause-goes
@@ -111,15 +111,15 @@ returns-else-not-note_round-clause-turned g c =
       served = c.note_round-in_default.ensures.served;
     }))
 
--- what a message came to that is over as its transaction ended: the course is as before where it is told
+-- what a message came to that is over: the course is as before where it is told
 ended_there : {H O : Type 0} (rounds : H → H → O → Round → Type 0) (frees : H → Option Bool → Type 0) (answered reusable : H → Bool)
     (ends : H → Bool → End → Type 0) (follows : H → End → Type 0) (repeats : H → Type 0) (late : O → Bool) (held turned : H) (later : O)
-    (round : Round)
-    (old mid new : Course)
+    (round : Round) (old mid new : Course)
     → mid ≡ old → rounds held turned later round → moves new ≡ false → IsServedBy (reusable turned) mid.connection new.connection
     → (answered turned ≡ true → is_refusing new.phase ≡ false)
     → (is_withdrawing new.phase ≡ true → repeats turned × (answered turned ≡ false) × (may_come mid Withdrawn ≡ true))
-    → IsEnded (ends turned (may_come mid Withdrawn)) (follows turned) (answered turned) mid new
+    → IsOver (ends turned (may_come mid Withdrawn)) (follows turned) (answered turned) (reusable turned) round mid new
+    ⊎ IsOverdue late (follows turned) (answered turned) (reusable turned) round mid new
     → IsTurned rounds frees answered reusable ends follows repeats late held old new
 ended_there rounds frees answered reusable ends follows repeats late held turned later round old mid new same r over s a w e =
     subst (λ (c : Course). IsTurned rounds frees answered reusable ends follows repeats late held c new) same
@@ -133,12 +133,28 @@ ended_there rounds frees answered reusable ends follows repeats late held turned
       alone = a;
       served = s;
       withdrawn = w;
-      over = λ m. inl e;
+      over = λ m. e;
     })
 
+-- it ended as its transaction did
 pub returns-in-Over-clause-turned : goal.returns-in-Over-clause-turned
 returns-in-Over-clause-turned g c =
     let told = c.settle.ensures in
     ended_there _ _ _ _ _ _ _ _ _ c.round.new.self.holdings c.round.new.out c.round.result _ c.round.new.self.course _
-    (c.round.ensures.still (subst (λ (r : Round). r ≡ Broken → ⊥) (sym c.in-Over.is) (λ e. cc)))
-    c.round.ensures.rounds told.over told.served told.alone told.withdrawn told.told
+    (c.round.ensures.still (subst (λ (r : Round). r ≡ came.Broken → ⊥) (sym c.in-Over.is) (λ e. cc)))
+    c.round.ensures.rounds told.over told.served told.ended.alone told.withdrawn
+    (inl (record { last = c.in-Over.is; ended = told.ended }))
+
+-- or the deadline passed
+pub returns-in-Waiting-clause-turned : goal.returns-in-Waiting-clause-turned
+returns-in-Waiting-clause-turned g c =
+    let told = c.settle-in-Waiting.ensures in
+    ended_there _ _ _ _ _ _ _ _ _ c.round.new.self.holdings c.round.new.out c.round.result _ c.round.new.self.course _
+    (c.round.ensures.still (subst (λ (r : Round). r ≡ came.Broken → ⊥) (sym c.in-Waiting.is) (λ e. cc)))
+    c.round.ensures.rounds told.over told.served told.ended.alone told.withdrawn
+    (inr (record {
+      out = c.round.new.out;
+      is_late = sym c.is_late.ensures ∙ c.if-is_late.true;
+      still = c.in-Waiting.is;
+      ended = told.ended;
+    }))

@@ -22,9 +22,12 @@ waits : (c later : Course) (status : ℕ) → due_of c ≡ Refuse status → (la
 waits c later status due (inl same) = ap (λ (d : Course). is_refusing d.phase || is_gone d.phase) same ∙ refuses c status due
 waits c later status due (inr late) = ap (λ (d : Course). is_refusing d.phase || is_gone d.phase) late ∙ lets_go c status due
 
-pub returns-in-Nothing-clause-says : goal.returns-in-Nothing-clause-says
-returns-in-Nothing-clause-says g c = record {
-  said = Nothing;
-  text = rw c.wait.ensures.held c.in-Nothing.ensures.says;
-  leads = waits c.args.self.now.course _ c.args.status c.requires.due c.wait.ensures.leads;
+pub returns-in-Nothing-clause-refused : goal.returns-in-Nothing-clause-refused
+returns-in-Nothing-clause-refused g c = record {
+  lays = rw c.wait.ensures.held c.in-Nothing.ensures.lays;
+  says = record {
+    said = Nothing;
+    text = rw c.wait.ensures.held c.in-Nothing.ensures.says;
+    leads = waits c.args.self.now.course _ c.args.status c.requires.due c.wait.ensures.leads;
+  };
 }

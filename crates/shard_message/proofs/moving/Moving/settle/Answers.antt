@@ -28,4 +28,10 @@ returns-in-Response-clause-clean g c = λ s since.
 pub returns-in-Request-clause-told : goal.returns-in-Request-clause-told
 returns-in-Request-clause-told g c =
     let told = rw c.settle_request.ensures.answered at c.settle_request.ensures.told in
-    rw c.in-Request.is (rw c.in-Request.is (rw c.into_inner.ensures at (rw c.into_tx.ensures at told)))
+    (c.settle_request.ensures.ends, rw c.in-Request.is (rw c.in-Request.is (rw c.into_inner.ensures at (rw c.into_tx.ensures at told))))
+
+-- so is what goes on with its response
+pub returns-in-Request-clause-carries : goal.returns-in-Request-clause-carries
+returns-in-Request-clause-carries g c =
+    let carries = c.settle_request.ensures.carries in
+    rw c.in-Request.is (carries.0, carries.1, rw c.into_inner.ensures at (rw c.into_tx.ensures at carries.2))
