@@ -64,7 +64,7 @@ impl ReadyList {
         self.high
     }
 
-    /// The key behind the last one that is marked.
+    /// The key after the last one that is marked.
     fn end(&self) -> usize
         ensures above { (key : ℕ) → is_marked self.now key ≡ true → key < result }
         ensures within { result ≤ self.now.high }

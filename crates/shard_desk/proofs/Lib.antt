@@ -3,3 +3,4 @@ mod Asking
 mod Keeping
 mod Paging
 mod Sifting
+mod Serving

@@ -51,6 +51,19 @@ abbrev pub moved_at : (now : ℕ) → Option Seat → Option Seat
 moved_at now None = None
 moved_at now (Some seat) = Some (record seat { moved = now })
 
+-- the same seat, whose message waits for a connection since this moment, unless it waited before; or whose message hasn't waited
+abbrev pub since_or : (now : ℕ) → Option ℕ → Option ℕ
+since_or now None = Some now
+since_or now (Some since) = Some since
+
+abbrev pub waiting_from : (now : ℕ) → Option Seat → Option Seat
+waiting_from now None = None
+waiting_from now (Some seat) = Some (record seat { waits = since_or now seat.waits })
+
+abbrev pub waiting_not : Option Seat → Option Seat
+waiting_not None = None
+waiting_not (Some seat) = Some (record seat { waits = None })
+
 -- the turn of the thread's loop, where its poll reported all that there was to report; else 0
 abbrev pub heard_of : Seats → ℕ
 heard_of seats = seats.heard

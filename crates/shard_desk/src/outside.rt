@@ -3,6 +3,7 @@
 ghost use Rattle.std.specs.Prelude.{◌≡◌, ◌||◌};
 ghost use Rattle.proxy_config.specs.declared.config.Config.{Config as AnyConfig};
 ghost use Rattle.shard_desk.specs.Seats.{has_waited, is_late, is_overdue};
+ghost use Rattle.shard_desk.specs.declared.outside.TheConstants.{GRACE};
 
 mod noting;
 mod origins;
@@ -63,6 +64,8 @@ impl<S: Shares> Settings for Desk<S> {
 
 impl<'r, S: Shares, R: Wait + Dial + Clock, G: Gate> Clocked<Spot<'r, R, G>> for Desk<S> {
     ghost is_late = { λ desk at. is_late desk.seats at.key at.now desk.deadline || is_overdue desk.seats at.key at.now desk.terms };
+
+    ghost has_rested = { λ desk at. is_late desk.seats at.key at.now GRACE };
 
     ghost has_waited = { λ desk at waited. (config : AnyConfig) × S.config_is desk.shared config × (waited ≡ has_waited desk.seats at.key at.now config.wait) };
 

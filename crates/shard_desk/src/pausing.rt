@@ -1,7 +1,8 @@
 //! What the breakers of services are told of messages that end, also of those that end at a question for options. That a service says its
 //! options is told nobody: one may do so, and leave each message unanswered.
 
-ghost use Rattle.std.specs.Prelude.{◌≡◌};
+ghost use Rattle.std.specs.Prelude.{◌≡◌, ◌||◌, false, true};
+ghost use Rattle.trace_core.specs.History.{is_plain};
 ghost use Rattle.shard_desk.specs.Pausing.{end_for, refusal_end};
 
 use crate::connections::waiter_of;
@@ -40,7 +41,10 @@ pub(crate) fn refusal_end(reason: Reason, is_leased: bool) -> ServiceEnd
 }
 
 /// What a message whose transaction is over came to at its service, whatever became of it elsewhere.
-pub(crate) fn message_end(end: &MessageEnd<'_>) -> ServiceEnd {
+pub(crate) fn message_end(end: &MessageEnd<'_>) -> ServiceEnd
+    ensures plain { is_plain end.now.seen.plan.kind ≡ true → result ≡ ServiceEnd.Untold }
+    ensures answered { is_plain end.now.seen.plan.kind ≡ false → (end.now.seen.no_mod || end.now.seen.adapted_over) ≡ true → result ≡ ServiceEnd.Answered }
+{
     let seen = &end.seen;
     if seen.plan.kind.is_plain() {
         return ServiceEnd::Untold;

@@ -9,13 +9,15 @@ use Rattle.exchange_core.specs.declared.due.Due.TheVariants.{ReadRequest, Plan, 
 use Rattle.exchange_core.specs.declared.due.Due.TheVariants.{AskGate, Turn, ReadResponse, GiveBack, Release, HangUp, Refuse, TryRefusal}
 use Rattle.exchange_core.specs.declared.event.Event.TheVariants.{HeadBegun, RequestRead, ResponseRead, Planned, Stale, Queued, Lent}
 use Rattle.exchange_core.specs.declared.event.Event.TheVariants.{Asked, Learned, Reserved, HalfTold, Told, LetPass, Renewed}
-use Rattle.exchange_core.specs.declared.event.Event.TheVariants.{Heard, Withdrawn, Failed}
+use Rattle.exchange_core.specs.declared.event.Event.TheVariants.{Heard, Withdrawn, Failed, Dialed, Started}
 use Rattle.exchange_core.specs.declared.event.Event.TheVariants.{UserLost, Dropped, Late, Returned, Released, HungUp}
 use Rattle.exchange_core.specs.declared.event.RefusalCause.TheVariants.{Scarce, Deadline}
 use Rattle.exchange_core.specs.declared.phase.Phase.{Phase}
-use Rattle.exchange_core.specs.Course.{after, point_of, is_offered, is_ready}
-use Rattle.exchange_core.specs.May.{dialing_of, may_come, may_keep_origin, may_take_kept, is_request, is_idle, is_at_gate, is_withdrawing}
+use Rattle.exchange_core.specs.declared.phase.Phase.TheVariants.{InQueue}
+use Rattle.exchange_core.specs.Course.{after, point_of, is_leased, is_offered, is_ready}
+use Rattle.exchange_core.specs.May.{dialing_of, may_come, may_keep_origin, may_take_kept, is_request, is_idle, is_in_queue, is_withdrawing}
 use Rattle.exchange_core.specs.May.{is_refusing, is_closing, is_gone}
+use Rattle.exchange_core.specs.Dues.{fails_of}
 use Rattle.adapt_sides.specs.declared.fault.RelayFault.{RelayFault}
 use Rattle.http_side.specs.declared.fault.HttpFault.{HttpFault}
 use Rattle.icap_head.specs.Heads.{Response}
@@ -42,6 +44,10 @@ use Rattle.shard_exchange.specs.declared.ends.EndedBy.TheVariants as ended
 use Rattle.shard_exchange.specs.EndedBy.{MayEnd}
 use Rattle.shard_exchange.specs.Ends.{moves, IsEnded, IsServedBy}
 use Rattle.shard_exchange.specs.Saying.{LaysPage, SaysOn, interim_text, refusal_by}
+
+-- the message fails of what may fail where this is due
+abbrev pub FailsAt : Due → (old new : Course) → Type 0
+FailsAt due old new = (why : RefusalCause) × (fails_of due why ≡ true) × (new ≡ after old (Failed why))
 
 -- What a message's plan leads to: a user that was told to send its body isn't told again, nor one whose response comes; and a service is
 -- asked for its options once.
@@ -107,8 +113,8 @@ pub record Refuses (pages : List ℕ → Type 0) (user later : Past → Type 0) 
   pub says : SaysRefusal user later held holds status phase
 
 -- what a message may need is reserved; or that is wanting, and the message fails of just that
-abbrev pub IsReserved : (old new : Course) → Type 0
-IsReserved old new = (new ≡ after old Reserved) ⊎ (new ≡ after old (Failed Scarce))
+abbrev pub IsReserved : (reserves : Type 0) → (old new : Course) → Type 0
+IsReserved reserves old new = (reserves × (new ≡ after old Reserved)) ⊎ (new ≡ after old (Failed Scarce))
 
 -- no connection was leased for this fault: the message goes on as where others go first, or it fails of just that
 abbrev pub UnlentLeads : (busy : Type 0) → LendFault → (old new : Course) → Type 0
@@ -139,6 +145,11 @@ abbrev pub WaitsOn : (waited : Bool → Type 0) → (late : Bool) → (old new :
 WaitsOn waited late old new = (long : Bool) × waited long × (new ≡ (if long then after old (Failed Scarce) else
     (if late then after old (Failed Deadline) else old)))
 
+-- a message that waits in its queue no more, and has no connection, has left it
+abbrev pub LeavesQueue : {O : Type 0} → (leaves : O → Point → Type 0) → (old new : Course) → Type 0
+LeavesQueue {O} leaves old new = (point : Point) → old.phase ≡ InQueue point → is_in_queue new.phase ≡ false
+    → is_leased new.connection ≡ false → (later : O) × leaves later point
+
 -- it is released
 abbrev pub IsReleased : (old new : Course) → Type 0
 IsReleased old new = new ≡ after old Released
@@ -148,30 +159,32 @@ abbrev pub IsAwaited : {O : Type 0} → (leases : Point → (reused : Bool) → 
     → (waited : O → Bool → Type 0) → (late : O → Bool) → (old new : Course) → Type 0
 IsAwaited {O} leases fails waited late old new = IsLentOr leases fails (λ later. WaitsOn (waited later) (late later) old new) old new
 
--- the service of the message's own point is asked for its options, or the message fails
+-- the service of the message's own point is asked for its options, or the message fails of that
 abbrev pub IsAsked : (asks : Point → Type 0) → (old new : Course) → Type 0
-IsAsked asks old new = (asks (point_of old.phase) × (new ≡ after old Asked)) ⊎ ((why : RefusalCause) × (new ≡ after old (Failed why)))
+IsAsked asks old new = (asks (point_of old.phase) × (new ≡ after old Asked)) ⊎ FailsAt Ask old new
 
--- an origin's connection that is dialed leads where the message's plan says, and is known as the kept or the fresh one that it is: a kept
--- one only where the request may be sent again, and wasn't withdrawn
+-- An origin's connection that is dialed leads where the message's plan says, and is known as the kept or the fresh one that it is: a kept
+-- one only where the request may be sent again, and wasn't withdrawn. Or the message fails of that.
 abbrev pub IsDialed : (dials : Dialing → Bool → Type 0) → (old new : Course) → Type 0
-IsDialed dials old new = old.origin ≡ false → new.origin ≡ true
-    → dials (dialing_of old) new.kept × (new.kept ≡ true → may_take_kept old ≡ true)
+IsDialed dials old new = ((kept : Bool) × dials (dialing_of old) kept × (kept ≡ true → may_take_kept old ≡ true)
+    × (new ≡ after old (Dialed kept))) ⊎ FailsAt Dial old new
 
--- a message that begins to move began with what was there
-abbrev pub IsStarted : (starts : Type 0) → (new : Course) → Type 0
-IsStarted starts new = is_at_gate new.phase ≡ true → starts
+-- A message begins to move with what is there. Or it can't begin, or no memory is found for it: then the user's connection is held as
+-- before; or it has no user.
+abbrev pub IsStarted : (starts keeps : Type 0) → (user : Past → Type 0) → (old new : Course) → Type 0
+IsStarted starts keeps user old new = (starts × (new ≡ after old Started)) ⊎ (keeps × (new ≡ after old (Failed Scarce)))
+    ⊎ (((p : Past) → user p → ⊥) × (new ≡ after old UserLost))
 
 -- a byte of the head of a request came
 abbrev pub begun_of : Course → Course
 begun_of c = if is_idle c.phase then after c HeadBegun else c
 
 -- Where it leads that nothing comes of a request's head: the user is waited for, until the deadline. It is let go where no byte of the head
--- came, and the proxy drains.
-abbrev pub SilenceLeads : (begun late : Bool) → (old new : Course) → Type 0
-SilenceLeads begun late old new = (new ≡ (if late then after (if begun then begun_of old else old) Late else
+-- came, the proxy drains, and the user has rested for as long as one then may.
+abbrev pub SilenceLeads : (begun late rested : Bool) → (old new : Course) → Type 0
+SilenceLeads begun late rested old new = (new ≡ (if late then after (if begun then begun_of old else old) Late else
     (if begun then begun_of old else old)))
-    ⊎ ((begun ≡ false) × (old.draining ≡ true) × (new ≡ after old Dropped))
+    ⊎ ((begun ≡ false) × (old.draining ≡ true) × (rested ≡ true) × (new ≡ after old Dropped))
 
 -- where it leads that there is no head: to the refusal of this reason, or the user is gone
 abbrev pub NoHeadLeads : Option Reason → (old new : Course) → Type 0
@@ -182,55 +195,71 @@ NoHeadLeads None old new = new ≡ after old UserLost
 abbrev pub Bears : {H : Type 0} → (bears : H → H → Type 0) → (held holds : H) → Type 0
 Bears {H} bears held holds = (first : H) → bears first held → bears first holds
 
--- where a turn at the head of the user's request leads that brought this
-abbrev pub RequestLeads : (begun late : Bool) → (old new : Course) → Option HeadTurn → Type 0
-RequestLeads begun late old new (Some head_turns.Whole) = new ≡ after (begun_of old) RequestRead
-RequestLeads begun late old new (Some head_turns.More) = new ≡ (if begun then begun_of old else old)
-RequestLeads begun late old new (Some head_turns.Interim) = new ≡ (if begun then begun_of old else old)
-RequestLeads begun late old new (Some head_turns.Nothing) = SilenceLeads begun late old new
-RequestLeads begun late old new (Some (head_turns.Fault fault)) =
-    (head : Option HttpFault) × NoHeadLeads (user_head_reason fault head) old new
-RequestLeads begun late old new None = new ≡ after old UserLost
+-- where a turn at the head of the user's request leads that brought this; head: what is at fault in it
+abbrev pub RequestLeads : (begun late rested : Bool) → (head : Option HttpFault) → (old new : Course) → Option HeadTurn → Type 0
+RequestLeads begun late rested head old new (Some head_turns.Whole) = new ≡ after (begun_of old) RequestRead
+RequestLeads begun late rested head old new (Some head_turns.More) = new ≡ (if begun then begun_of old else old)
+RequestLeads begun late rested head old new (Some head_turns.Interim) = new ≡ (if begun then begun_of old else old)
+RequestLeads begun late rested head old new (Some head_turns.Nothing) = SilenceLeads begun late rested old new
+RequestLeads begun late rested head old new (Some (head_turns.Fault fault)) =
+    NoHeadLeads (user_head_reason fault head) old new
+RequestLeads begun late rested head old new None = new ≡ after old UserLost
 
--- A turn at the head of the user's request was taken, and the course knows what it brought.
-pub record IsRequested {H : Type 0} (reads : H → H → Option HeadTurn → Type 0) (bears : H → H → Type 0) (begun : H → Bool) (late : Bool)
-    (held holds : H) (old new : Course) : Type 0 where
+-- A turn at the head of the user's request was taken, and the course knows what it brought. With the whole head all connections stay as
+-- they are, and of a further request nothing is told yet.
+pub record IsRequested {H : Type 0} (reads : H → H → Option HeadTurn → Type 0) (bears_message bears : H → H → Type 0)
+    (line : H → H → Type 0) (told : H → ℕ) (begun : H → Bool) (head_fault : H → Option HttpFault) (late rested : Bool) (held holds : H)
+    (old new : Course) : Type 0 where
   pub turned : H
   pub turn : Option HeadTurn
   pub brought : reads held turned turn
-  pub kept : Bears bears turned holds
-  pub leads : RequestLeads (begun turned) late old new turn
+  pub kept : Bears bears_message turned holds
+  pub whole : turn ≡ Some head_turns.Whole → Bears bears turned holds × line turned holds
+  pub fresh : turn ≡ Some head_turns.Whole → told holds ≡ 0
+  pub leads : RequestLeads (begun turned) late rested (head_fault turned) old new turn
 
 -- a byte of the origin's answer was read
 abbrev pub heard_of : Course → Course
 heard_of c = if c.heard then c else after c Heard
 
--- Where the end of the origin's connection leads: back to the plan where the course may go there, and the request is here to be sent again;
--- that is so only where its origin has said nothing. Else the message fails. asked: what came of that, as what is held answered.
-abbrev pub FaultLeads : (repeats : Type 0) → (asked : Withdrawal → Type 0) → RelayFault → (old new : Course) → Type 0
-FaultLeads repeats asked fault old new =
-    ((is_end_of_wire fault && may_come old Withdrawn) ≡ true) × asked Again × repeats × (new ≡ after old Withdrawn)
-    ⊎ ((is_end_of_wire fault && may_come old Withdrawn) ≡ true → (came : Withdrawal) × (came ≡ Again → ⊥) × asked came)
-    × ((head : Option HttpFault) × (new ≡ after old (Failed (cause_of (origin_head_reason fault head)))))
+-- a request may go back to its plan: its origin's connection has ended, and the course may go there
+abbrev pub may_go_back : RelayFault → Course → Bool
+may_go_back fault c = is_end_of_wire fault && may_come c Withdrawn
+
+-- Where the end of the origin's connection leads: back to the plan where the course may go there, and the request is the message again;
+-- that is so only where its origin has said nothing. Else the message fails. asked: what came of that, as what is held answered. head: what
+-- is at fault in the head.
+abbrev pub FaultLeads : (repeats : Type 0) → (asked : Withdrawal → Type 0) → (head : Option HttpFault) → RelayFault → (old new : Course)
+    → Type 0
+FaultLeads repeats asked head fault old new =
+    (may_go_back fault old ≡ true) × asked Again × repeats × (new ≡ after old Withdrawn)
+    ⊎ (may_go_back fault old ≡ true → (came : Withdrawal) × (came ≡ Again → ⊥) × asked came)
+    × (new ≡ after old (Failed (cause_of (origin_head_reason fault head))))
 
 -- where a turn at the head of the origin's response leads that brought this
-abbrev pub TurnLeads : (repeats : Type 0) → (asked : Withdrawal → Type 0) → (late : Bool) → (old new : Course) → Option HeadTurn → Type 0
-TurnLeads repeats asked late old new (Some head_turns.Whole) = new ≡ after old ResponseRead
-TurnLeads repeats asked late old new (Some head_turns.More) = new ≡ heard_of old
-TurnLeads repeats asked late old new (Some head_turns.Interim) =
+abbrev pub TurnLeads : (repeats : Type 0) → (asked : Withdrawal → Type 0) → (head : Option HttpFault) → (late : Bool) → (old new : Course)
+    → Option HeadTurn → Type 0
+TurnLeads repeats asked head late old new (Some head_turns.Whole) = new ≡ after old ResponseRead
+TurnLeads repeats asked head late old new (Some head_turns.More) = new ≡ heard_of old
+TurnLeads repeats asked head late old new (Some head_turns.Interim) =
     new ≡ (if late then after (heard_of old) (Failed Deadline) else heard_of old)
-TurnLeads repeats asked late old new (Some head_turns.Nothing) = new ≡ (if late then after old (Failed Deadline) else old)
-TurnLeads repeats asked late old new (Some (head_turns.Fault fault)) = FaultLeads repeats asked fault old new
-TurnLeads repeats asked late old new None = new ≡ after old (Failed Scarce)
+TurnLeads repeats asked head late old new (Some head_turns.Nothing) = new ≡ (if late then after old (Failed Deadline) else old)
+TurnLeads repeats asked head late old new (Some (head_turns.Fault fault)) = FaultLeads repeats asked head fault old new
+TurnLeads repeats asked head late old new None = new ≡ after old (Failed Scarce)
+
+-- what is held after such a turn stays what it was, unless the request was to be the message again
+abbrev pub KeepsTurned : {H : Type 0} → Course → Option HeadTurn → (turned holds : H) → Type 0
+KeepsTurned old (Some (head_turns.Fault fault)) turned holds = may_go_back fault old ≡ false → holds ≡ turned
+KeepsTurned old turn turned holds = holds ≡ turned
 
 -- A turn at the head of the origin's response was taken, and the course knows what it brought.
-pub record IsRead {H : Type 0} (hears : H → H → Option HeadTurn → Type 0) (repeats : H → Type 0) (withdraws : H → Withdrawal → Type 0)
-    (late : Bool) (held holds : H) (old new : Course) : Type 0 where
+pub record IsRead {H : Type 0} (hears : H → H → Option HeadTurn → Type 0) (repeats : H → Type 0) (withdraws : H → H → Withdrawal → Type 0)
+    (head_fault : H → Option HttpFault) (late : Bool) (held holds : H) (old new : Course) : Type 0 where
   pub turned : H
   pub turn : Option HeadTurn
   pub brought : hears held turned turn
-  pub kept : turn ≡ Some head_turns.Whole → holds ≡ turned
-  pub leads : TurnLeads (repeats turned) (withdraws turned) late old new turn
+  pub kept : KeepsTurned old turn turned holds
+  pub leads : TurnLeads (repeats turned) (withdraws turned holds) (head_fault turned) late old new turn
 
 -- Where the origin's connection lasts, and the proxy neither drains nor stops, it was laid down for later exchanges, or there was no room
 -- for it. Else it was closed.
@@ -244,19 +273,26 @@ abbrev pub IsGivenBack : (puts gives_up stays : Type 0) → (there : Bool) → (
 IsGivenBack puts gives_up stays there old new = ((is_ready old.connection && there) ≡ true → puts)
     × ((is_ready old.connection && there) ≡ false → gives_up) × stays × (new ≡ after old (Returned false))
 
--- What comes of asking the service of the message's own point: nothing yet; or its answer was read, and is kept, and its connection is
--- ready for others then exactly where it may serve again after that answer; or the same service is asked anew, on a fresh connection in
--- place of one that was idle before; or the message fails.
-abbrev pub IsHeard : {H : Type 0} → (learns : Point → Response → Type 0) → (usable : H → Response → Bool) → (asks : Point → Type 0)
-    → (renews : H → Type 0) → (old new : Course) → Type 0
-IsHeard {H} learns usable asks renews old new = (new ≡ old)
-    ⊎ ((held : H) × (answer : Response) × learns (point_of old.phase) answer × (new ≡ after old (Learned (usable held answer))))
+-- What comes of asking the service of the message's own point: nothing yet; or its answer was read, and is kept, and its connection lies
+-- where it did, and is ready for others then exactly where it may serve again after that answer; or the same service is asked anew, on a
+-- fresh connection in place of one that was idle before; or the message fails of that.
+abbrev pub IsHeard : {H : Type 0} → (learns : Point → Response → Type 0) → (usable : H → Response → Bool) → (keeps : H → Type 0)
+    → (asks : Point → Type 0) → (renews : H → Type 0) → (old new : Course) → Type 0
+IsHeard {H} learns usable keeps asks renews old new = (new ≡ old)
+    ⊎ ((held : H) × (answer : Response) × learns (point_of old.phase) answer × keeps held
+    × (new ≡ after old (Learned (usable held answer))))
     ⊎ ((held : H) × renews held × asks (point_of old.phase) × (may_come old Renewed ≡ true) × (new ≡ after old Renewed))
-    ⊎ ((why : RefusalCause) × (new ≡ after old (Failed why)))
+    ⊎ FailsAt Hear old new
 
 -- an answer to the user may be made of this message: it is a response, or a request that its service was offered
 abbrev pub has_answer : Phase → Bool
 has_answer phase = not (is_request (point_of phase)) || is_offered phase
+
+-- with this round a message is over: its transaction is, or nothing moved though the deadline has passed
+abbrev pub is_last : (late : Bool) → Round → Bool
+is_last late rounds.Over = true
+is_last late rounds.Waiting = late
+is_last late _ = false
 
 -- A message is over because the deadline passed, and nothing moved in the round before that.
 pub record IsOverdue {O : Type 0} (late : O → Bool) (follows : End → Type 0) (answered reusable : Bool) (round : Round) (old new : Course) :
@@ -272,13 +308,12 @@ pub record IsOver (ends follows : End → Type 0) (answered reusable : Bool) (ro
   pub ended : IsEnded (MayEnd ended.Itself ends) follows answered reusable old new
 
 -- A round of turns of a message was taken. While the message moves, the course knows of a byte of an answer where one went to the user.
--- Once it is over, a user that got one isn't refused. It is over as its transaction ended, or because the deadline passed. The service's
--- connection is ready for others exactly where its exchange was whole. A request that was withdrawn is here to be sent again, and
--- its origin
--- has said nothing.
+-- Once it is over, a user that got one isn't refused. It is over where its transaction is, as that ended, and where nothing moved and the
+-- deadline has passed. The service's connection is ready for others exactly where its exchange was whole. A request that was withdrawn may
+-- be sent again, and its origin has said nothing.
 pub record IsTurned {H O : Type 0} (rounds : H → H → O → Round → Type 0) (frees : H → Option Bool → Type 0) (answered reusable : H → Bool)
-    (ends : H → Bool → End → Type 0) (follows : H → End → Type 0) (repeats : H → Type 0) (late : O → Bool) (held : H) (old new : Course) :
-    Type 0 where
+    (ends : H → Bool → End → Type 0) (follows : H → O → End → Type 0) (repeats : H → Type 0) (late : O → Bool) (held : H)
+    (old new : Course) : Type 0 where
   pub turned : H
   pub later : O
   pub round : Round
@@ -288,15 +323,17 @@ pub record IsTurned {H O : Type 0} (rounds : H → H → O → Round → Type 0)
   pub alone : answered turned ≡ true → is_refusing new.phase ≡ false
   pub served : IsServedBy (reusable turned) old.connection new.connection
   pub withdrawn : is_withdrawing new.phase ≡ true → repeats turned × (answered turned ≡ false) × (may_come old Withdrawn ≡ true)
+  pub last : is_last (late later) round ≡ true → moves new ≡ false
   pub over : moves new ≡ false
-      → IsOver (ends turned (may_come old Withdrawn)) (follows turned) (answered turned) (reusable turned) round old new
-      ⊎ IsOverdue late (follows turned) (answered turned) (reusable turned) round old new
+      → IsOver (ends turned (may_come old Withdrawn)) (follows turned later) (answered turned) (reusable turned) round old new
+      ⊎ IsOverdue late (follows turned later) (answered turned) (reusable turned) round old new
 
--- the gate lets a message pass, and what is held stays as it is; or it is over
-abbrev pub IsGated : {H : Type 0} → (ends follows : End → Type 0) → (answered reusable : Bool) → (held holds : H) → (old new : Course)
-    → Type 0
-IsGated ends follows answered reusable held holds old new = ((new ≡ after old LetPass) × (holds ≡ held))
-    ⊎ IsEnded (MayEnd ended.Gate ends) follows answered reusable old new
+-- the gate was asked, and lets a message pass: then what is held stays as it is; or it doesn't, and the message is over
+abbrev pub IsGated : {H O : Type 0} → (passes : O → Bool → Type 0) → (ends : End → Type 0) → (follows : O → End → Type 0)
+    → (answered reusable : Bool) → (held holds : H) → (old new : Course) → Type 0
+IsGated {H} {O} passes ends follows answered reusable held holds old new =
+    ((later : O) × passes later true × (new ≡ after old LetPass) × (holds ≡ held))
+    ⊎ ((later : O) × passes later false × IsEnded (MayEnd ended.Gate ends) (follows later) answered reusable old new)
 
 -- A message that moves on is the one that moved before: nothing changed; it stays while its service's connection goes back; or it went
 -- through a round of turns, after which its service's connection came out of it, or didn't.

@@ -53,3 +53,9 @@ abbrev pub is_step : Task → Course → Bool
 is_step tasks.Step c = true
 is_step tasks.TakeLeave c = not (is_stopped c)
 is_step _ c = false
+
+-- the task ends the exchange, whatever it is in the midst of
+abbrev pub is_end : Task → Bool
+is_end tasks.Lose = true
+is_end tasks.Halt = true
+is_end _ = false

@@ -5,6 +5,7 @@ ghost use Rattle.exchange_core.specs.Course.{is_ready};
 ghost use Rattle.exchange_core.specs.declared.course.Course.{Course as AnyCourse};
 ghost use Rattle.exchange_core.specs.declared.dialing.Dialing.{Dialing as AnyDialing};
 ghost use Rattle.exchange_core.specs.declared.dialing.Dialing.TheVariants.{KeptFirst};
+ghost use Rattle.exchange_core.specs.declared.phase.Phase.TheVariants.{InQueue};
 ghost use Rattle.exchange_core.specs.declared.event.Event.TheVariants.{Withdrawn};
 ghost use Rattle.exchange_core.specs.Dues.{due_of, refusal_due};
 ghost use Rattle.exchange_core.specs.declared.event.RefusalCause.TheVariants.{Scarce};
@@ -14,15 +15,16 @@ ghost use Rattle.http_side.specs.Refusals.{is_own_status};
 ghost use Rattle.icap_head.specs.Heads.{Response as AnyResponse, response_parts};
 ghost use Rattle.trace_core.specs.declared.history.Point.{Point as AnyPoint};
 ghost use Rattle.service_lines.specs.declared.connector.LendFault.{LendFault as AnyFault};
+ghost use Rattle.wire_kit.specs.Past.{Past};
 ghost use Rattle.shard_exchange.specs.Hand.{Keeps, KeepsButTold, KeepsButRefused, KeepsButLease, KeepsButRoom, KeepsButOrigin, SetsOut, ComesBack};
 ghost use Rattle.shard_exchange.specs.EndedBy.{MayEnd, is_good, served_as};
-ghost use Rattle.shard_exchange.specs.Leases.{Renews};
 ghost use Rattle.exchange_report.specs.Reasons.{cause_of};
 ghost use Rattle.shard_exchange.specs.Reasons.{lies_elsewhere, unplanned_reason};
 ghost use Rattle.shard_exchange.specs.Saying.{LaysPage, SaysOn, refusal_by};
 ghost use Rattle.shard_exchange.specs.declared.answers.Marks.{Marks as AnyMarks};
 ghost use Rattle.shard_exchange.specs.declared.answers.Round.{Round as AnyRound};
 ghost use Rattle.shard_exchange.specs.declared.answers.Unplanned.{Unplanned as AnyUnplanned};
+ghost use Rattle.shard_exchange.specs.declared.ends.End.{End as AnyEnd};
 
 use crate::answers::{Lingered, Marks, Round, Started, Unplanned, Withdrawal};
 use crate::ends::{End, EndedBy, Report};
@@ -40,14 +42,23 @@ pub trait Effects<P>: Holder {
     // no byte of the exchange moved for longer than the deadline
     ghost is_late: { Self.Outside → P → Bool };
 
+    // its user has said nothing for so long that a proxy that drains lets it go
+    ghost has_rested: { Self.Outside → P → Bool };
+
     // a message has waited for a connection to its service as long as it may, or hasn't
     ghost has_waited: { Self.Outside → P → Bool → Type 0 };
 
     // no connection was lent, for this fault: the surroundings after that
     ghost fails: { Self.Outside → P → AnyFault → Type 0 };
 
+    // the gate was asked whether the transaction of a message may move, and answered this: the surroundings before that and after it
+    ghost lets_pass: { Self.Outside → Self.Outside → P → Bool → Type 0 };
+
     // a message was to wait for a connection of this point's service, and does, or doesn't: the surroundings after that
     ghost joins: { Self.Outside → P → AnyPoint → Bool → Type 0 };
+
+    // a message waits no more in the queue for a connection of this point's service: the surroundings after that
+    ghost leaves: { Self.Outside → P → AnyPoint → Type 0 };
 
     // a message is planned: what is held before and after that, its surroundings, whether its service was asked for it, and the answer
     ghost plans: { Self → Self → Self.Outside → P → Bool → Result AnyMarks AnyUnplanned → Type 0 };
@@ -55,8 +66,13 @@ pub trait Effects<P>: Holder {
     // what a point's service said of its options was read of this answer, and is kept: the surroundings before and after that
     ghost learns: { Self.Outside → Self.Outside → P → AnyPoint → AnyResponse → Type 0 };
 
-    // the leased connection that is held is one of this point's service, and was idle before, or is a fresh one
-    ghost leases: { Self → AnyPoint → (reused : Bool) → Type 0 };
+    // a connection was leased of this point's service and is held beside its lease: it was idle before, or is a fresh one. With it the
+    // surroundings before that
+    ghost leases: { Self → Self.Outside → AnyPoint → (reused : Bool) → Type 0 };
+
+    // a fresh connection to the same service stands in place of the one that was leased: what is held, and the surroundings, before that
+    // and after it
+    ghost renews: { Self → Self → Self.Outside → Self.Outside → P → Type 0 };
 
     // the service of this point is asked for its options: the request for that is to be sent
     ghost asks: { Self → Self.Outside → AnyPoint → Type 0 };
@@ -65,12 +81,29 @@ pub trait Effects<P>: Holder {
     // before it is dialed and after that, and the surroundings
     ghost dials: { Self → Self → Self.Outside → Self.Outside → P → AnyDialing → (kept : Bool) → Type 0 };
 
+    // the message that is held is the one that was held first, and so are its plan and the user's connection, on which nothing was said or
+    // read since
+    ghost bears_but_origin: { (first : Self) → Self → Type 0 };
+
+    // the origin's connection stays as it is, with how much it had given when it was dialed; or the user's does
+    ghost keeps_origin: { Self → Self → Type 0 };
+
+    ghost keeps_user: { Self → Self → Type 0 };
+
+    // what is reserved is reserved by the limits of these surroundings
+    ghost reserves: { Self → Self.Outside → Type 0 };
+
     // the message that begins to move began with this: what was held before that and is after it, the surroundings and the course
     ghost starts: { Self → Self → Self.Outside → P → AnyCourse → Type 0 };
 
     // a round of turns of the message that moves leads from the one to the other, and answers this: with the surroundings before it and
     // after it
     ghost rounds: { Self → Self → Self.Outside → Self.Outside → P → AnyRound → Type 0 };
+
+    // what is held once the message that moves ended so: the message that follows on the user's connection begins with what was left over;
+    // where an answer begins, its origin's connection has given nothing since the request set out. What it moved over is back. With it the
+    // surroundings before that
+    ghost follows: { Self → Self.Outside → AnyEnd → Self → Type 0 };
 
     // the origin's connection that is held was laid down for later exchanges, or there was no room for it: the surroundings before that
     // and after it; or it was closed
@@ -97,7 +130,8 @@ pub trait Effects<P>: Holder {
         ensures { result ≡ is_late out.now at.now };
 
     /// Whether the user has said nothing for so long that a proxy that drains lets it go.
-    fn has_rested(at: &P, out: &Self::Outside) -> bool;
+    fn has_rested(at: &P, out: &Self::Outside) -> bool
+        ensures { result ≡ has_rested out.now at.now };
 
     /// Whether the message has waited for a connection to its service as long as it may.
     fn has_waited(at: &P, out: &Self::Outside) -> bool
@@ -107,7 +141,8 @@ pub trait Effects<P>: Holder {
     fn may_retry(at: &P, out: &Self::Outside) -> bool;
 
     /// Whether the transaction of a message may move.
-    fn may_pass(at: &P, out: &mut Self::Outside) -> bool;
+    fn may_pass(at: &P, out: &mut Self::Outside) -> bool
+        ensures { lets_pass out.old out.new at.now result };
 
     /// Plans the message, and keeps its plan. Its service was asked for it, or not.
     fn plan(&mut self, at: &P, out: &Self::Outside, asked: bool) -> Result<Marks, Unplanned>
@@ -119,7 +154,7 @@ pub trait Effects<P>: Holder {
     fn lend(&mut self, at: &P, out: &mut Self::Outside, point: Point) -> Result<bool, LendFault>
         requires { (Self.hand self.old).leased ≡ false }
         ensures lent { is_ok result ≡ (Self.hand self.new).leased }
-        ensures leases { IfOk result (leases self.new point) }
+        ensures leases { IfOk result (leases self.new out.old point) }
         ensures fails { IfErr result (fails out.new at.now) }
         ensures bears { (first : Self) → Self.bears first self.old → Self.bears first self.new }
         ensures kept { KeepsButLease (Self.hand self.old) (Self.hand self.new) };
@@ -133,7 +168,7 @@ pub trait Effects<P>: Holder {
     ) -> Result<bool, LendFault>
         requires { (Self.hand self.old).leased ≡ false }
         ensures lent { is_ok result ≡ (Self.hand self.new).leased }
-        ensures leases { IfOk result (leases self.new point) }
+        ensures leases { IfOk result (leases self.new out.old point) }
         ensures fails { IfErr result (fails out.new at.now) }
         ensures bears { (first : Self) → Self.bears first self.old → Self.bears first self.new }
         ensures kept { KeepsButLease (Self.hand self.old) (Self.hand self.new) };
@@ -143,19 +178,21 @@ pub trait Effects<P>: Holder {
         ensures { joins out.new at.now point result };
 
     /// Has a message wait no more, where it waits for a connection.
-    fn leave_queue(at: &P, out: &mut Self::Outside, course: &Exchange);
+    fn leave_queue(at: &P, out: &mut Self::Outside, course: &Exchange)
+        ensures { (point : AnyPoint) → course.now.phase ≡ InQueue point → leaves out.new at.now point };
 
     /// Begins to ask the point's service for its options.
     fn ask(&mut self, at: &P, out: &Self::Outside, point: Point) -> Result<(), Reason>
         ensures asks { IfOk result (λ _. asks self.new out.now point) }
         ensures suits { IfErr result (λ reason. lies_elsewhere reason ≡ true) }
         ensures bears { (first : Self) → Self.bears first self.old → Self.bears first self.new }
+        ensures line { Self.keeps_line self.old self.new }
         ensures kept { Keeps (Self.hand self.old) (Self.hand self.new) };
 
     /// Begins to ask the point's service anew, on a fresh connection.
     fn ask_anew(&mut self, at: &P, out: &mut Self::Outside, point: Point) -> Result<(), Reason>
         ensures asks { IfOk result (λ _. asks self.new out.new point) }
-        ensures fresh { IfOk result (λ _. Renews leases self.old self.new) }
+        ensures fresh { IfOk result (λ _. renews self.old self.new out.old out.new at.now) }
         ensures suits { IfErr result (λ reason. lies_elsewhere reason ≡ true) }
         ensures bears { (first : Self) → Self.bears first self.old → Self.bears first self.new }
         ensures kept { Keeps (Self.hand self.old) (Self.hand self.new) };
@@ -172,6 +209,7 @@ pub trait Effects<P>: Holder {
         ensures learned { IfOk result (λ _. learns out.old out.new at.now point (response_parts answer.now)) }
         ensures suits { IfErr result (λ reason. lies_elsewhere reason ≡ true) }
         ensures bears { (first : Self) → Self.bears first self.old → Self.bears first self.new }
+        ensures line { Self.keeps_line self.old self.new }
         ensures kept { Keeps (Self.hand self.old) (Self.hand self.new) };
 
     /// Takes note that the service's connection failed while it was asked.
@@ -181,8 +219,10 @@ pub trait Effects<P>: Holder {
     fn reserve<R: Wait>(&mut self, rt: &R, at: &P, out: &mut Self::Outside) -> Result<(), Reason>
         requires { ((Self.hand self.old).room ≡ false) × ((Self.hand self.old).moving ≡ false) }
         ensures reserved { is_ok result ≡ (Self.hand self.new).room }
+        ensures limits { IfOk result (λ _. reserves self.new out.old) }
         ensures suits { IfErr result (λ reason. cause_of reason ≡ Scarce) }
         ensures bears { (first : Self) → Self.bears first self.old → Self.bears first self.new }
+        ensures line { Self.keeps_line self.old self.new }
         ensures kept { KeepsButRoom (Self.hand self.old) (Self.hand self.new) };
 
     /// Opens the connection that a request goes to for which this was reserved, or takes one that was kept, where it may: whether it is a
@@ -193,7 +233,8 @@ pub trait Effects<P>: Holder {
         ensures leads { IfOk result (λ kept. dials self.old self.new out.old out.new at.now dialing kept) }
         ensures fresh { IfOk result (λ kept. kept ≡ true → dialing ≡ KeptFirst) }
         ensures suits { IfErr result (λ reason. lies_elsewhere reason ≡ true) }
-        ensures bears { (first : Self) → Self.bears first self.old → Self.bears first self.new }
+        ensures bears { (first : Self) → bears_but_origin first self.old → bears_but_origin first self.new }
+        ensures line { Self.keeps_line self.old self.new }
         ensures kept { KeepsButOrigin (Self.hand self.old) (Self.hand self.new) };
 
     /// Starts the transaction of a message that has all that it needs. Where it can't, what it would have stood over stays here.
@@ -203,7 +244,9 @@ pub trait Effects<P>: Holder {
         ensures begins { result ≡ Started.Moves → starts self.old self.new out.old at.now course }
         ensures moves { result ≡ Started.Moves → SetsOut (Self.hand self.old) (Self.hand self.new) }
         ensures fails { result ≡ Started.Fails → Keeps (Self.hand self.old) (Self.hand self.new) }
-        ensures gone { result ≡ Started.NoUser → Keeps (Self.hand self.old) (Self.hand self.new) };
+        ensures user { result ≡ Started.Fails → keeps_user self.old self.new }
+        ensures gone { result ≡ Started.NoUser → Keeps (Self.hand self.old) (Self.hand self.new) }
+        ensures no_user { result ≡ Started.NoUser → (p : Past) → Self.user_past self.old p → ⊥ };
 
     /// A round of turns of the message's transaction.
     fn round<R: Wait>(
@@ -234,7 +277,7 @@ pub trait Effects<P>: Holder {
             → (may_come course.now Withdrawn ≡ true) × Self.repeats self.old × (result.has_answered ≡ false) }
         ensures back { ComesBack (Self.hand self.old) (Self.hand self.new) }
         ensures answered { result.has_answered ≡ Self.answered self.old }
-        ensures followed { Self.follows self.old result.end self.new }
+        ensures followed { follows self.old out.old result.end self.new }
         ensures told { MayEnd by (Self.ends self.old (may_come course.now Withdrawn)) result.end }
         ensures cuts { result.has_answered ≡ false → result.cuts ≡ false }
         ensures cut { Self.cut_is self.old result.has_answered result.cuts }
@@ -245,7 +288,7 @@ pub trait Effects<P>: Holder {
     /// its connection was kept, and has ended.
     fn withdraw(&mut self, at: &P, out: &mut Self::Outside, course: &Exchange) -> Withdrawal
         requires may { may_come course.now Withdrawn ≡ true }
-        ensures answers { Self.withdraws self.old result }
+        ensures answers { Self.withdraws self.old self.new result }
         ensures repeats { result ≡ Withdrawal.Again → Self.repeats self.old }
         ensures kept { Keeps (Self.hand self.old) (Self.hand self.new) };
 
@@ -276,6 +319,7 @@ pub trait Effects<P>: Holder {
         requires { (Self.hand self.old).room ≡ true }
         ensures released { (Self.hand self.new).room ≡ false }
         ensures message { Self.keeps_message self.old self.new }
+        ensures origin { keeps_origin self.old self.new }
         ensures kept { KeepsButRoom (Self.hand self.old) (Self.hand self.new) };
 
     /// Says the refusal of this status to the user, as far as it takes it, from where the last call ended. At this course it is due, so
@@ -292,6 +336,7 @@ pub trait Effects<P>: Holder {
     /// Says to the user that nothing more comes. At this course all is said to it, also the refusal.
     fn close(&mut self, at: &P, course: &Exchange)
         requires silent { is_silent course.now.phase ≡ true }
+        ensures user { keeps_user self.old self.new }
         ensures said { Self.finished self.new ≡ true }
         ensures kept { Keeps (Self.hand self.old) (Self.hand self.new) };
 
@@ -305,6 +350,8 @@ pub trait Effects<P>: Holder {
     fn note_request(&mut self, at: &P, out: &mut Self::Outside)
         ensures untold { (Self.hand self.new).told ≡ 0 }
         ensures bears { (first : Self) → Self.bears first self.old → Self.bears first self.new }
+        ensures message { (first : Self) → Self.bears_message first self.old → Self.bears_message first self.new }
+        ensures line { Self.keeps_line self.old self.new }
         ensures kept { KeepsButTold (Self.hand self.old) (Self.hand self.new) };
 
     /// The head of the origin's response was read.

@@ -1,8 +1,8 @@
 //! An exchange: its course, and what is held.
 
-ghost use Rattle.std.specs.Prelude.{◌≡◌, ◌&&◌, ◌||◌, true, false};
+ghost use Rattle.std.specs.Prelude.{◌≡◌, ◌&&◌, ◌||◌, if◌then◌else◌, true, false};
 ghost use Rattle.exchange_core.specs.Course.{is_leased};
-ghost use Rattle.exchange_core.specs.May.{is_at_gate, is_moving};
+ghost use Rattle.exchange_core.specs.May.{is_at_gate, is_moving, may_come};
 
 use crate::holder::{Holder, InHand};
 use exchange_core::{Due, Event, Phase, RefusalCause};
@@ -24,7 +24,7 @@ pub struct Exchange<H: InHand> {
 impl<H: InHand> Exchange<H> {
     ghost use Rattle.exchange_core.specs.Course.{start, after};
     ghost use Rattle.exchange_core.specs.Dues.{due_of};
-    ghost use Rattle.exchange_core.specs.declared.event.Event.TheVariants.{Failed};
+    ghost use Rattle.exchange_core.specs.declared.event.Event.TheVariants.{Drain, Failed};
     ghost use Rattle.exchange_core.specs.declared.event.RefusalCause.TheVariants.{Scarce};
     ghost use Rattle.exchange_core.specs.Log.{Goes};
     ghost use Rattle.shard_exchange.specs.Hand.{IsFresh};
@@ -34,7 +34,8 @@ impl<H: InHand> Exchange<H> {
     /// said.
     pub fn begin(holdings: H) -> Exchange<H>
         requires { IsFresh (H.hand holdings) }
-        ensures { result.course ≡ start }
+        ensures course { result.course ≡ start }
+        ensures held { result.holdings ≡ holdings }
     {
         Exchange {
             course: exchange_core::Exchange::begin(),
@@ -45,7 +46,8 @@ impl<H: InHand> Exchange<H> {
     /// The connection of a user whom nobody serves: it gets the refusal for want of room.
     pub fn turn_away(holdings: H) -> Exchange<H>
         requires { IsFresh (H.hand holdings) }
-        ensures { result.course ≡ after start (Failed Scarce) }
+        ensures course { result.course ≡ after start (Failed Scarce) }
+        ensures held { result.holdings ≡ holdings }
     {
         let mut exchange = Exchange::begin(holdings);
         exchange.course.failed(RefusalCause::Scarce);
@@ -96,6 +98,7 @@ impl<H: InHand> Exchange<H> {
     pub fn drain(&mut self)
         ensures goes { Goes self.old.course self.new.course }
         ensures held { self.new.holdings ≡ self.old.holdings }
+        ensures told { self.new.course ≡ (if may_come self.old.course Drain then after self.old.course Drain else self.old.course) }
         ensures drains { (self.new.course.draining || is_stopped self.new.course) ≡ true }
     {
         if self.course.may(Event::Drain) {

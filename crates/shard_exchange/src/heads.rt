@@ -1,7 +1,6 @@
 //! Heads of messages: the user's requests, and the origins' responses.
 
-ghost use Rattle.std.specs.Prelude.{◌≡◌, if◌then◌else◌, Some, Option as AnyOption};
-ghost use Rattle.http_side.specs.declared.fault.HttpFault.{HttpFault as AnyHttpFault};
+ghost use Rattle.std.specs.Prelude.{◌≡◌, if◌then◌else◌, false, Some};
 ghost use Rattle.shard_exchange.specs.Reasons as reasons;
 ghost use Rattle.shard_exchange.specs.declared.answers.HeadTurn.TheVariants as head_turns;
 
@@ -23,7 +22,7 @@ impl<H: Holder> Exchange<H> {
     ghost use Rattle.exchange_core.specs.declared.due.Due.TheVariants as dues;
     ghost use Rattle.exchange_core.specs.declared.event.Event.TheVariants.{RequestRead, ResponseRead, Failed};
     ghost use Rattle.exchange_core.specs.declared.event.RefusalCause.TheVariants.{Deadline};
-    ghost use Rattle.shard_exchange.specs.Outcomes.{Bears, begun_of, heard_of, FaultLeads, IsRead, IsRequested, NoHeadLeads, RequestLeads, SilenceLeads, TurnLeads};
+    ghost use Rattle.shard_exchange.specs.Outcomes.{Bears, begun_of, heard_of, may_go_back, FaultLeads, IsRead, IsRequested, KeepsTurned, NoHeadLeads, RequestLeads, SilenceLeads, TurnLeads};
     ghost use Rattle.shard_exchange.specs.Steps.{Heeds};
 
     /// Reads the head of the next request.
@@ -36,7 +35,7 @@ impl<H: Holder> Exchange<H> {
     where
         H: Effects<P>,
         requires due { due_of self.old.course ≡ dues.ReadRequest }
-        ensures read { IsRequested H.reads H.bears H.has_begun (H.is_late out.old at.now) self.old.holdings self.new.holdings self.old.course self.new.course }
+        ensures read { IsRequested H.reads H.bears_message H.bears H.keeps_line (λ held. (H.hand held).told) H.has_begun H.head_fault (H.is_late out.old at.now) (H.has_rested out.old at.now) self.old.holdings self.new.holdings self.old.course self.new.course }
         ensures goes { Goes self.old.course self.new.course }
         ensures heeds { Heeds (H.is_late out.new at.now) self.new.course result }
         ensures rests { result ≡ Step.Waits → H.reads self.old.holdings self.new.holdings (Some head_turns.Nothing) }
@@ -50,8 +49,10 @@ impl<H: Holder> Exchange<H> {
     where
         H: Effects<P>,
         requires due { due_of self.old.course ≡ dues.ReadRequest }
-        ensures leads { RequestLeads (H.has_begun self.old.holdings) (H.is_late out.old at.now) self.old.course self.new.course turn }
-        ensures bears { Bears H.bears self.old.holdings self.new.holdings }
+        ensures leads { RequestLeads (H.has_begun self.old.holdings) (H.is_late out.old at.now) (H.has_rested out.old at.now) (H.head_fault self.old.holdings) self.old.course self.new.course turn }
+        ensures fresh { turn ≡ Some head_turns.Whole → (H.hand self.new.holdings).told ≡ 0 }
+        ensures bears { Bears H.bears_message self.old.holdings self.new.holdings }
+        ensures whole { turn ≡ Some head_turns.Whole → Bears H.bears self.old.holdings self.new.holdings × H.keeps_line self.old.holdings self.new.holdings }
         ensures goes { Goes self.old.course self.new.course }
         ensures heeds { Heeds (H.is_late out.new at.now) self.new.course result }
         ensures rests { result ≡ Step.Waits → (turn ≡ Some head_turns.Nothing) × (self.new.holdings ≡ self.old.holdings) }
@@ -72,7 +73,9 @@ impl<H: Holder> Exchange<H> {
         H: Effects<P>,
         requires due { due_of self.old.course ≡ dues.ReadRequest }
         ensures course { self.new.course ≡ after (begun_of self.old.course) RequestRead }
-        ensures bears { Bears H.bears self.old.holdings self.new.holdings }
+        ensures fresh { (H.hand self.new.holdings).told ≡ 0 }
+        ensures whole { Bears H.bears self.old.holdings self.new.holdings × H.keeps_line self.old.holdings self.new.holdings }
+        ensures bears { Bears H.bears_message self.old.holdings self.new.holdings }
         ensures goes { Goes self.old.course self.new.course }
     {
         self.holdings.note_request(at, out);
@@ -98,8 +101,8 @@ impl<H: Holder> Exchange<H> {
     where
         H: Effects<P>,
         requires due { due_of self.old.course ≡ dues.ReadRequest }
-        ensures leads { (head : AnyOption AnyHttpFault) × NoHeadLeads (reasons.user_head_reason fault head) self.old.course self.new.course }
-        ensures bears { Bears H.bears self.old.holdings self.new.holdings }
+        ensures leads { NoHeadLeads (reasons.user_head_reason fault (H.head_fault self.old.holdings)) self.old.course self.new.course }
+        ensures bears { Bears H.bears_message self.old.holdings self.new.holdings }
         ensures goes { Goes self.old.course self.new.course }
     {
         match user_head_reason(fault, self.holdings.head_fault()) {
@@ -113,7 +116,7 @@ impl<H: Holder> Exchange<H> {
     where
         H: Effects<P>,
         requires due { due_of self.old.course ≡ dues.ReadRequest }
-        ensures leads { SilenceLeads (H.has_begun self.old.holdings) (H.is_late out.old at.now) self.old.course self.new.course }
+        ensures leads { SilenceLeads (H.has_begun self.old.holdings) (H.is_late out.old at.now) (H.has_rested out.old at.now) self.old.course self.new.course }
         ensures goes { Goes self.old.course self.new.course }
         ensures heeds { Heeds (H.is_late out.new at.now) self.new.course result }
         ensures held { self.new.holdings ≡ self.old.holdings }
@@ -137,7 +140,7 @@ impl<H: Holder> Exchange<H> {
     where
         H: Effects<P>,
         requires due { due_of self.old.course ≡ dues.ReadResponse }
-        ensures read { IsRead H.hears H.repeats H.withdraws (H.is_late out.old at.now) self.old.holdings self.new.holdings self.old.course self.new.course }
+        ensures read { IsRead H.hears H.repeats H.withdraws H.head_fault (H.is_late out.old at.now) self.old.holdings self.new.holdings self.old.course self.new.course }
         ensures goes { Goes self.old.course self.new.course }
         ensures heeds { Heeds (H.is_late out.new at.now) self.new.course result }
         ensures rests { result ≡ Step.Waits → H.hears self.old.holdings self.new.holdings (Some head_turns.Nothing) }
@@ -151,8 +154,8 @@ impl<H: Holder> Exchange<H> {
     where
         H: Effects<P>,
         requires due { due_of self.old.course ≡ dues.ReadResponse }
-        ensures leads { TurnLeads (H.repeats self.old.holdings) (H.withdraws self.old.holdings) (H.is_late out.old at.now) self.old.course self.new.course turn }
-        ensures kept { turn ≡ Some head_turns.Whole → self.new.holdings ≡ self.old.holdings }
+        ensures leads { TurnLeads (H.repeats self.old.holdings) (H.withdraws self.old.holdings self.new.holdings) (H.head_fault self.old.holdings) (H.is_late out.old at.now) self.old.course self.new.course turn }
+        ensures kept { KeepsTurned self.old.course turn self.old.holdings self.new.holdings }
         ensures goes { Goes self.old.course self.new.course }
         ensures heeds { Heeds (H.is_late out.new at.now) self.new.course result }
         ensures rests { result ≡ Step.Waits → (turn ≡ Some head_turns.Nothing) × (self.new.holdings ≡ self.old.holdings) }
@@ -202,6 +205,7 @@ impl<H: Holder> Exchange<H> {
         H: Effects<P>,
         requires due { due_of self.old.course ≡ dues.ReadResponse }
         ensures course { self.new.course ≡ (if H.is_late out.old at.now then after (heard_of self.old.course) (Failed Deadline) else heard_of self.old.course) }
+        ensures held { self.new.holdings ≡ self.old.holdings }
         ensures goes { Goes self.old.course self.new.course }
         ensures heeds { Heeds (H.is_late out.new at.now) self.new.course result }
         ensures no_wait { result ≡ Step.Waits → ⊥ }
@@ -221,17 +225,18 @@ impl<H: Holder> Exchange<H> {
     where
         H: Effects<P>,
         requires due { due_of self.old.course ≡ dues.ReadResponse }
-        ensures leads { FaultLeads (H.repeats self.old.holdings) (H.withdraws self.old.holdings) fault self.old.course self.new.course }
+        ensures leads { FaultLeads (H.repeats self.old.holdings) (H.withdraws self.old.holdings self.new.holdings) (H.head_fault self.old.holdings) fault self.old.course self.new.course }
+        ensures kept { may_go_back fault self.old.course ≡ false → self.new.holdings ≡ self.old.holdings }
         ensures goes { Goes self.old.course self.new.course }
     {
+        let reason = origin_head_reason(fault, self.holdings.head_fault());
         if is_end_of_wire(fault)
             && self.course.may(Event::Withdrawn)
             && self.holdings.withdraw(at, out, &self.course) == Withdrawal::Again
         {
             self.course.take(Event::Withdrawn);
-            return;
+        } else {
+            self.refuse(at, out, reason);
         }
-        let reason = origin_head_reason(fault, self.holdings.head_fault());
-        self.refuse(at, out, reason);
     }
 }

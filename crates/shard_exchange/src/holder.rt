@@ -3,6 +3,7 @@
 ghost use Rattle.std.specs.Prelude.{◌≡◌, Bool, Option, Some, true, false, IfSome};
 ghost use Rattle.exchange_core.specs.Dues.{due_of, is_for_telling};
 ghost use Rattle.exchange_core.specs.May.{is_gone};
+ghost use Rattle.http_side.specs.declared.fault.HttpFault.{HttpFault as AnyHttpFault};
 ghost use Rattle.icap_head.specs.Heads.{Response as AnyResponse};
 ghost use Rattle.wire_kit.specs.Past.{Past};
 ghost use Rattle.shard_exchange.specs.Hand.{Hand, IsEmpty, Keeps, KeepsButTold, KeepsButOrigin};
@@ -40,28 +41,30 @@ pub trait Holder: InHand {
     // lets it be withdrawn
     ghost ends: { Self → (may_withdraw : Bool) → AnyEnd → Type 0 };
 
-    // what is held once it ended so: the message that follows on the user's connection begins with what was left over; where an answer
-    // begins, its origin's connection has given nothing since the request set out
-    ghost follows: { Self → AnyEnd → Self → Type 0 };
-
     // the service's connection went back, and nothing else of what is held changed
     ghost stays: { Self → Self → Type 0 };
 
     // the message that is held is the one that was held first, and so is its plan
+    ghost bears_message: { (first : Self) → Self → Type 0 };
+
+    // and so are the user's connection and the origin's, on which nothing was said or read since
     ghost bears: { (first : Self) → Self → Type 0 };
 
-    // the message that is held stays as it is
+    // the service's connection stays as it is, beside its lease
+    ghost keeps_line: { Self → Self → Type 0 };
+
+    // the message that is held stays as it is, and so does the user's connection
     ghost keeps_message: { Self → Self → Type 0 };
 
     // the connection of a service that has said all comes out of the transaction, and may carry another request or not; or none comes out,
     // since it hasn't said all, or is gone. The message that moves is the same
     ghost frees: { Self → Self → Option Bool → Type 0 };
 
-    // the request that went out is here to be sent again, and its origin's connection has given no byte since it was dialed
+    // the origin's connection has given no byte since it was dialed
     ghost repeats: { Self → Type 0 };
 
-    // what came of it where it was to be the message again
-    ghost withdraws: { Self → AnyWithdrawal → Type 0 };
+    // what came of it where it was to be the message again: what is held before that and after it
+    ghost withdraws: { Self → Self → AnyWithdrawal → Type 0 };
 
     // a turn at the head of the user's request leads from the one to the other, and brings this
     ghost reads: { Self → Self → Option AnyHeadTurn → Type 0 };
@@ -85,8 +88,12 @@ pub trait Holder: InHand {
     fn has_begun(&self) -> bool
         ensures { result ≡ has_begun self.now };
 
+    // what is at fault in the head that is read
+    ghost head_fault: { Self → Option AnyHttpFault };
+
     /// What is at fault in the head that is read.
-    fn head_fault(&self) -> Option<HttpFault>;
+    fn head_fault(&self) -> Option<HttpFault>
+        ensures { result ≡ head_fault self.now };
 
     /// Whether a message's transaction is held.
     fn is_moving(&self) -> bool
@@ -112,7 +119,7 @@ pub trait Holder: InHand {
     fn tell(&mut self, course: &Exchange) -> Said
         requires due { is_for_telling (due_of course.now) ≡ true }
         ensures says { SaysOn (user_past self.old) (user_past self.new) interim_text (Self.hand self.old).told (Self.hand self.new).told result }
-        ensures bears { (first : Self) → bears first self.old → bears first self.new }
+        ensures bears { (first : Self) → bears_message first self.old → bears_message first self.new }
         ensures kept { KeepsButTold (Self.hand self.old) (Self.hand self.new) };
 
     // the user was told that nothing more comes
@@ -125,7 +132,7 @@ pub trait Holder: InHand {
     /// Closes the user's connection. At this course the user is gone.
     fn lose_user(&mut self, course: &Exchange)
         requires gone { is_gone course.now.phase ≡ true }
-        ensures bears { (first : Self) → bears first self.old → bears first self.new }
+        ensures bears { (first : Self) → bears_message first self.old → bears_message first self.new }
         ensures kept { Keeps (Self.hand self.old) (Self.hand self.new) };
 
     /// Closes the origin's connection.

@@ -21,7 +21,7 @@ impl<H: Holder> Exchange<H> {
     ghost use Rattle.exchange_core.specs.Dues.{due_of, fails_of};
     ghost use Rattle.exchange_core.specs.Log.{Goes};
     ghost use Rattle.exchange_core.specs.declared.due.Due.TheVariants as dues;
-    ghost use Rattle.shard_exchange.specs.Outcomes.{Bears, IsAwaited, IsLent, IsQueued, WaitsOn};
+    ghost use Rattle.shard_exchange.specs.Outcomes.{Bears, IsAwaited, IsLent, IsQueued, LeavesQueue, WaitsOn};
     ghost use Rattle.shard_exchange.specs.Steps.{Heeds, GoesOn};
 
     /// Leases a connection of the service, or has the message wait for one where all are leased.
@@ -29,7 +29,7 @@ impl<H: Holder> Exchange<H> {
     where
         H: Effects<P>,
         requires due { due_of self.old.course ≡ dues.Lend }
-        ensures lent { IsLent (H.leases self.new.holdings) (λ out. H.fails out at.now) (λ out. H.joins out at.now) self.old.course self.new.course }
+        ensures lent { IsLent (H.leases self.new.holdings out.old) (λ out. H.fails out at.now) (λ out. H.joins out at.now) self.old.course self.new.course }
         ensures bears { Bears H.bears self.old.holdings self.new.holdings }
         ensures goes { GoesOn self.old.course self.new.course }
     {
@@ -67,6 +67,7 @@ impl<H: Holder> Exchange<H> {
         ensures held { self.new.holdings ≡ self.old.holdings }
         ensures goes { Goes self.old.course self.new.course }
         ensures owed { IsOwed self.old.course self.new.course (status_of reason) }
+        ensures left { LeavesQueue (λ later. H.leaves later at.now) self.old.course self.new.course }
     {
         H::leave_queue(at, out, &self.course);
         self.refuse(at, out, reason)
@@ -80,6 +81,7 @@ impl<H: Holder> Exchange<H> {
         ensures waits { WaitsOn (H.has_waited out.old at.now) (H.is_late out.old at.now) self.old.course self.new.course }
         ensures held { self.new.holdings ≡ self.old.holdings }
         ensures goes { Goes self.old.course self.new.course }
+        ensures left { LeavesQueue (λ later. H.leaves later at.now) self.old.course self.new.course }
         ensures late { H.is_late out.old at.now ≡ true → is_mid_text self.old.course ≡ false
             → is_refusing self.new.course.phase ≡ true }
         ensures heeds { Heeds (H.is_late out.new at.now) self.new.course result }
@@ -100,11 +102,12 @@ impl<H: Holder> Exchange<H> {
         H: Effects<P>,
         requires due { due_of self.old.course ≡ dues.Await }
         requires free { is_leased self.old.course.connection ≡ false }
-        ensures lent { IsAwaited (H.leases self.new.holdings) (λ out. H.fails out at.now) (λ out. H.has_waited out at.now) (λ out. H.is_late out at.now)
+        ensures lent { IsAwaited (H.leases self.new.holdings out.old) (λ out. H.fails out at.now) (λ out. H.has_waited out at.now) (λ out. H.is_late out at.now)
             self.old.course self.new.course }
         ensures bears { Bears H.bears self.old.holdings self.new.holdings }
         ensures goes { Goes self.old.course self.new.course }
         ensures heeds { Heeds (H.is_late out.new at.now) self.new.course result }
+        ensures left { LeavesQueue (λ later. H.leaves later at.now) self.old.course self.new.course }
         ensures rests { result ≡ Step.Waits → (later : H.Outside) × H.fails later at.now LendFault.Busy }
     {
         let point = self.phase().point();

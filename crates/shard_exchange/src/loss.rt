@@ -1,6 +1,8 @@
 //! Exchanges that end from outside: the user is gone, or the loop.
 
 ghost use Rattle.std.specs.Prelude.{◌≡◌, true, false};
+ghost use Rattle.exchange_core.specs.declared.phase.Phase.TheVariants.{InQueue};
+ghost use Rattle.trace_core.specs.declared.history.Point.{Point as AnyPoint};
 
 use crate::effects::Effects;
 use crate::ends::EndedBy;
@@ -17,6 +19,7 @@ impl<H: Holder> Exchange<H> {
     ghost use Rattle.exchange_core.specs.Log.{Goes};
     ghost use Rattle.shard_exchange.specs.EndedBy.{MayEnd};
     ghost use Rattle.shard_exchange.specs.Ends.{moves, Frees, IsEnded};
+    ghost use Rattle.shard_exchange.specs.Outcomes.{LeavesQueue};
 
     /// Puts the service's connection back of a user's connection that is over.
     fn free_connection<P>(&mut self, at: &P, out: &mut H::Outside)
@@ -82,8 +85,9 @@ impl<H: Holder> Exchange<H> {
         H: Effects<P>,
         ensures goes { Goes self.old.course self.new.course }
         ensures gone { is_gone self.new.course.phase ≡ true }
+        ensures left { (point : AnyPoint) → self.old.course.phase ≡ InQueue point → (later : H.Outside) × H.leaves later at.now point }
         ensures ended { moves self.old.course ≡ true
-            → IsEnded (MayEnd EndedBy.User (H.ends self.old.holdings (may_come self.old.course Withdrawn))) (λ end. H.follows self.old.holdings end self.new.holdings)
+            → IsEnded (MayEnd EndedBy.User (H.ends self.old.holdings (may_come self.old.course Withdrawn))) (λ end. H.follows self.old.holdings out.old end self.new.holdings)
             (H.answered self.old.holdings) (H.reusable self.old.holdings) self.old.course self.new.course }
     {
         // For the proof alone: this course is one that can be reached.
@@ -106,6 +110,7 @@ impl<H: Holder> Exchange<H> {
         H: Effects<P>,
         ensures goes { Goes self.old.course self.new.course }
         ensures gone { is_gone self.new.course.phase ≡ true }
+        ensures left { LeavesQueue (λ later. H.leaves later at.now) self.old.course self.new.course }
         ensures over { is_over self.new.course ≡ true }
     {
         self.lose_message(rt, at, out);

@@ -32,7 +32,7 @@ impl<H: Holder> Exchange<H> {
         H: Effects<P>,
         requires due { due_of self.old.course ≡ dues.Start }
         requires held { (self.old.course.stake ≡ true) × (self.old.course.origin ≡ true) }
-        ensures started { IsStarted (H.starts self.old.holdings self.new.holdings out.old at.now self.old.course) self.new.course }
+        ensures started { IsStarted (H.starts self.old.holdings self.new.holdings out.old at.now self.old.course) (H.keeps_user self.old.holdings self.new.holdings) (H.user_past self.old.holdings) self.old.course self.new.course }
         ensures goes { GoesOn self.old.course self.new.course }
     {
         match self.holdings.start(rt, at, out, self.course.course()) {
@@ -48,7 +48,7 @@ impl<H: Holder> Exchange<H> {
         H: Effects<P>,
         requires due { due_of self.old.course ≡ dues.AskGate }
         requires runs { self.old.course.stopping ≡ false }
-        ensures gated { IsGated (H.ends self.old.holdings (may_come self.old.course Withdrawn)) (λ end. H.follows self.old.holdings end self.new.holdings)
+        ensures gated { IsGated (λ later passes. H.lets_pass out.old later at.now passes) (H.ends self.old.holdings (may_come self.old.course Withdrawn)) (λ later end. H.follows self.old.holdings later end self.new.holdings)
             (H.answered self.old.holdings) (H.reusable self.old.holdings) self.old.holdings self.new.holdings self.old.course self.new.course }
         ensures goes { GoesOn self.old.course self.new.course }
     {
@@ -72,7 +72,7 @@ impl<H: Holder> Exchange<H> {
         requires due { due_of self.old.course ≡ dues.Turn }
         requires runs { self.old.course.stopping ≡ false }
         ensures turned { IsTurned (λ held turned later round. H.rounds held turned out.old later at.now round) (λ turned usable. H.frees turned self.new.holdings usable)
-            H.answered H.reusable H.ends (λ turned end. H.follows turned end self.new.holdings) H.repeats (λ out. H.is_late out at.now)
+            H.answered H.reusable H.ends (λ turned later end. H.follows turned later end self.new.holdings) H.repeats (λ out. H.is_late out at.now)
             self.old.holdings self.old.course self.new.course }
         ensures goes { Goes self.old.course self.new.course }
         ensures heeds { Heeds (H.is_late out.new at.now) self.new.course result }
@@ -185,7 +185,7 @@ impl<H: Holder> Exchange<H> {
         ensures stops { by ≡ EndedBy.Stop → Halts self.old.course self.new.course false }
         ensures withdrawn { is_withdrawing self.new.course.phase ≡ true
             → H.repeats self.old.holdings × (H.answered self.old.holdings ≡ false) × (may_come self.old.course Withdrawn ≡ true) }
-        ensures ended { IsEnded (MayEnd by (H.ends self.old.holdings (may_come self.old.course Withdrawn))) (λ end. H.follows self.old.holdings end self.new.holdings)
+        ensures ended { IsEnded (MayEnd by (H.ends self.old.holdings (may_come self.old.course Withdrawn))) (λ end. H.follows self.old.holdings out.old end self.new.holdings)
             (H.answered self.old.holdings) (H.reusable self.old.holdings) self.old.course self.new.course }
     {
         let report = self.holdings.settle(rt, at, out, by, &self.course);

@@ -46,8 +46,9 @@ impl<H: Holder> Exchange<H> {
     where
         H: Effects<P>,
         requires due { due_of self.old.course ≡ dues.Reserve }
-        ensures reserved { IsReserved self.old.course self.new.course }
+        ensures reserved { IsReserved (H.reserves self.new.holdings out.old) self.old.course self.new.course }
         ensures bears { Bears H.bears self.old.holdings self.new.holdings }
+        ensures line { H.keeps_line self.old.holdings self.new.holdings }
         ensures goes { GoesOn self.old.course self.new.course }
     {
         match self.holdings.reserve(rt, at, out) {
@@ -69,7 +70,8 @@ impl<H: Holder> Exchange<H> {
         H: Effects<P>,
         requires due { due_of self.old.course ≡ dues.Dial }
         ensures dialed { IsDialed (H.dials self.old.holdings self.new.holdings out.old out.new at.now) self.old.course self.new.course }
-        ensures bears { Bears H.bears self.old.holdings self.new.holdings }
+        ensures bears { Bears H.bears_but_origin self.old.holdings self.new.holdings }
+        ensures line { H.keeps_line self.old.holdings self.new.holdings }
         ensures goes { GoesOn self.old.course self.new.course }
     {
         let dialing = self.dialing();

@@ -19,7 +19,6 @@ impl<H: Holder> Exchange<H> {
     ghost use Rattle.exchange_core.specs.May.{may_come};
     ghost use Rattle.exchange_core.specs.declared.event.Event.TheVariants.{Renewed};
     ghost use Rattle.exchange_core.specs.declared.due.Due.TheVariants as dues;
-    ghost use Rattle.shard_exchange.specs.Leases.{Renews};
     ghost use Rattle.shard_exchange.specs.Outcomes.{Bears, IsAsked, IsHeard};
     ghost use Rattle.shard_exchange.specs.Steps.{Heeds, GoesOn};
 
@@ -30,6 +29,7 @@ impl<H: Holder> Exchange<H> {
         requires due { due_of self.old.course ≡ dues.Ask }
         ensures asked { IsAsked (H.asks self.new.holdings out.new) self.old.course self.new.course }
         ensures bears { Bears H.bears self.old.holdings self.new.holdings }
+        ensures line { H.keeps_line self.old.holdings self.new.holdings }
         ensures goes { GoesOn self.old.course self.new.course }
     {
         let point = self.phase().point();
@@ -49,8 +49,8 @@ impl<H: Holder> Exchange<H> {
     where
         H: Effects<P>,
         requires due { due_of self.old.course ≡ dues.Hear }
-        ensures heard { IsHeard (H.learns out.old out.new at.now) H.usable_after (H.asks self.new.holdings out.new)
-            (λ held. Renews H.leases held self.new.holdings) self.old.course self.new.course }
+        ensures heard { IsHeard (H.learns out.old out.new at.now) H.usable_after (λ held. H.keeps_line held self.new.holdings) (H.asks self.new.holdings out.new)
+            (λ held. H.renews held self.new.holdings out.old out.new at.now) self.old.course self.new.course }
         ensures bears { Bears H.bears self.old.holdings self.new.holdings }
         ensures goes { Goes self.old.course self.new.course }
         ensures heeds { Heeds (H.is_late out.new at.now) self.new.course result }
@@ -73,8 +73,8 @@ impl<H: Holder> Exchange<H> {
     where
         H: Effects<P>,
         requires due { due_of self.old.course ≡ dues.Hear }
-        ensures heard { IsHeard (H.learns out.old out.new at.now) H.usable_after (H.asks self.new.holdings out.new)
-            (λ held. Renews H.leases held self.new.holdings) self.old.course self.new.course }
+        ensures heard { IsHeard (H.learns out.old out.new at.now) H.usable_after (λ held. H.keeps_line held self.new.holdings) (H.asks self.new.holdings out.new)
+            (λ held. H.renews held self.new.holdings out.old out.new at.now) self.old.course self.new.course }
         ensures bears { Bears H.bears self.old.holdings self.new.holdings }
         ensures goes { Goes self.old.course self.new.course }
     {
@@ -90,8 +90,8 @@ impl<H: Holder> Exchange<H> {
     where
         H: Effects<P>,
         requires due { due_of self.old.course ≡ dues.Hear }
-        ensures heard { IsHeard (H.learns out.old out.new at.now) H.usable_after (H.asks self.new.holdings out.new)
-            (λ held. Renews H.leases held self.new.holdings) self.old.course self.new.course }
+        ensures heard { IsHeard (H.learns out.old out.new at.now) H.usable_after (λ held. H.keeps_line held self.new.holdings) (H.asks self.new.holdings out.new)
+            (λ held. H.renews held self.new.holdings out.old out.new at.now) self.old.course self.new.course }
         ensures bears { Bears H.bears self.old.holdings self.new.holdings }
         ensures goes { Goes self.old.course self.new.course }
     {
@@ -112,8 +112,8 @@ impl<H: Holder> Exchange<H> {
         H: Effects<P>,
         requires due { due_of self.old.course ≡ dues.Hear }
         requires may { may_come self.old.course Renewed ≡ true }
-        ensures heard { IsHeard (H.learns out.old out.new at.now) H.usable_after (H.asks self.new.holdings out.new)
-            (λ held. Renews H.leases held self.new.holdings) self.old.course self.new.course }
+        ensures heard { IsHeard (H.learns out.old out.new at.now) H.usable_after (λ held. H.keeps_line held self.new.holdings) (H.asks self.new.holdings out.new)
+            (λ held. H.renews held self.new.holdings out.old out.new at.now) self.old.course self.new.course }
         ensures bears { Bears H.bears self.old.holdings self.new.holdings }
         ensures goes { Goes self.old.course self.new.course }
     {

@@ -49,7 +49,7 @@ impl<H: Holder> Exchange<H> {
         requires user { is_for_user (due_of self.old.course) ≡ true }
         requires still { is_moved (due_of self.old.course) ≡ false }
         ensures course { self.new.course ≡ after self.old.course UserLost }
-        ensures bears { Bears H.bears self.old.holdings self.new.holdings }
+        ensures bears { Bears H.bears_message self.old.holdings self.new.holdings }
         ensures goes { Goes self.old.course self.new.course }
         ensures gone { is_gone self.new.course.phase ≡ true }
         ensures held { Keeps (H.hand self.old.holdings) (H.hand self.new.holdings) }
@@ -189,7 +189,7 @@ impl<H: Holder> Exchange<H> {
         requires due { due_of self.old.course ≡ dues.TryTell }
         ensures says { SaysInterim (H.user_past self.old.holdings) (H.user_past self.new.holdings) (H.hand self.old.holdings) (H.hand self.new.holdings)
             (after self.old.course Stuck) self.old.course self.new.course }
-        ensures bears { Bears H.bears self.old.holdings self.new.holdings }
+        ensures bears { Bears H.bears_message self.old.holdings self.new.holdings }
         ensures goes { Goes self.old.course self.new.course }
     {
         match self.holdings.tell(&self.course) {
@@ -207,7 +207,7 @@ impl<H: Holder> Exchange<H> {
         requires due { due_of self.old.course ≡ dues.Tell }
         ensures says { SaysInterim (H.user_past self.old.holdings) (H.user_past self.new.holdings) (H.hand self.old.holdings) (H.hand self.new.holdings)
             (if H.is_late out.old at.now then after self.old.course (Failed causes.Deadline) else self.old.course) self.old.course self.new.course }
-        ensures bears { Bears H.bears self.old.holdings self.new.holdings }
+        ensures bears { Bears H.bears_message self.old.holdings self.new.holdings }
         ensures goes { Goes self.old.course self.new.course }
         ensures heeds { Heeds (H.is_late out.new at.now) self.new.course result }
         ensures rests { result ≡ Step.Waits → SaysOn (H.user_past self.old.holdings) (H.user_past self.new.holdings) interim_text

@@ -38,6 +38,7 @@ impl<H: Holder> Exchange<H> {
         requires due { due_of self.old.course ≡ dues.Release }
         ensures course { self.new.course ≡ after self.old.course Released }
         ensures message { H.keeps_message self.old.holdings self.new.holdings }
+        ensures origin { H.keeps_origin self.old.holdings self.new.holdings }
         ensures goes { GoesOn self.old.course self.new.course }
     {
         self.holdings.release(rt, at, out);

@@ -25,9 +25,8 @@ impl<H: Holder> Exchange<H> {
     ghost use Rattle.exchange_core.specs.Course.{after};
     ghost use Rattle.exchange_core.specs.declared.event.Event.TheVariants.{Failed, Stuck, Withdrawn};
     ghost use Rattle.exchange_core.specs.declared.event.RefusalCause.TheVariants.{Deadline};
-    ghost use Rattle.shard_exchange.specs.Leases.{Renews};
-    ghost use Rattle.shard_exchange.specs.Outcomes.{Bears, Does, IsAsked, IsAwaited, IsDialed, IsGated, IsGivenBack, IsHeard, IsHungUp, IsLent, IsPlanned, IsRead, IsReleased, IsRequested, IsReserved, IsStarted, IsTurned, MovesOn, Refuses, SaysInterim, SaysLast};
-    ghost use Rattle.shard_exchange.specs.Steps.{Heeds, IsDone, GoesOn, is_step};
+    ghost use Rattle.shard_exchange.specs.Outcomes.{Bears, Does, IsAsked, IsAwaited, IsDialed, IsGated, IsGivenBack, IsHeard, IsHungUp, IsLent, IsPlanned, IsRead, IsReleased, IsRequested, IsReserved, IsStarted, IsTurned, LeavesQueue, MovesOn, Refuses, SaysInterim, SaysLast};
+    ghost use Rattle.shard_exchange.specs.Steps.{Heeds, IsDone, GoesOn, is_end, is_step};
 
     /// Does a task, and says how far that came. An exchange that only closes isn't stopped: it goes on with that.
     pub fn act<P, R: Wait>(
@@ -58,33 +57,33 @@ impl<H: Holder> Exchange<H> {
           rest = H.sends_nothing self.old.holdings self.new.holdings;
         }) (due_of self.old.course)
             ⊎ ((task ≡ Task.TakeLeave) × (held : H) × H.sends_nothing held self.new.holdings) }
-        ensures over { result ≡ Step.Over → is_over self.new.course ≡ true }
-        ensures lost { task ≡ Task.Lose → is_over self.new.course ≡ true }
+        ensures over { (result ≡ Step.Over → is_over self.new.course ≡ true) × (task ≡ Task.Lose → is_over self.new.course ≡ true) }
+        ensures left { is_end task ≡ true → LeavesQueue (λ later. H.leaves later at.now) self.old.course self.new.course }
         ensures does { is_step task self.old.course ≡ true → Does (record {
-          requested = IsRequested H.reads H.bears H.has_begun (H.is_late out.old at.now) self.old.holdings self.new.holdings self.old.course self.new.course;
+          requested = IsRequested H.reads H.bears_message H.bears H.keeps_line (λ held. (H.hand held).told) H.has_begun H.head_fault (H.is_late out.old at.now) (H.has_rested out.old at.now) self.old.holdings self.new.holdings self.old.course self.new.course;
           planned = IsPlanned (H.plans self.old.holdings self.new.holdings out.old at.now) self.old.course self.new.course;
-          lent = IsLent (H.leases self.new.holdings) (λ out. H.fails out at.now) (λ out. H.joins out at.now) self.old.course self.new.course × Bears H.bears self.old.holdings self.new.holdings;
-          awaited = IsAwaited (H.leases self.new.holdings) (λ out. H.fails out at.now) (λ out. H.has_waited out at.now) (λ out. H.is_late out at.now)
-              self.old.course self.new.course × Bears H.bears self.old.holdings self.new.holdings;
-          asked = IsAsked (H.asks self.new.holdings out.new) self.old.course self.new.course × Bears H.bears self.old.holdings self.new.holdings;
-          heard = IsHeard (H.learns out.old out.new at.now) H.usable_after (H.asks self.new.holdings out.new)
-              (λ held. Renews H.leases held self.new.holdings) self.old.course self.new.course × Bears H.bears self.old.holdings self.new.holdings;
-          reserved = IsReserved self.old.course self.new.course × Bears H.bears self.old.holdings self.new.holdings;
+          lent = IsLent (H.leases self.new.holdings out.old) (λ out. H.fails out at.now) (λ out. H.joins out at.now) self.old.course self.new.course × Bears H.bears self.old.holdings self.new.holdings;
+          awaited = IsAwaited (H.leases self.new.holdings out.old) (λ out. H.fails out at.now) (λ out. H.has_waited out at.now) (λ out. H.is_late out at.now)
+              self.old.course self.new.course × Bears H.bears self.old.holdings self.new.holdings × LeavesQueue (λ later. H.leaves later at.now) self.old.course self.new.course;
+          asked = IsAsked (H.asks self.new.holdings out.new) self.old.course self.new.course × Bears H.bears self.old.holdings self.new.holdings × H.keeps_line self.old.holdings self.new.holdings;
+          heard = IsHeard (H.learns out.old out.new at.now) H.usable_after (λ held. H.keeps_line held self.new.holdings) (H.asks self.new.holdings out.new)
+              (λ held. H.renews held self.new.holdings out.old out.new at.now) self.old.course self.new.course × Bears H.bears self.old.holdings self.new.holdings;
+          reserved = IsReserved (H.reserves self.new.holdings out.old) self.old.course self.new.course × Bears H.bears self.old.holdings self.new.holdings × H.keeps_line self.old.holdings self.new.holdings;
           tried = SaysInterim (H.user_past self.old.holdings) (H.user_past self.new.holdings) (H.hand self.old.holdings) (H.hand self.new.holdings)
-              (after self.old.course Stuck) self.old.course self.new.course × Bears H.bears self.old.holdings self.new.holdings;
+              (after self.old.course Stuck) self.old.course self.new.course × Bears H.bears_message self.old.holdings self.new.holdings;
           told = SaysInterim (H.user_past self.old.holdings) (H.user_past self.new.holdings) (H.hand self.old.holdings) (H.hand self.new.holdings)
-              (if H.is_late out.old at.now then after self.old.course (Failed Deadline) else self.old.course) self.old.course self.new.course × Bears H.bears self.old.holdings self.new.holdings;
-          dialed = IsDialed (H.dials self.old.holdings self.new.holdings out.old out.new at.now) self.old.course self.new.course × Bears H.bears self.old.holdings self.new.holdings;
-          started = IsStarted (H.starts self.old.holdings self.new.holdings out.old at.now self.old.course) self.new.course;
-          gated = IsGated (H.ends self.old.holdings (may_come self.old.course Withdrawn)) (λ end. H.follows self.old.holdings end self.new.holdings)
+              (if H.is_late out.old at.now then after self.old.course (Failed Deadline) else self.old.course) self.old.course self.new.course × Bears H.bears_message self.old.holdings self.new.holdings;
+          dialed = IsDialed (H.dials self.old.holdings self.new.holdings out.old out.new at.now) self.old.course self.new.course × Bears H.bears_but_origin self.old.holdings self.new.holdings × H.keeps_line self.old.holdings self.new.holdings;
+          started = IsStarted (H.starts self.old.holdings self.new.holdings out.old at.now self.old.course) (H.keeps_user self.old.holdings self.new.holdings) (H.user_past self.old.holdings) self.old.course self.new.course;
+          gated = IsGated (λ later passes. H.lets_pass out.old later at.now passes) (H.ends self.old.holdings (may_come self.old.course Withdrawn)) (λ later end. H.follows self.old.holdings later end self.new.holdings)
               (H.answered self.old.holdings) (H.reusable self.old.holdings) self.old.holdings self.new.holdings self.old.course self.new.course;
           turned = IsTurned (λ held turned later round. H.rounds held turned out.old later at.now round) (λ turned usable. H.frees turned self.new.holdings usable)
-              H.answered H.reusable H.ends (λ turned end. H.follows turned end self.new.holdings) H.repeats (λ out. H.is_late out at.now)
+              H.answered H.reusable H.ends (λ turned later end. H.follows turned later end self.new.holdings) H.repeats (λ out. H.is_late out at.now)
               self.old.holdings self.old.course self.new.course;
-          read = IsRead H.hears H.repeats H.withdraws (H.is_late out.old at.now) self.old.holdings self.new.holdings self.old.course self.new.course;
+          read = IsRead H.hears H.repeats H.withdraws H.head_fault (H.is_late out.old at.now) self.old.holdings self.new.holdings self.old.course self.new.course;
           given = IsGivenBack (H.puts self.old.holdings out.old out.new at.now) (H.gives_up self.old.holdings out.old out.new at.now)
               (H.stays self.old.holdings self.new.holdings) (H.has_line self.old.holdings) self.old.course self.new.course;
-          released = IsReleased self.old.course self.new.course × H.keeps_message self.old.holdings self.new.holdings;
+          released = IsReleased self.old.course self.new.course × H.keeps_message self.old.holdings self.new.holdings × H.keeps_origin self.old.holdings self.new.holdings;
           hung = IsHungUp (H.lays self.old.holdings out.old out.new at.now) (H.closes self.old.holdings out.old out.new at.now) self.old.course self.new.course × H.keeps_message self.old.holdings self.new.holdings;
           refused = λ status. Refuses (H.has_page out.old at.now status) (H.user_past self.old.holdings) (H.user_past self.new.holdings)
               (H.hand self.old.holdings) (H.hand self.new.holdings) status self.new.course.phase;
@@ -137,30 +136,30 @@ impl<H: Holder> Exchange<H> {
         }) (due_of self.old.course) }
         ensures over { result ≡ Step.Over ↔ is_over self.new.course ≡ true }
         ensures does { Does (record {
-          requested = IsRequested H.reads H.bears H.has_begun (H.is_late out.old at.now) self.old.holdings self.new.holdings self.old.course self.new.course;
+          requested = IsRequested H.reads H.bears_message H.bears H.keeps_line (λ held. (H.hand held).told) H.has_begun H.head_fault (H.is_late out.old at.now) (H.has_rested out.old at.now) self.old.holdings self.new.holdings self.old.course self.new.course;
           planned = IsPlanned (H.plans self.old.holdings self.new.holdings out.old at.now) self.old.course self.new.course;
-          lent = IsLent (H.leases self.new.holdings) (λ out. H.fails out at.now) (λ out. H.joins out at.now) self.old.course self.new.course × Bears H.bears self.old.holdings self.new.holdings;
-          awaited = IsAwaited (H.leases self.new.holdings) (λ out. H.fails out at.now) (λ out. H.has_waited out at.now) (λ out. H.is_late out at.now)
-              self.old.course self.new.course × Bears H.bears self.old.holdings self.new.holdings;
-          asked = IsAsked (H.asks self.new.holdings out.new) self.old.course self.new.course × Bears H.bears self.old.holdings self.new.holdings;
-          heard = IsHeard (H.learns out.old out.new at.now) H.usable_after (H.asks self.new.holdings out.new)
-              (λ held. Renews H.leases held self.new.holdings) self.old.course self.new.course × Bears H.bears self.old.holdings self.new.holdings;
-          reserved = IsReserved self.old.course self.new.course × Bears H.bears self.old.holdings self.new.holdings;
+          lent = IsLent (H.leases self.new.holdings out.old) (λ out. H.fails out at.now) (λ out. H.joins out at.now) self.old.course self.new.course × Bears H.bears self.old.holdings self.new.holdings;
+          awaited = IsAwaited (H.leases self.new.holdings out.old) (λ out. H.fails out at.now) (λ out. H.has_waited out at.now) (λ out. H.is_late out at.now)
+              self.old.course self.new.course × Bears H.bears self.old.holdings self.new.holdings × LeavesQueue (λ later. H.leaves later at.now) self.old.course self.new.course;
+          asked = IsAsked (H.asks self.new.holdings out.new) self.old.course self.new.course × Bears H.bears self.old.holdings self.new.holdings × H.keeps_line self.old.holdings self.new.holdings;
+          heard = IsHeard (H.learns out.old out.new at.now) H.usable_after (λ held. H.keeps_line held self.new.holdings) (H.asks self.new.holdings out.new)
+              (λ held. H.renews held self.new.holdings out.old out.new at.now) self.old.course self.new.course × Bears H.bears self.old.holdings self.new.holdings;
+          reserved = IsReserved (H.reserves self.new.holdings out.old) self.old.course self.new.course × Bears H.bears self.old.holdings self.new.holdings × H.keeps_line self.old.holdings self.new.holdings;
           tried = SaysInterim (H.user_past self.old.holdings) (H.user_past self.new.holdings) (H.hand self.old.holdings) (H.hand self.new.holdings)
-              (after self.old.course Stuck) self.old.course self.new.course × Bears H.bears self.old.holdings self.new.holdings;
+              (after self.old.course Stuck) self.old.course self.new.course × Bears H.bears_message self.old.holdings self.new.holdings;
           told = SaysInterim (H.user_past self.old.holdings) (H.user_past self.new.holdings) (H.hand self.old.holdings) (H.hand self.new.holdings)
-              (if H.is_late out.old at.now then after self.old.course (Failed Deadline) else self.old.course) self.old.course self.new.course × Bears H.bears self.old.holdings self.new.holdings;
-          dialed = IsDialed (H.dials self.old.holdings self.new.holdings out.old out.new at.now) self.old.course self.new.course × Bears H.bears self.old.holdings self.new.holdings;
-          started = IsStarted (H.starts self.old.holdings self.new.holdings out.old at.now self.old.course) self.new.course;
-          gated = IsGated (H.ends self.old.holdings (may_come self.old.course Withdrawn)) (λ end. H.follows self.old.holdings end self.new.holdings)
+              (if H.is_late out.old at.now then after self.old.course (Failed Deadline) else self.old.course) self.old.course self.new.course × Bears H.bears_message self.old.holdings self.new.holdings;
+          dialed = IsDialed (H.dials self.old.holdings self.new.holdings out.old out.new at.now) self.old.course self.new.course × Bears H.bears_but_origin self.old.holdings self.new.holdings × H.keeps_line self.old.holdings self.new.holdings;
+          started = IsStarted (H.starts self.old.holdings self.new.holdings out.old at.now self.old.course) (H.keeps_user self.old.holdings self.new.holdings) (H.user_past self.old.holdings) self.old.course self.new.course;
+          gated = IsGated (λ later passes. H.lets_pass out.old later at.now passes) (H.ends self.old.holdings (may_come self.old.course Withdrawn)) (λ later end. H.follows self.old.holdings later end self.new.holdings)
               (H.answered self.old.holdings) (H.reusable self.old.holdings) self.old.holdings self.new.holdings self.old.course self.new.course;
           turned = IsTurned (λ held turned later round. H.rounds held turned out.old later at.now round) (λ turned usable. H.frees turned self.new.holdings usable)
-              H.answered H.reusable H.ends (λ turned end. H.follows turned end self.new.holdings) H.repeats (λ out. H.is_late out at.now)
+              H.answered H.reusable H.ends (λ turned later end. H.follows turned later end self.new.holdings) H.repeats (λ out. H.is_late out at.now)
               self.old.holdings self.old.course self.new.course;
-          read = IsRead H.hears H.repeats H.withdraws (H.is_late out.old at.now) self.old.holdings self.new.holdings self.old.course self.new.course;
+          read = IsRead H.hears H.repeats H.withdraws H.head_fault (H.is_late out.old at.now) self.old.holdings self.new.holdings self.old.course self.new.course;
           given = IsGivenBack (H.puts self.old.holdings out.old out.new at.now) (H.gives_up self.old.holdings out.old out.new at.now)
               (H.stays self.old.holdings self.new.holdings) (H.has_line self.old.holdings) self.old.course self.new.course;
-          released = IsReleased self.old.course self.new.course × H.keeps_message self.old.holdings self.new.holdings;
+          released = IsReleased self.old.course self.new.course × H.keeps_message self.old.holdings self.new.holdings × H.keeps_origin self.old.holdings self.new.holdings;
           hung = IsHungUp (H.lays self.old.holdings out.old out.new at.now) (H.closes self.old.holdings out.old out.new at.now) self.old.course self.new.course × H.keeps_message self.old.holdings self.new.holdings;
           refused = λ status. Refuses (H.has_page out.old at.now status) (H.user_past self.old.holdings) (H.user_past self.new.holdings)
               (H.hand self.old.holdings) (H.hand self.new.holdings) status self.new.course.phase;
@@ -199,30 +198,30 @@ impl<H: Holder> Exchange<H> {
           rest = H.sends_nothing self.old.holdings self.new.holdings;
         }) (due_of self.old.course) }
         ensures does { Does (record {
-          requested = IsRequested H.reads H.bears H.has_begun (H.is_late out.old at.now) self.old.holdings self.new.holdings self.old.course self.new.course;
+          requested = IsRequested H.reads H.bears_message H.bears H.keeps_line (λ held. (H.hand held).told) H.has_begun H.head_fault (H.is_late out.old at.now) (H.has_rested out.old at.now) self.old.holdings self.new.holdings self.old.course self.new.course;
           planned = IsPlanned (H.plans self.old.holdings self.new.holdings out.old at.now) self.old.course self.new.course;
-          lent = IsLent (H.leases self.new.holdings) (λ out. H.fails out at.now) (λ out. H.joins out at.now) self.old.course self.new.course × Bears H.bears self.old.holdings self.new.holdings;
-          awaited = IsAwaited (H.leases self.new.holdings) (λ out. H.fails out at.now) (λ out. H.has_waited out at.now) (λ out. H.is_late out at.now)
-              self.old.course self.new.course × Bears H.bears self.old.holdings self.new.holdings;
-          asked = IsAsked (H.asks self.new.holdings out.new) self.old.course self.new.course × Bears H.bears self.old.holdings self.new.holdings;
-          heard = IsHeard (H.learns out.old out.new at.now) H.usable_after (H.asks self.new.holdings out.new)
-              (λ held. Renews H.leases held self.new.holdings) self.old.course self.new.course × Bears H.bears self.old.holdings self.new.holdings;
-          reserved = IsReserved self.old.course self.new.course × Bears H.bears self.old.holdings self.new.holdings;
+          lent = IsLent (H.leases self.new.holdings out.old) (λ out. H.fails out at.now) (λ out. H.joins out at.now) self.old.course self.new.course × Bears H.bears self.old.holdings self.new.holdings;
+          awaited = IsAwaited (H.leases self.new.holdings out.old) (λ out. H.fails out at.now) (λ out. H.has_waited out at.now) (λ out. H.is_late out at.now)
+              self.old.course self.new.course × Bears H.bears self.old.holdings self.new.holdings × LeavesQueue (λ later. H.leaves later at.now) self.old.course self.new.course;
+          asked = IsAsked (H.asks self.new.holdings out.new) self.old.course self.new.course × Bears H.bears self.old.holdings self.new.holdings × H.keeps_line self.old.holdings self.new.holdings;
+          heard = IsHeard (H.learns out.old out.new at.now) H.usable_after (λ held. H.keeps_line held self.new.holdings) (H.asks self.new.holdings out.new)
+              (λ held. H.renews held self.new.holdings out.old out.new at.now) self.old.course self.new.course × Bears H.bears self.old.holdings self.new.holdings;
+          reserved = IsReserved (H.reserves self.new.holdings out.old) self.old.course self.new.course × Bears H.bears self.old.holdings self.new.holdings × H.keeps_line self.old.holdings self.new.holdings;
           tried = SaysInterim (H.user_past self.old.holdings) (H.user_past self.new.holdings) (H.hand self.old.holdings) (H.hand self.new.holdings)
-              (after self.old.course Stuck) self.old.course self.new.course × Bears H.bears self.old.holdings self.new.holdings;
+              (after self.old.course Stuck) self.old.course self.new.course × Bears H.bears_message self.old.holdings self.new.holdings;
           told = SaysInterim (H.user_past self.old.holdings) (H.user_past self.new.holdings) (H.hand self.old.holdings) (H.hand self.new.holdings)
-              (if H.is_late out.old at.now then after self.old.course (Failed Deadline) else self.old.course) self.old.course self.new.course × Bears H.bears self.old.holdings self.new.holdings;
-          dialed = IsDialed (H.dials self.old.holdings self.new.holdings out.old out.new at.now) self.old.course self.new.course × Bears H.bears self.old.holdings self.new.holdings;
-          started = IsStarted (H.starts self.old.holdings self.new.holdings out.old at.now self.old.course) self.new.course;
-          gated = IsGated (H.ends self.old.holdings (may_come self.old.course Withdrawn)) (λ end. H.follows self.old.holdings end self.new.holdings)
+              (if H.is_late out.old at.now then after self.old.course (Failed Deadline) else self.old.course) self.old.course self.new.course × Bears H.bears_message self.old.holdings self.new.holdings;
+          dialed = IsDialed (H.dials self.old.holdings self.new.holdings out.old out.new at.now) self.old.course self.new.course × Bears H.bears_but_origin self.old.holdings self.new.holdings × H.keeps_line self.old.holdings self.new.holdings;
+          started = IsStarted (H.starts self.old.holdings self.new.holdings out.old at.now self.old.course) (H.keeps_user self.old.holdings self.new.holdings) (H.user_past self.old.holdings) self.old.course self.new.course;
+          gated = IsGated (λ later passes. H.lets_pass out.old later at.now passes) (H.ends self.old.holdings (may_come self.old.course Withdrawn)) (λ later end. H.follows self.old.holdings later end self.new.holdings)
               (H.answered self.old.holdings) (H.reusable self.old.holdings) self.old.holdings self.new.holdings self.old.course self.new.course;
           turned = IsTurned (λ held turned later round. H.rounds held turned out.old later at.now round) (λ turned usable. H.frees turned self.new.holdings usable)
-              H.answered H.reusable H.ends (λ turned end. H.follows turned end self.new.holdings) H.repeats (λ out. H.is_late out at.now)
+              H.answered H.reusable H.ends (λ turned later end. H.follows turned later end self.new.holdings) H.repeats (λ out. H.is_late out at.now)
               self.old.holdings self.old.course self.new.course;
-          read = IsRead H.hears H.repeats H.withdraws (H.is_late out.old at.now) self.old.holdings self.new.holdings self.old.course self.new.course;
+          read = IsRead H.hears H.repeats H.withdraws H.head_fault (H.is_late out.old at.now) self.old.holdings self.new.holdings self.old.course self.new.course;
           given = IsGivenBack (H.puts self.old.holdings out.old out.new at.now) (H.gives_up self.old.holdings out.old out.new at.now)
               (H.stays self.old.holdings self.new.holdings) (H.has_line self.old.holdings) self.old.course self.new.course;
-          released = IsReleased self.old.course self.new.course × H.keeps_message self.old.holdings self.new.holdings;
+          released = IsReleased self.old.course self.new.course × H.keeps_message self.old.holdings self.new.holdings × H.keeps_origin self.old.holdings self.new.holdings;
           hung = IsHungUp (H.lays self.old.holdings out.old out.new at.now) (H.closes self.old.holdings out.old out.new at.now) self.old.course self.new.course × H.keeps_message self.old.holdings self.new.holdings;
           refused = λ status. Refuses (H.has_page out.old at.now status) (H.user_past self.old.holdings) (H.user_past self.new.holdings)
               (H.hand self.old.holdings) (H.hand self.new.holdings) status self.new.course.phase;

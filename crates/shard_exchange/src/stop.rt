@@ -4,12 +4,14 @@ ghost use Rattle.std.specs.Prelude.{◌≡◌, ◌⊎◌, ◌&&◌, ◌||◌, �
 ghost use Rattle.exchange_core.specs.declared.course.Course.{Course};
 ghost use Rattle.exchange_core.specs.declared.event.Event.TheVariants.{Stop, Withdrawn};
 ghost use Rattle.exchange_core.specs.declared.due.Due.TheVariants as dues;
-ghost use Rattle.exchange_core.specs.May.{may_come, is_gone, is_head, is_idle, is_refusing};
+ghost use Rattle.exchange_core.specs.May.{may_come, is_gone, is_head, is_idle, is_in_queue, is_refusing};
+ghost use Rattle.exchange_core.specs.declared.phase.Phase.TheVariants.{InQueue};
+ghost use Rattle.trace_core.specs.declared.history.Point.{Point as AnyPoint};
 ghost use Rattle.exchange_core.specs.Dues.{due_of, is_over};
 ghost use Rattle.exchange_core.specs.Log.{Goes};
 ghost use Rattle.shard_exchange.specs.EndedBy.{MayEnd};
 ghost use Rattle.shard_exchange.specs.Ends.{moves, Frees, Halts, IsEnded, is_stopped};
-ghost use Rattle.shard_exchange.specs.Outcomes.{SaysLast};
+ghost use Rattle.shard_exchange.specs.Outcomes.{LeavesQueue, SaysLast};
 ghost use Rattle.shard_exchange.specs.Saying.{SaysOn, refusal_by};
 
 use crate::answers::Lingered;
@@ -56,7 +58,7 @@ impl<H: Holder> Exchange<H> {
         ensures still { moves self.new.course ≡ false }
         ensures stops { Halts self.old.course self.new.course false }
         ensures ended { (mid : Course) × (held : H) × (self.new.course.phase ≡ mid.phase) × (self.new.course.connection ≡ mid.connection)
-            × IsEnded (MayEnd EndedBy.Stop (H.ends self.old.holdings (may_come self.old.course Withdrawn))) (λ end. H.follows self.old.holdings end held)
+            × IsEnded (MayEnd EndedBy.Stop (H.ends self.old.holdings (may_come self.old.course Withdrawn))) (λ end. H.follows self.old.holdings out.old end held)
             (H.answered self.old.holdings) (H.reusable self.old.holdings) self.old.course mid }
         ensures alone { H.answered self.old.holdings ≡ true → is_refusing self.new.course.phase ≡ false }
     {
@@ -92,6 +94,7 @@ impl<H: Holder> Exchange<H> {
         ensures goes { Goes self.old.course self.new.course }
         ensures still { moves self.new.course ≡ false }
         ensures stops { Halts self.old.course self.new.course (H.has_begun self.old.holdings) }
+        ensures left { (point : AnyPoint) → self.old.course.phase ≡ InQueue point → is_in_queue self.new.course.phase ≡ false → (later : H.Outside) × H.leaves later at.now point }
     {
         let is_in_head = self.is_in_head();
         self.note_refusal(at, out, is_in_head);
@@ -108,6 +111,7 @@ impl<H: Holder> Exchange<H> {
         ensures goes { Goes self.old.course self.new.course }
         ensures still { moves self.new.course ≡ false }
         ensures stops { Halts self.old.course self.new.course (H.has_begun self.old.holdings) }
+        ensures left { (point : AnyPoint) → self.old.course.phase ≡ InQueue point → is_in_queue self.new.course.phase ≡ false → (later : H.Outside) × H.leaves later at.now point }
         ensures alone { moves self.old.course ≡ true → H.answered self.old.holdings ≡ true → is_refusing self.new.course.phase ≡ false }
     {
         // For the proof alone: this course is one that can be reached.
@@ -142,6 +146,7 @@ impl<H: Holder> Exchange<H> {
         ensures goes { Goes self.old.course self.new.course }
         ensures still { moves self.new.course ≡ false }
         ensures stops { Halts self.old.course self.new.course (H.has_begun self.old.holdings) }
+        ensures left { LeavesQueue (λ later. H.leaves later at.now) self.old.course self.new.course }
         ensures alone { moves self.old.course ≡ true → H.answered self.old.holdings ≡ true → is_refusing self.new.course.phase ≡ false }
         ensures gone { is_gone self.new.course.phase ≡ true → is_over self.new.course ≡ true }
         ensures over { result ≡ Step.Over → is_over self.new.course ≡ true }

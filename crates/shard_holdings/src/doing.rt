@@ -1,13 +1,14 @@
 //! What is done with the surroundings.
 
-ghost use Rattle.std.specs.Prelude.{◌≡◌, ◌⊎◌, ℕ, Option, is_some, true, false, IfSome, IsSomeAnd};
+ghost use Rattle.std.specs.Prelude.{◌≡◌, ◌⊎◌, ℕ, Option, Some, None, is_some, true, false, IfSome, IsSomeAnd};
 ghost use Rattle.exchange_core.specs.Course.{is_offered};
 ghost use Rattle.exchange_core.specs.declared.dialing.Dialing.TheVariants.{KeptFirst};
 ghost use Rattle.shard_message.specs.Begun.{IsMannerOf};
 ghost use Rattle.shard_message.specs.Dialed.{LeadsAsPlanned};
 ghost use Rattle.shard_message.specs.Ended.{HasGiven};
-ghost use Rattle.shard_message.specs.Lines.{line_in};
-ghost use Rattle.shard_message.specs.Outset.{IsLineAfter, Outset, SetsOut};
+ghost use Rattle.shard_message.specs.Lines.{line_in, HasLine, IsRenewed};
+ghost use Rattle.shard_message.specs.Outset.{BeginsClean, IsLineAfter, Outset, SetsOut};
+ghost use Rattle.shard_holdings.specs.Borne.{plan_of};
 ghost use Rattle.shard_holdings.specs.Settled.{LaysOrNot};
 ghost use Rattle.shard_holdings.specs.Started.{Starts};
 ghost use Rattle.shard_message.specs.Learning.{IsAsking, IsLearned};
@@ -25,10 +26,11 @@ use shard_exchange::{
     Effects, End, EndedBy, Lingered, Marks, Reason, Report, Round, Started, Unplanned, Withdrawal,
 };
 use shard_message::{
-    Accounted, Connection, Dialed, LastingOrigin, Moves, Moving, Outside, Reusable, Settled,
-    begin_anew, begin_asking, clear, dial_for, finish_user, has_given_none, is_fresh, is_reusable,
-    keep, keep_plan, lay, lay_page, leave_queue, linger_on, make_room, manner_of, note_refused,
-    note_stopped, put_in, refusal_by, request_again, say_to, take_connections, take_out,
+    Accounted, Connection, Dialed, LastingOrigin, Moves, Moving, OnItsWay, Outside, Reusable,
+    Settled, begin_anew, begin_asking, clear, dial_for, finish_user, has_given_none, is_fresh,
+    is_reusable, keep, keep_plan, lay, lay_page, leave_queue, linger_on, make_room, manner_of,
+    note_refused, note_stopped, put_in, refusal_by, request_again, say_to, take_connections,
+    take_out,
 };
 use span_bank::Pages;
 use std::sync::Wait;
@@ -43,7 +45,7 @@ fn take_in<P, O: Outside<P>>(
 ) -> bool
     requires { is_some slot.old ≡ false }
     ensures kept { is_some slot.new ≡ true }
-    ensures leased { IfSome slot.new (λ leased. leased.lease ≡ lease) }
+    ensures leased { IfSome slot.new (λ leased. (leased.lease ≡ lease) × (leased.wire ≡ Some wire)) }
     ensures reused { result ≡ O.is_reused lease }
 {
     let reused = O::is_reused(&lease);
@@ -55,20 +57,40 @@ fn take_in<P, O: Outside<P>>(
 impl<P, O: Outside<P>> Effects<P> for Holdings<O> {
     ghost is_late = { λ out at. O.is_late out at };
 
+    ghost has_rested = { λ out at. O.has_rested out at };
+
     ghost has_waited = { λ out at waited. O.has_waited out at waited };
+
+    ghost lets_pass = { λ old new at passes. O.lets_pass old new at passes };
 
     ghost fails = { λ out at fault. O.fails out at fault };
 
     ghost joins = { λ out at point joined. O.joins out at point joined };
 
-    ghost plans = { λ old new out at asked result. (new.message ≡ old.message) × IfSome old.message (λ message.
+    ghost leaves = { λ out at point. O.leaves out at point };
+
+    ghost plans = { λ old new out at asked result. (new.message ≡ old.message) × (new.user ≡ old.user) × (new.connection ≡ old.connection)
+        × (new.origin ≡ old.origin) × (new.before ≡ old.before) × IfSome old.message (λ message.
         PlansBy (O.config_is out) (O.limits_are out) (O.book_is out) (O.now_is out at) (O.user_is_at out at) asked message.value old.planned new.planned result) };
 
     ghost learns = { λ old new at point answer. IsLearned (O.config_is old) (O.now_is old at) (O.keeps old new at point) point answer };
 
-    ghost leases = { λ held point reused. IfSome held.connection (λ leased. (O.point_of leased.lease ≡ point) × (O.is_reused leased.lease ≡ reused)) };
+    ghost leases = { λ held out point reused. IfSome held.connection (λ leased. (O.point_of leased.lease ≡ point) × (O.is_reused leased.lease ≡ reused)
+        × IsSomeAnd leased.wire (λ wire. O.serves out wire leased.lease)) };
+
+    ghost renews = { λ held later out after at. IsRenewed (λ leased. leased.wire) (λ old new. (O.point_of new.lease ≡ O.point_of old.lease) × (O.is_reused new.lease ≡ false))
+        (λ wire new. O.serves out wire new.lease × O.is_opened after at wire) held.connection later.connection };
 
     ghost asks = { λ held out point. IsSomeAnd held.asking (λ side. IsAsking (O.config_is out) point side.value.waiting) };
+
+    ghost bears_but_origin = { λ first held. (held.user ≡ first.user) × (held.message ≡ first.message)
+        × (plan_of (λ room. room.planned) held.planned held.room ≡ plan_of (λ room. room.planned) first.planned first.room) };
+
+    ghost keeps_origin = { λ old new. (new.origin ≡ old.origin) × (new.before ≡ old.before) };
+
+    ghost keeps_user = { λ old new. new.user ≡ old.user };
+
+    ghost reserves = { λ held out. IfSome held.room (λ room. O.limits_are out room.limits) };
 
     ghost dials = { λ old new out dialed at dialing kept. IfSome new.origin (λ origin. LeadsAsPlanned (λ room. room.planned) (O.leads origin) old.room
         × (dialing ≡ KeptFirst → LeadsAsPlanned (λ room. room.planned) (λ address. (later : O) × O.takes out later at address (taken_if kept origin)) old.room)
@@ -85,6 +107,14 @@ impl<P, O: Outside<P>> Effects<P> for Holdings<O> {
         × ((s : Outset O.User O.Service O.Origin) → ⟦<Moving<O> as Accounted<O>>⟧.since s tx
         → (line : Option O.Service) × (given : Option O.Service) × IsLineAfter (O.is_opened later at) round s.line s.given line given
         × ⟦<Moving<O> as Accounted<O>>⟧.since (record s { line = line; given = given }) next))) };
+
+    ghost follows = { λ held out end later. elim held.tx [
+      | None ↦ ⊥
+      | Some tx ↦ (later.before ≡ held.before) × (later.user ≡ Some (⟦<Moving<O> as Accounted<O>>⟧.user tx)) × (later.origin ≡ Some (⟦<Moving<O> as Accounted<O>>⟧.origin tx))
+          × IfSome (⟦<Moving<O> as Accounted<O>>⟧.service tx) (HasLine (λ leased. leased.wire) later.connection)
+          × ⟦<Moving<O> as OnItsWay>⟧.followed_by tx end later.message × ⟦<Moving<O> as OnItsWay>⟧.carries_on (O.config_is out) tx end later.message
+          × ((s : Outset O.User O.Service O.Origin) → ⟦<Moving<O> as Accounted<O>>⟧.since s tx → BeginsClean O.Origin.Wire end s.origin later.origin later.message)
+    ] };
 
     ghost lays = { λ held old new at kept. IfSome held.origin (λ origin. LaysOrNot (O.lays old new at origin) (O.turns_down old new at origin) kept) };
 

@@ -1,14 +1,17 @@
 //! What is done over what is held alone.
 
-ghost use Rattle.std.specs.Prelude.{◌≡◌, ◌++◌, ℕ, List, Option, is_some, option_map, true, false, None, Some, IfSome, IsSomeAnd, ⊤};
+ghost use Rattle.std.specs.Prelude.{◌≡◌, ◌++◌, ◌&&◌, ℕ, List, Option, is_some, option_map, true, false, None, Some, IfSome, IsSomeAnd, ⊤};
 ghost use Rattle.proxy_rules.specs.Arrivals.{Came};
 ghost use Rattle.shard_message.specs.Ended.{HasGiven, HasGivenSince, IsBarred};
-ghost use Rattle.shard_message.specs.Outset.{BeginsClean, Outset};
+ghost use Rattle.shard_message.specs.Outset.{Outset};
 ghost use Rattle.shard_exchange.specs.Hand.{hand_of, refused_of};
 ghost use Rattle.shard_exchange.specs.Saying.{past_of};
 ghost use Rattle.icap_client.specs.declared.options.OptionsStage.TheVariants.{Over};
 ghost use Rattle.shard_exchange.specs.declared.answers.HeadTurn.TheVariants.{Nothing};
+ghost use Rattle.shard_message.specs.Faults.{head_fault_of};
+ghost use Rattle.shard_message.specs.HeadTurns.{TellsTurn};
 ghost use Rattle.shard_message.specs.Lines.{line_in};
+ghost use Rattle.shard_message.specs.Told.{IsRequestAgain};
 ghost use Rattle.shard_message.specs.Usable.{usable_by};
 ghost use Rattle.shard_message.specs.Waits.{GivesNone, MovesNone};
 ghost use Rattle.proxy_rules.specs.Since.{held_or};
@@ -55,19 +58,18 @@ impl<O: Kinds> Holder for Holdings<O> {
           (HasGivenSince O.Origin.past (⟦<Moving<O> as Accounted<O>>⟧.origin tx) held.before.0) may_withdraw) end
     ] };
 
-    ghost follows = { λ held end later. elim held.tx [
-      | None ↦ ⊥
-      | Some tx ↦ ⟦<Moving<O> as OnItsWay>⟧.followed_by tx end later.message
-          × ((s : Outset O.User O.Service O.Origin) → ⟦<Moving<O> as Accounted<O>>⟧.since s tx → BeginsClean O.Origin.Wire end s.origin later.origin later.message)
-    ] };
-
     ghost stays = { λ held later. (later.tx ≡ held.tx) × (later.before ≡ held.before) × (later.user ≡ held.user) × (later.origin ≡ held.origin)
         × (later.message ≡ held.message) × (later.planned ≡ held.planned) × (later.room ≡ held.room) };
 
-    ghost bears = { λ first held. (held.message ≡ first.message)
+    ghost bears_message = { λ first held. (held.message ≡ first.message)
         × (plan_of (λ room. room.planned) held.planned held.room ≡ plan_of (λ room. room.planned) first.planned first.room) };
 
-    ghost keeps_message = { λ old new. new.message ≡ old.message };
+    ghost bears = { λ first held. (held.user ≡ first.user) × (held.origin ≡ first.origin) × (held.before ≡ first.before) × (held.message ≡ first.message)
+        × (plan_of (λ room. room.planned) held.planned held.room ≡ plan_of (λ room. room.planned) first.planned first.room) };
+
+    ghost keeps_line = { λ old new. new.connection ≡ old.connection };
+
+    ghost keeps_message = { λ old new. (new.message ≡ old.message) × (new.user ≡ old.user) };
 
     ghost frees = { λ held later usable. (later.before ≡ held.before) × IsSomeAnd held.tx (λ tx. IsFreed (⟦<Moving<O> as OnItsWay>⟧.heard tx) (⟦<Moving<O> as Accounted<O>>⟧.service tx) (λ leased. leased.wire) later.connection usable
         × IsSomeAnd later.tx (λ next. (s : Outset O.User O.Service O.Origin) → ⟦<Moving<O> as Accounted<O>>⟧.since s tx
@@ -79,18 +81,23 @@ impl<O: Kinds> Holder for Holdings<O> {
       | Some tx ↦ HasGiven O.Origin.past (⟦<Moving<O> as Accounted<O>>⟧.origin tx) held.before.0
     ] };
 
-    ghost withdraws = { λ held came. WithdrawsAs (is_some held.message) (IfSome held.origin (λ origin. HasGivenSince O.Origin.past origin held.before.0)) came };
+    ghost withdraws = { λ held later came. (later.user ≡ held.user) × (later.connection ≡ held.connection) × (later.origin ≡ held.origin) × WithdrawsAs (IsSomeAnd held.message (λ response. IsSomeAnd later.message (λ again. IfSome response.value.user (λ request.
+        IsRequestAgain request again.value)))) (IfSome held.origin (λ origin. HasGivenSince O.Origin.past origin held.before.0)) came };
 
-    ghost reads = { λ old new turn. (new.origin ≡ old.origin) × (new.connection ≡ old.connection) × (new.before ≡ old.before)
-        × (turn ≡ Some Nothing → GivesNone (past_of O.User.past old.user) (past_of O.User.past new.user)) × IfSome old.message (λ m. IfSome old.user (λ w.
+    ghost reads = { λ old new turn. (is_some turn ≡ (is_some old.message && is_some old.user)) × (is_some new.user ≡ is_some old.user) × (new.origin ≡ old.origin) × (new.connection ≡ old.connection) × (new.before ≡ old.before)
+        × (turn ≡ Some Nothing → GivesNone (past_of O.User.past old.user) (past_of O.User.past new.user))
+        × IfSome turn (λ turn. IsSomeAnd old.message (λ m. IsSomeAnd new.message (λ n. TellsTurn m.value.side n.value.side (past_of O.User.past old.user) (past_of O.User.past new.user) turn)))
+        × IfSome old.message (λ m. IfSome old.user (λ w.
         (first : O.User) (ahead since beside : List ℕ) → Came O.User.Wire first ahead since beside m.value.side w
         → IfSome new.message (λ n. IfSome new.user (λ v. (more : List ℕ) × Came O.User.Wire first ahead (since ++ more) beside n.value.side v)))) };
 
     ghost hears_nothing = { λ old new. MovesNone (IsSomeAnd old.asking (λ side. side.value.stage ≡ Over))
         (past_of O.Service.past (line_in (λ leased. leased.wire) old.connection)) (past_of O.Service.past (line_in (λ leased. leased.wire) new.connection)) };
 
-    ghost hears = { λ old new turn. (new.user ≡ old.user) × (new.connection ≡ old.connection) × (new.before ≡ old.before)
-        × (turn ≡ Some Nothing → GivesNone (past_of O.Origin.past old.origin) (past_of O.Origin.past new.origin)) × IfSome old.message (λ m. IfSome old.origin (λ w.
+    ghost hears = { λ old new turn. (is_some turn ≡ (is_some old.message && is_some old.origin)) × (new.user ≡ old.user) × (new.connection ≡ old.connection) × (new.before ≡ old.before)
+        × (turn ≡ Some Nothing → GivesNone (past_of O.Origin.past old.origin) (past_of O.Origin.past new.origin))
+        × IfSome turn (λ turn. IsSomeAnd old.message (λ m. IsSomeAnd new.message (λ n. TellsTurn m.value.side n.value.side (past_of O.Origin.past old.origin) (past_of O.Origin.past new.origin) turn)))
+        × IfSome old.message (λ m. IfSome old.origin (λ w.
         (first : O.Origin) (ahead since beside : List ℕ) → Came O.Origin.Wire first ahead since beside m.value.side w
         → IfSome new.message (λ n. IfSome new.origin (λ v. (more : List ℕ) × Came O.Origin.Wire first ahead (since ++ more) beside n.value.side v)))) };
 
@@ -100,6 +107,8 @@ impl<O: Kinds> Holder for Holdings<O> {
     ] };
 
     ghost has_begun = { λ held. has_come held.message };
+
+    ghost head_fault = { λ held. head_fault_of held.message };
 
     fn has_begun(&self) -> bool {
         match &self.message {

@@ -3,6 +3,7 @@
 ghost use Rattle.std.specs.Prelude.{◌≡◌, ◌&&◌, ◌||◌, is_some, option_map, None, Some, IfSome, IsSomeAnd, true, false};
 ghost use Rattle.std.specs.Option.{ForSome};
 ghost use Rattle.shard_exchange.specs.Hand.{IsEmpty};
+ghost use Rattle.shard_message.specs.Lines.{HasLine};
 
 use icap_client::OptionsSide;
 use proxy_rules::Incoming;
@@ -59,6 +60,7 @@ impl<O: Kinds> Holdings<O> {
     /// The user's connection, and the message whose head is to be read.
     pub fn new(user: O::User, message: Option<Box<Incoming>>) -> Holdings<O>
         ensures none { (result.connection ≡ None) × (result.room ≡ None) × (result.origin ≡ None) × (result.tx ≡ None) }
+        ensures has { (result.user ≡ Some user) × (result.message ≡ message) × (result.planned ≡ None) × (result.asking ≡ None) }
         ensures silent { (result.told ≡ 0) × (result.refused ≡ 0) × (result.page ≡ None) }
     {
         Holdings {
@@ -141,7 +143,9 @@ impl<O: Kinds> Holdings<O> {
         ensures leased { is_some self.new.connection ≡ is_some self.old.connection }
         ensures back { (is_some self.new.room ≡ true) × (self.new.origin ≡ Some remains.connections.origin) × (self.new.tx ≡ None) }
         ensures said { (self.new.told ≡ self.old.told) × (self.new.refused ≡ self.old.refused) × (self.new.page ≡ self.old.page) }
-        ensures message { self.new.message ≡ self.old.message }
+        ensures kept { (self.new.message ≡ self.old.message) × (self.new.before ≡ self.old.before) }
+        ensures user { self.new.user ≡ Some remains.connections.user }
+        ensures line { IfSome remains.connections.service (HasLine (λ leased. leased.wire) self.new.connection) }
     {
         let Remains { room, connections } = remains;
         put_in(&mut self.room, room);

@@ -1,6 +1,6 @@
 //! The exchanges of a thread, at its desk: what becomes of each is done with the desk as its surroundings.
 
-ghost use Rattle.std.specs.Prelude.{◌≡◌, is_some, None, true};
+ghost use Rattle.std.specs.Prelude.{◌≡◌, is_some, None, Some, true};
 ghost use Rattle.exchange_core.specs.Course.{start, after};
 ghost use Rattle.exchange_core.specs.declared.event.Event.TheVariants.{Failed};
 ghost use Rattle.exchange_core.specs.declared.event.RefusalCause.TheVariants.{Scarce};
@@ -38,6 +38,7 @@ fn first_message(alloc: Global, purpose: Purpose) -> Option<Box<Incoming>>
 /// What a user's connection begins with: its first request, or the refusal where there is none.
 fn begin_with<O: Kinds>(user: O::User, message: Option<Box<Incoming>>) -> Exchange<Holdings<O>>
     ensures empty { IsEmpty (⟦<Holdings<O> as InHand>⟧.hand result.holdings) }
+    ensures has { (result.holdings.user ≡ Some user) × (result.holdings.message ≡ message) }
     ensures served { is_some message ≡ true → result.course ≡ start }
     ensures refused { message ≡ None → result.course ≡ after start (Failed Scarce) }
 {

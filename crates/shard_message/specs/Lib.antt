@@ -5,6 +5,8 @@ pub mod Usable
 pub mod Begun
 pub mod Dialed
 pub mod Ended
+pub mod Faults
+pub mod HeadTurns
 pub mod Lines
 pub mod Outset
 pub mod Rounds

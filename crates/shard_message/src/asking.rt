@@ -1,11 +1,11 @@
 //! A leased connection on which a service is asked for its options.
 
-ghost use Rattle.std.specs.Prelude.{◌≡◌, is_some, Some, IfOk, IfErr, IfSome, IsSomeAnd, false, true};
+ghost use Rattle.std.specs.Prelude.{◌≡◌, is_some, Some, IfOk, IfErr, IsSomeAnd, false, true};
 ghost use Rattle.shard_exchange.specs.Reasons.{lies_elsewhere};
 ghost use Rattle.icap_client.specs.declared.options.OptionsStage.TheVariants.{Over};
 ghost use Rattle.shard_exchange.specs.Saying.{past_of};
 ghost use Rattle.shard_message.specs.Learning.{IsAsking};
-ghost use Rattle.shard_message.specs.Lines.{line_in};
+ghost use Rattle.shard_message.specs.Lines.{line_in, IsRenewed};
 ghost use Rattle.shard_message.specs.Waits.{MovesNone};
 
 use crate::connection::{Connection, lay_wire};
@@ -56,6 +56,7 @@ fn reopen<P, O: Outside<P>>(
 ) -> Result<O::Service, Reason>
     ensures point { O.point_of connection.new.lease ≡ O.point_of connection.old.lease }
     ensures fresh { IfOk result (λ _. O.is_reused connection.new.lease ≡ false) }
+    ensures opened { IfOk result (λ wire. O.serves out.old wire connection.new.lease × O.is_opened out.new at.now wire) }
     ensures suits { IfErr result (λ reason. lies_elsewhere reason ≡ true) }
 {
     connection.wire = None;
@@ -72,8 +73,8 @@ fn renew<P, O: Outside<P>>(
     connection: &mut Option<Connection<O>>,
 ) -> Result<(), Reason>
     ensures leased { is_some connection.new ≡ is_some connection.old }
-    ensures fresh { IfOk result (λ _. IfSome connection.old (λ old. IfSome connection.new (λ new.
-        (O.point_of new.lease ≡ O.point_of old.lease) × (O.is_reused new.lease ≡ false)))) }
+    ensures fresh { IfOk result (λ _. IsRenewed (λ leased. leased.wire) (λ old new. (O.point_of new.lease ≡ O.point_of old.lease) × (O.is_reused new.lease ≡ false))
+        (λ wire new. O.serves out.old wire new.lease × O.is_opened out.new at.now wire) connection.old connection.new) }
     ensures suits { IfErr result (λ reason. lies_elsewhere reason ≡ true) }
 {
     let opened = match connection {
@@ -98,8 +99,8 @@ pub fn begin_anew<P, O: Outside<P>>(
     leased: &mut Option<Connection<O>>,
 ) -> Result<(), Reason>
     ensures leased { is_some leased.new ≡ is_some leased.old }
-    ensures fresh { IfOk result (λ _. IfSome leased.old (λ old. IfSome leased.new (λ new.
-        (O.point_of new.lease ≡ O.point_of old.lease) × (O.is_reused new.lease ≡ false)))) }
+    ensures fresh { IfOk result (λ _. IsRenewed (λ leased. leased.wire) (λ old new. (O.point_of new.lease ≡ O.point_of old.lease) × (O.is_reused new.lease ≡ false))
+        (λ wire new. O.serves out.old wire new.lease × O.is_opened out.new at.now wire) leased.old leased.new) }
     ensures asks { IfOk result (λ _. IsSomeAnd asking.new (λ side. IsAsking (O.config_is out.new) point side.value.waiting)) }
     ensures suits { IfErr result (λ reason. lies_elsewhere reason ≡ true) }
 {

@@ -1,8 +1,10 @@
 //! Heads of messages: the user's requests, and the origins' responses.
 
-ghost use Rattle.std.specs.Prelude.{◌≡◌, ◌<◌, ◌++◌, ℕ, List, length, Some, IfSome, is_some};
+ghost use Rattle.std.specs.Prelude.{◌≡◌, ◌<◌, ◌++◌, ◌&&◌, ℕ, List, length, Some, IfSome, IsSomeAnd, is_some};
 ghost use Rattle.proxy_rules.specs.Arrivals.{Came};
 ghost use Rattle.shard_exchange.specs.Saying.{past_of};
+ghost use Rattle.shard_message.specs.Faults.{head_fault_of};
+ghost use Rattle.shard_message.specs.HeadTurns.{part_of, TellsTurn};
 ghost use Rattle.shard_message.specs.Waits.{GivesNone};
 
 use adapt_sides::WIRE_ROOM;
@@ -16,7 +18,7 @@ use wire_kit::Wire;
 /// What a turn means that read bytes of a head which isn't whole. After an interim response they count as one: an origin that never
 /// answers could send such heads in pieces for ever.
 fn part_of(message: &Incoming) -> HeadTurn
-    ensures { result ≡ HeadTurn.Nothing → ⊥ }
+    ensures { result ≡ part_of message.now.side.interims }
 {
     if message.has_interims() {
         HeadTurn::Interim
@@ -30,6 +32,7 @@ fn head_turn<W: Wire>(message: &mut Incoming, wire: &mut W, buffer: &mut [u8]) -
     requires { 0 < length buffer.old }
     ensures came { (first : W) (ahead since beside : List ℕ) → Came W.Wire first ahead since beside message.old.side wire.old
         → (more : List ℕ) × Came W.Wire first ahead (since ++ more) beside message.new.side wire.new }
+    ensures told { TellsTurn message.old.side message.new.side (W.past wire.old) (W.past wire.new) result }
     ensures waits { result ≡ HeadTurn.Nothing → GivesNone (W.past wire.old) (W.past wire.new) }
 {
     let (before, _) = wire.counts();
@@ -49,10 +52,12 @@ pub fn turn_on<W: Wire>(
     buffer: &mut [u8; WIRE_ROOM],
 ) -> Option<HeadTurn>
     ensures there { is_some wire.new ≡ is_some wire.old }
+    ensures some { is_some result ≡ (is_some message.old && is_some wire.old) }
 
     // What the message has is what came over the connection since its first read.
     ensures came { IfSome message.old (λ m. IfSome wire.old (λ w. (first : W) (ahead since beside : List ℕ) → Came W.Wire first ahead since beside m.value.side w
         → IfSome message.new (λ n. IfSome wire.new (λ v. (more : List ℕ) × Came W.Wire first ahead (since ++ more) beside n.value.side v)))) }
+    ensures told { IfSome result (λ turn. IsSomeAnd message.old (λ m. IsSomeAnd message.new (λ n. TellsTurn m.value.side n.value.side (past_of W.past wire.old) (past_of W.past wire.new) turn))) }
     ensures waits { result ≡ Some HeadTurn.Nothing → GivesNone (past_of W.past wire.old) (past_of W.past wire.new) }
 {
     match (message, wire) {
@@ -62,7 +67,9 @@ pub fn turn_on<W: Wire>(
 }
 
 /// What is at fault in a message's head.
-pub fn fault_of(message: &Option<Box<Incoming>>) -> Option<HttpFault> {
+pub fn fault_of(message: &Option<Box<Incoming>>) -> Option<HttpFault>
+    ensures { result ≡ head_fault_of message.now }
+{
     match message {
         Some(message) => message.head_fault(),
         None => None,

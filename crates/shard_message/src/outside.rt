@@ -99,10 +99,16 @@ pub trait Clocked<P>: Kinds {
     // no byte of the exchange moved for longer than the deadline
     ghost is_late: { Self → P → Bool };
 
+    // its user has said nothing for so long that a proxy that drains lets it go
+    ghost has_rested: { Self → P → Bool };
+
     // the message has waited for a connection to its service as long as it may, or hasn't
     ghost has_waited: { Self → P → Bool → Type 0 } = { λ _ _ _. ⊤ };
 
     ghost now_is: { Self → P → ℕ → Type 0 } = { λ _ _ _. ⊤ };
+
+    // the gate was asked whether the transaction of a message may move, and answered this: the surroundings before that and after it
+    ghost lets_pass: { Self → Self → P → Bool → Type 0 } = { λ _ _ _ _. ⊤ };
 
     /// The moment, in seconds.
     fn now(&self, at: &P) -> u64
@@ -113,14 +119,16 @@ pub trait Clocked<P>: Kinds {
         ensures { result ≡ is_late self.now at.now };
 
     /// Whether the user has said nothing for so long that a proxy that drains lets it go.
-    fn has_rested(&self, at: &P) -> bool;
+    fn has_rested(&self, at: &P) -> bool
+        ensures { result ≡ has_rested self.now at.now };
 
     /// Whether the message has waited for a connection to its service as long as it may.
     fn has_waited(&self, at: &P) -> bool
         ensures { has_waited self.now at.now result };
 
     /// Whether the transaction of a message may move.
-    fn may_pass(&mut self, at: &P) -> bool;
+    fn may_pass(&mut self, at: &P) -> bool
+        ensures { lets_pass self.old self.new at.now result };
 }
 
 /// The services of an exchange: what they said last, and the connections to them that are leased.
@@ -131,11 +139,17 @@ pub trait Services<P>: Kinds {
     // its connection was idle before, and was not replaced since
     ghost is_reused: { Self.Lease → Bool };
 
+    // this connection leads to the service whose lease this is, as these surroundings have it
+    ghost serves: { Self → Self.Service → Self.Lease → Type 0 } = { λ _ _ _. ⊤ };
+
     // no connection was lent, for this fault: the surroundings after that
     ghost fails: { Self → P → AnyFault → Type 0 } = { λ _ _ _. ⊤ };
 
     // the message was to wait for a connection, and does, or doesn't: the surroundings after that
     ghost joins: { Self → P → AnyPoint → Bool → Type 0 } = { λ _ _ _ _. ⊤ };
+
+    // the message waits no more in the queue for a connection of this point's service: the surroundings after that
+    ghost leaves: { Self → P → AnyPoint → Type 0 } = { λ _ _ _. ⊤ };
 
     // what the surroundings are once a connection was put back with its lease, or a lease given up: before that and after it
     ghost puts: { Self → Self → P → Self.Service → Self.Lease → Type 0 } = { λ _ _ _ _ _. ⊤ };
@@ -172,6 +186,7 @@ pub trait Services<P>: Kinds {
     /// Leases a connection to a point's service, an idle one first. One that comes while others wait for theirs gets none.
     fn lend(&mut self, at: &P, point: Point) -> Result<(Self::Service, Self::Lease), LendFault>
         ensures point { IfOk result (λ lent. point_of lent.1 ≡ point) }
+        ensures serves { IfOk result (λ lent. serves self.old lent.0 lent.1) }
         ensures fails { IfErr result (fails self.new at.now) };
 
     /// Leases a connection to a message that waits, once it is its turn. With a connection it has left the queue.
@@ -181,6 +196,7 @@ pub trait Services<P>: Kinds {
         point: Point,
     ) -> Result<(Self::Service, Self::Lease), LendFault>
         ensures point { IfOk result (λ lent. point_of lent.1 ≡ point) }
+        ensures serves { IfOk result (λ lent. serves self.old lent.0 lent.1) }
         ensures fails { IfErr result (fails self.new at.now) };
 
     /// Has a message wait for a connection. False where it may not.
@@ -188,12 +204,14 @@ pub trait Services<P>: Kinds {
         ensures { joins self.new at.now point result };
 
     /// Has a message wait no more.
-    fn leave_queue(&mut self, at: &P, point: Point);
+    fn leave_queue(&mut self, at: &P, point: Point)
+        ensures { leaves self.new at.now point };
 
     /// A fresh connection in place of a leased one that broke and is closed, where one may be opened. It is of the same service.
     fn reopen(&mut self, at: &P, lease: &mut Self::Lease) -> Result<Self::Service, LendFault>
         ensures point { point_of lease.new ≡ point_of lease.old }
         ensures fresh { IfOk result (λ _. is_reused lease.new ≡ false) }
+        ensures serves { IfOk result (λ wire. serves self.old wire lease.new) }
         ensures opened { IfOk result (λ wire. is_opened self.new at.now wire) };
 
     /// Whether the leased connection was idle before, and was not replaced since.

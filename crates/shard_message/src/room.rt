@@ -65,7 +65,7 @@ pub fn make_room<B: Ledgers, R: Wait>(
     planned: &mut Option<Box<Planned>>,
 ) -> Result<Room<B>, Reason>
     ensures suits { IfErr result (λ reason. cause_of reason ≡ Scarce) }
-    ensures has { IfOk result (λ room. (room.planned ≡ planned.old) × (planned.new ≡ None)) }
+    ensures has { IfOk result (λ room. (room.planned ≡ planned.old) × (planned.new ≡ None) × (room.limits ≡ limits)) }
     ensures keeps { IfErr result (λ reason. planned.new ≡ planned.old) }
 {
     let Some(message) = planned else {

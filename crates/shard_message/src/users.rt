@@ -1,6 +1,8 @@
 //! What an exchange has its surroundings do by its course: for a user that is refused or closes, and for a message that waits.
 
 ghost use Rattle.std.specs.Prelude.{◌≡◌};
+ghost use Rattle.exchange_core.specs.declared.phase.Phase.TheVariants.{InQueue};
+ghost use Rattle.trace_core.specs.declared.history.Point.{Point as AnyPoint};
 ghost use Rattle.shard_exchange.specs.Saying.{past_of};
 ghost use Rattle.shard_message.specs.Waits.{GivesNone};
 
@@ -49,7 +51,9 @@ pub fn linger_on<P, O: Outside<P>>(user: &mut Option<O::User>, out: &mut O) -> L
 }
 
 /// Has a message that waits for a connection of its service wait no more.
-pub fn leave_queue<P, O: Outside<P>>(at: &P, out: &mut O, course: &Exchange) {
+pub fn leave_queue<P, O: Outside<P>>(at: &P, out: &mut O, course: &Exchange)
+    ensures { (point : AnyPoint) → course.now.phase ≡ InQueue point → O.leaves out.new at.now point }
+{
     if let Phase::InQueue { point } = course.course().phase {
         out.leave_queue(at, point);
     }

@@ -1,6 +1,6 @@
 //! A request that is withdrawn from its origin's connection, which was kept, before an answer to it was read.
 
-ghost use Rattle.std.specs.Prelude.{◌≡◌, ℕ, List, true, false, None, IfSome, is_some};
+ghost use Rattle.std.specs.Prelude.{◌≡◌, ℕ, List, true, false, None, IfSome, IsSomeAnd};
 ghost use Rattle.proxy_rules.specs.Arrivals.{HasCome};
 ghost use Rattle.shard_message.specs.Ended.{HasGiven, HasGivenSince};
 ghost use Rattle.shard_message.specs.Told.{IsRequestAgain};
@@ -63,19 +63,25 @@ pub fn has_given_none<W: Wire>(wire: &Option<W>, before: u64) -> bool
     }
 }
 
-/// The request again that this is to answer, on the heap.
-fn request_in(alloc: Global, response: Box<Incoming>) -> Option<Box<Incoming>>
-    ensures { IfSome result (λ again. again.value.user ≡ None) }
+/// The request again that this is to answer: its head is read once more. `None` where it has a body, or no memory was found.
+fn request_answered(response: Incoming) -> Option<Incoming>
+    ensures { IfSome result (λ again. IfSome response.user (λ request. IsRequestAgain request again)) }
 {
-    let again = read_again(Box::into_inner(response).into_request()?)?;
+    read_again(response.into_request()?)
+}
+
+/// It, on the heap.
+fn request_in(alloc: Global, response: Box<Incoming>) -> Option<Box<Incoming>>
+    ensures { IfSome result (λ again. IfSome response.value.user (λ request. IsRequestAgain request again.value)) }
+{
+    let again = request_answered(Box::into_inner(response))?;
     Box::new(alloc, again).ok()
 }
 
 /// Has the request again be the message, in place of the response that is to come. False where it can't be sent again, or no memory was found:
 /// then there is no message.
 pub fn request_again(alloc: Global, message: &mut Option<Box<Incoming>>) -> bool
-    ensures again { result ≡ true → IfSome message.new (λ again. again.value.user ≡ None) }
-    ensures there { result ≡ true → is_some message.old ≡ true }
+    ensures again { result ≡ true → IsSomeAnd message.old (λ response. IsSomeAnd message.new (λ again. IfSome response.value.user (λ request. IsRequestAgain request again.value))) }
 {
     *message = match message.take() {
         Some(response) => request_in(alloc, response),

@@ -31,6 +31,8 @@ impl<'r, S: Shares, R: Wait + Dial + Clock, G: Gate> Services<Spot<'r, R, G>> fo
 
     ghost is_reused = { λ lease. is_reused lease };
 
+    ghost serves = { λ desk wire lease. (config : AnyConfig) × S.config_is desk.shared config × (wire.stream.to ≡ place_at config (point_of lease)) };
+
     ghost fails = { λ desk at fault. FailsBy desk.asked fault };
 
     ghost puts = { λ old new at connection lease. (config : AnyConfig) × S.config_is old.shared config × PutsBy config.service_idle new.asked };
@@ -93,7 +95,7 @@ impl<'r, S: Shares, R: Wait + Dial + Clock, G: Gate> Services<Spot<'r, R, G>> fo
         point: Point,
     ) -> Result<(ServiceWire, Leased<S::Requests, S::Responses>), LendFault>
         ensures point { IfOk result (λ lent. point_of lent.1 ≡ point) }
-        ensures leads { IfOk result (λ lent. (config : AnyConfig) × S.config_is self.old.shared config × (lent.0.stream.to ≡ place_at config point)) }
+        ensures serves { IfOk result (λ lent. (config : AnyConfig) × S.config_is self.old.shared config × (lent.0.stream.to ≡ place_at config (point_of lent.1))) }
         ensures lends { IfOk result (λ lent. (config : AnyConfig) × S.config_is self.old.shared config × LendsBy at.entry.now.now config.service_idle self.new.asked lent.1) }
         ensures fails { IfErr result (FailsBy self.new.asked) }
     {
@@ -108,7 +110,7 @@ impl<'r, S: Shares, R: Wait + Dial + Clock, G: Gate> Services<Spot<'r, R, G>> fo
         point: Point,
     ) -> Result<(ServiceWire, Leased<S::Requests, S::Responses>), LendFault>
         ensures point { IfOk result (λ lent. point_of lent.1 ≡ point) }
-        ensures leads { IfOk result (λ lent. (config : AnyConfig) × S.config_is self.old.shared config × (lent.0.stream.to ≡ place_at config point)) }
+        ensures serves { IfOk result (λ lent. (config : AnyConfig) × S.config_is self.old.shared config × (lent.0.stream.to ≡ place_at config (point_of lent.1))) }
         ensures lends { IfOk result (λ lent. (config : AnyConfig) × S.config_is self.old.shared config × LendsBy at.entry.now.now config.service_idle self.new.asked lent.1) }
         ensures fails { IfErr result (FailsBy self.new.asked) }
     {
@@ -147,7 +149,7 @@ impl<'r, S: Shares, R: Wait + Dial + Clock, G: Gate> Services<Spot<'r, R, G>> fo
     ) -> Result<ServiceWire, LendFault>
         ensures point { point_of lease.new ≡ point_of lease.old }
         ensures fresh { IfOk result (λ _. is_reused lease.new ≡ false) }
-        ensures leads { IfOk result (λ wire. (config : AnyConfig) × S.config_is self.old.shared config × (wire.stream.to ≡ place_at config (point_of lease.new))) }
+        ensures serves { IfOk result (λ wire. (config : AnyConfig) × S.config_is self.old.shared config × (wire.stream.to ≡ place_at config (point_of lease.new))) }
         ensures opened { IfOk result (λ _. self.new.asked.last ≡ Some (Opened None)) }
     {
         lend_anew(&self.shared, &mut self.seats, &mut self.asked, at, lease)

@@ -7,11 +7,13 @@ use crate::seats::Seats;
 use crate::terms::Terms;
 
 impl Seats {
-    ghost use Rattle.shard_desk.specs.Seats.{has_waited, is_late, is_overdue, moved_at};
+    ghost use Rattle.shard_desk.specs.Seats.{has_waited, is_late, is_overdue, moved_at, waiting_from, waiting_not};
     ghost use Rattle.slab.specs.Slab.{get, Updates};
 
     /// A message waits for a connection to its service. One that waited before has waited since then.
-    pub fn begin_wait(&mut self, key: usize, now: u64) {
+    pub fn begin_wait(&mut self, key: usize, now: u64)
+        ensures { Updates self.old.all self.new.all key (waiting_from now (get self.old.all key)) }
+    {
         if let Some(seat) = self.all.get_mut(key)
             && seat.waits.is_none()
         {
@@ -20,7 +22,9 @@ impl Seats {
     }
 
     /// A further message comes, which hasn't waited.
-    pub fn end_wait(&mut self, key: usize) {
+    pub fn end_wait(&mut self, key: usize)
+        ensures { Updates self.old.all self.new.all key (waiting_not (get self.old.all key)) }
+    {
         if let Some(seat) = self.all.get_mut(key) {
             seat.waits = None;
         }

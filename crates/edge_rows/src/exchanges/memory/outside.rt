@@ -51,6 +51,8 @@ impl<'a, W: StageWire<'a>, B: Ledgers> Settings for Memory<'a, W, B> {
 impl<'a, W: StageWire<'a>, B: Ledgers> Clocked<Moment> for Memory<'a, W, B> {
     ghost is_late = { λ memory at. at.late };
 
+    ghost has_rested = { λ memory at. at.rested };
+
     fn now(&self, _at: &Moment) -> u64 {
         NOW
     }

@@ -14,11 +14,12 @@ use Rattle.shard_exchange.specs.Outcomes.{Deeds, Does, IsGated, IsGivenBack, IsT
 use Rattle.shard_exchange.proofs.exchange.Exchange.act.Goals as goal
 
 -- the gate let the message pass
-passed : {H : Type 0} (ends follows : End → Type 0) (answered reusable : Bool) (held holds : H) (old new : Course)
-    → IsGated ends follows answered reusable held holds old new → moves new ≡ true → holds ≡ held
-passed ends follows answered reusable held holds old new gated moving = elim gated [
-  | inl through ↦ through.1
-  | inr ended ↦ absurd (false≢true (sym ended.over ∙ moving))
+passed : {H O : Type 0} (passes : O → Bool → Type 0) (ends : End → Type 0) (follows : O → End → Type 0) (answered reusable : Bool)
+    (held holds : H) (old new : Course)
+    → IsGated passes ends follows answered reusable held holds old new → moves new ≡ true → holds ≡ held
+passed passes ends follows answered reusable held holds old new gated moving = elim gated [
+  | inl through ↦ through.3
+  | inr ended ↦ absurd (false≢true (sym ended.2.over ∙ moving))
 ]
 
 -- a connection went back
@@ -27,7 +28,7 @@ went_back puts gives_up stays there old new given = given.2
 
 -- a round of turns was taken
 took_turns : {H O : Type 0} (rounds : H → H → O → Round → Type 0) (frees : H → Option Bool → Type 0) (answered reusable : H → Bool)
-    (ends : H → Bool → End → Type 0) (follows : H → End → Type 0) (repeats : H → Type 0) (late : O → Bool) (held : H) (old new : Course)
+    (ends : H → Bool → End → Type 0) (follows : H → O → End → Type 0) (repeats : H → Type 0) (late : O → Bool) (held : H) (old new : Course)
     → IsTurned rounds frees answered reusable ends follows repeats late held old new → moves new ≡ true
     → (turned : H) × (later : O) × (round : Round) × rounds held turned later round × ((usable : Option Bool) × frees turned usable)
 took_turns rounds frees answered reusable ends follows repeats late held old new turn moving =
@@ -61,6 +62,6 @@ returns-in-Step-clause-same g c = λ moved moving.
     let holds = c.step.new.self.holdings in
     moving_on g.H.Holder.stays (λ held turned later round. g.H.Effects.rounds held turned c.args.out.now later c.args.at.now round)
     (λ turned usable. g.H.Holder.frees turned holds usable) held holds _ c.args.self.now.course.phase c.args.self.now.course moved
-    (λ gated. passed _ _ _ _ _ _ _ _ gated moving)
+    (λ gated. passed (λ later passes. g.H.Effects.lets_pass c.args.out.now later c.args.at.now passes) _ _ _ _ _ _ _ _ gated moving)
     (λ given. went_back _ _ _ (g.H.Effects.has_line held) c.args.self.now.course c.step.new.self.course given)
     (λ turned. took_turns _ _ _ _ _ _ _ _ _ _ _ turned moving) c.step.ensures.does

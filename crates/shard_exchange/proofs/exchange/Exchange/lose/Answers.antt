@@ -3,3 +3,6 @@ use Rattle.shard_exchange.proofs.exchange.Exchange.lose.Goals as goal
 
 pub returns-clause-goes : goal.returns-clause-goes
 returns-clause-goes g c = goes_on _ _ _ c.lose_message.ensures.goes c.free.ensures.goes
+
+pub returns-clause-left : goal.returns-clause-left
+returns-clause-left g c = λ point queued out none. c.lose_message.ensures.left point queued

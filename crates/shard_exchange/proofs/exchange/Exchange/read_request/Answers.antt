@@ -7,5 +7,7 @@ returns-clause-read g c = record {
   turn = c.read_request-turn.result;
   brought = c.read_request-turn.ensures.reads;
   kept = c.take_request_turn.ensures.bears;
+  whole = c.take_request_turn.ensures.whole;
+  fresh = c.take_request_turn.ensures.fresh;
   leads = c.take_request_turn.ensures.leads;
 }

@@ -44,7 +44,8 @@ returns-clause-served g c =
     let old = c.args.self.now in
     let usable = g.H.Holder.reusable old.holdings in
     served_where (is_good report.result.end || usable) usable old.course.connection c.tell.new.course.connection
-    (subst (λ (s : Option Bool). IsToldServed s old.course.connection c.tell.new.course.connection) report.ensures.served c.tell.ensures.served)
+    (subst (λ (s : Option Bool). IsToldServed s old.course.connection c.tell.new.course.connection) report.ensures.served
+    c.tell.ensures.served)
 
 -- a good end cuts no connection, so it is told as one
 succeeding : (told answered : Bool) (served : Option Bool) (usable : Bool) (old new : Course) (cuts : Bool) (end : End) → told ≡ answered

@@ -1,4 +1,4 @@
-use Rattle.std.proofs.Common.{◌≡◌, ◌⊎◌, inl, inr, Bool, Option, true, false, ◌&&◌, ◌||◌, subst, sym, ap, ◌∙◌, refl}
+use Rattle.std.proofs.Common.{◌≡◌, ◌⊎◌, inl, inr, Bool, Option, true, false, ◌&&◌, ◌||◌, subst, sym, ap, ◌∙◌, refl, rules}
 use Rattle.std.proofs.lemmas.Bool.{false≢true}
 use Rattle.exchange_core.specs.declared.connection.Connection.{Connection}
 use Rattle.exchange_core.specs.declared.connection.Connection.TheVariants.{Absent, Ready, InUse, Spent}
@@ -13,7 +13,7 @@ use Rattle.shard_exchange.specs.declared.answers.Round.{Round}
 use Rattle.shard_exchange.specs.declared.ends.End.{End}
 use Rattle.shard_exchange.specs.declared.answers.Round.TheVariants as came
 use Rattle.shard_exchange.specs.Ends.{moves, IsServedBy}
-use Rattle.shard_exchange.specs.Outcomes.{has_answer, IsOver, IsOverdue, IsTurned}
+use Rattle.shard_exchange.specs.Outcomes.{has_answer, is_last, IsOver, IsOverdue, IsTurned}
 use Rattle.shard_exchange.proofs.exchange.Exchange.turn.Goals as goal
 
 pub returns-in-Over-clause-goes : goal.returns-in-Over-clause-goes
@@ -69,12 +69,13 @@ from_here answered usable old mid new (inr e) n = noted_anew answered usable old
     (subst (λ (c : Course). Noted answered usable c new) e n)
 
 moving_on : {H O : Type 0} (rounds : H → H → O → Round → Type 0) (frees : H → Option Bool → Type 0) (answered reusable : H → Bool)
-    (ends : H → Bool → End → Type 0) (follows : H → End → Type 0) (repeats : H → Type 0) (late : O → Bool) (held turned : H) (later : O)
+    (ends : H → Bool → End → Type 0) (follows : H → O → End → Type 0) (repeats : H → Type 0) (late : O → Bool) (held turned : H) (later : O)
     (round : Round)
     (old new : Course)
-    → rounds held turned later round → (usable : Option Bool) × frees turned usable → Noted (answered turned) (reusable turned) old new
+    → rounds held turned later round → (is_last (late later) round ≡ true → ⊥) → (usable : Option Bool) × frees turned usable
+    → Noted (answered turned) (reusable turned) old new
     → IsTurned rounds frees answered reusable ends follows repeats late held old new
-moving_on rounds frees answered reusable ends follows repeats late held turned later round old new r f n =
+moving_on rounds frees answered reusable ends follows repeats late held turned later round old new r on f n =
     let moves = ap (λ (p : Phase). is_moving p) n.phase ∙ n.moves in
     record {
       turned = turned;
@@ -86,12 +87,15 @@ moving_on rounds frees answered reusable ends follows repeats late held turned l
       alone = λ a. not_refusing new.phase moves;
       served = n.served;
       withdrawn = λ w. absurd (false≢true (sym (not_withdrawing new.phase moves) ∙ w));
+      last = λ l. absurd (on l);
       over = λ m. absurd (false≢true (still_moves (is_at_gate new.phase) (is_moving new.phase) moves m));
     }
 
 pub returns-in-Moved-clause-turned : goal.returns-in-Moved-clause-turned
 returns-in-Moved-clause-turned g c =
-    moving_on _ _ _ _ _ _ _ _ _ c.round.new.self.holdings c.round.new.out c.round.result _ _ c.round.ensures.rounds
+    moving_on _ _ _ _ _ _ _ (λ out. g.H.Effects.is_late out c.args.at.now) _ c.round.new.self.holdings c.round.new.out c.round.result _ _
+    c.round.ensures.rounds
+    (subst (λ (r : Round). is_last (g.H.Effects.is_late c.round.new.out c.args.at.now) r ≡ true → ⊥) (sym c.in-Moved.is) (λ e. cc))
     c.note_round.ensures.freed (from_here _ _ _ c.round.new.self.course _ c.round.ensures.renewed
     (record {
       moves = c.round.ensures.moves;
@@ -102,7 +106,8 @@ returns-in-Moved-clause-turned g c =
 
 pub returns-else-not-note_round-clause-turned : goal.returns-else-not-note_round-clause-turned
 returns-else-not-note_round-clause-turned g c =
-    moving_on _ _ _ _ _ _ _ _ _ c.round.new.self.holdings c.round.new.out c.round.result _ _ c.round.ensures.rounds
+    moving_on _ _ _ _ _ _ _ (λ out. g.H.Effects.is_late out c.args.at.now) _ c.round.new.self.holdings c.round.new.out c.round.result _ _
+    c.round.ensures.rounds (search rules)
     c.note_round-in_default.ensures.freed (from_here _ _ _ c.round.new.self.course _ c.round.ensures.renewed
     (record {
       moves = c.round.ensures.moves;
@@ -113,13 +118,13 @@ returns-else-not-note_round-clause-turned g c =
 
 -- what a message came to that is over: the course is as before where it is told
 ended_there : {H O : Type 0} (rounds : H → H → O → Round → Type 0) (frees : H → Option Bool → Type 0) (answered reusable : H → Bool)
-    (ends : H → Bool → End → Type 0) (follows : H → End → Type 0) (repeats : H → Type 0) (late : O → Bool) (held turned : H) (later : O)
+    (ends : H → Bool → End → Type 0) (follows : H → O → End → Type 0) (repeats : H → Type 0) (late : O → Bool) (held turned : H) (later : O)
     (round : Round) (old mid new : Course)
     → mid ≡ old → rounds held turned later round → moves new ≡ false → IsServedBy (reusable turned) mid.connection new.connection
     → (answered turned ≡ true → is_refusing new.phase ≡ false)
     → (is_withdrawing new.phase ≡ true → repeats turned × (answered turned ≡ false) × (may_come mid Withdrawn ≡ true))
-    → IsOver (ends turned (may_come mid Withdrawn)) (follows turned) (answered turned) (reusable turned) round mid new
-    ⊎ IsOverdue late (follows turned) (answered turned) (reusable turned) round mid new
+    → IsOver (ends turned (may_come mid Withdrawn)) (follows turned later) (answered turned) (reusable turned) round mid new
+    ⊎ IsOverdue late (follows turned later) (answered turned) (reusable turned) round mid new
     → IsTurned rounds frees answered reusable ends follows repeats late held old new
 ended_there rounds frees answered reusable ends follows repeats late held turned later round old mid new same r over s a w e =
     subst (λ (c : Course). IsTurned rounds frees answered reusable ends follows repeats late held c new) same
@@ -133,6 +138,7 @@ ended_there rounds frees answered reusable ends follows repeats late held turned
       alone = a;
       served = s;
       withdrawn = w;
+      last = λ l. over;
       over = λ m. e;
     })
 

@@ -1,0 +1,8 @@
+use Rattle.service_lines.specs.Lending.{point_of}
+use Rattle.shard_desk.specs.Places.{place_at}
+use Rattle.shard_desk.proofs.Serving.{serves_lease}
+use Rattle.shard_desk.proofs.outside.services.DeskServicesSpot.lend.Goals as goal
+
+pub returns-clause-serves : goal.returns-clause-serves
+returns-clause-serves g c =
+    serves_lease (λ lease. point_of lease) (λ wire. wire.stream.to) _ place_at _ _ c.lend_now-lent.ensures.point c.lend_now-lent.ensures.leads

@@ -1,0 +1,6 @@
+use Rattle.std.proofs.Common.{◌≡◌, ◌∙◌, sym}
+use Rattle.shard_exchange.proofs.exchange.Exchange.do_due.Goals as goal
+
+-- a connection goes back, since that is due
+pub returns-in-GiveBack-clause-does : goal.returns-in-GiveBack-clause-does
+returns-in-GiveBack-clause-does g c = rw (sym c.due.ensures.due ∙ c.in-GiveBack.is) c.give_back.ensures.given
