@@ -202,7 +202,7 @@ impl<S: Shares> Desk<S> {
 
     /// Has the services asked again before the next message is planned, where the administrator wants that.
     pub(crate) fn heed_refresh(&mut self)
-        ensures { self.new.shared ≡ self.old.shared }
+        ensures { (self.new.shared ≡ self.old.shared) × (self.new.seats ≡ self.old.seats) }
     {
         heed_refresh(
             &self.shared,

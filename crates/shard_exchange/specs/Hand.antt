@@ -23,9 +23,11 @@ pub record Hand : Type 0 where
   -- how many bytes of the text that tells the user to send its body are out
   pub told : ℕ
   pub refused : Refused
+  -- the user was told that nothing more comes
+  pub finished : Bool
 
-abbrev pub hand_of : (leased room origin moving : Bool) → (told : ℕ) → Refused → Hand
-hand_of a b c d e f = record { leased = a; room = b; origin = c; moving = d; told = e; refused = f }
+abbrev pub hand_of : (leased room origin moving : Bool) → (told : ℕ) → Refused → (finished : Bool) → Hand
+hand_of a b c d e f g = record { leased = a; room = b; origin = c; moving = d; told = e; refused = f; finished = g }
 
 -- nothing is held
 abbrev pub IsEmpty : Hand → Type 0
@@ -33,11 +35,11 @@ IsEmpty h = (h.leased ≡ false) × (h.room ≡ false) × (h.origin ≡ false) �
 
 -- nor is anything said
 abbrev pub IsFresh : Hand → Type 0
-IsFresh h = IsEmpty h × (h.told ≡ 0) × (h.refused.page ≡ None) × (h.refused.out ≡ 0)
+IsFresh h = IsEmpty h × (h.told ≡ 0) × (h.refused.page ≡ None) × (h.refused.out ≡ 0) × (h.finished ≡ false)
 
 -- no more is said
 abbrev pub SaysNothing : (old new : Hand) → Type 0
-SaysNothing old new = (new.told ≡ old.told) × (new.refused ≡ old.refused)
+SaysNothing old new = (new.told ≡ old.told) × (new.refused ≡ old.refused) × (new.finished ≡ old.finished)
 
 -- what is held is the same
 abbrev pub HoldsSame : (old new : Hand) → Type 0
@@ -49,11 +51,15 @@ Keeps old new = HoldsSame old new × SaysNothing old new
 
 -- but for the text that tells the user to send its body
 abbrev pub KeepsButTold : (old new : Hand) → Type 0
-KeepsButTold old new = HoldsSame old new × (new.refused ≡ old.refused)
+KeepsButTold old new = HoldsSame old new × (new.refused ≡ old.refused) × (new.finished ≡ old.finished)
 
 -- but for the refusal
 abbrev pub KeepsButRefused : (old new : Hand) → Type 0
-KeepsButRefused old new = HoldsSame old new × (new.told ≡ old.told)
+KeepsButRefused old new = HoldsSame old new × (new.told ≡ old.told) × (new.finished ≡ old.finished)
+
+-- but for that the user is told that nothing more comes
+abbrev pub KeepsButFinished : (old new : Hand) → Type 0
+KeepsButFinished old new = HoldsSame old new × (new.told ≡ old.told) × (new.refused ≡ old.refused)
 
 -- but for the service's connection
 abbrev pub KeepsButLease : (old new : Hand) → Type 0

@@ -6,11 +6,12 @@ use Rattle.exchange_core.specs.declared.event.RefusalCause.{RefusalCause}
 use Rattle.exchange_core.specs.declared.dialing.Dialing.{Dialing}
 use Rattle.exchange_core.specs.declared.due.Due.{Due}
 use Rattle.exchange_core.specs.declared.due.Due.TheVariants.{ReadRequest, Plan, Lend, Await, Ask, Hear, Reserve, TryTell, Tell, Dial, Start}
-use Rattle.exchange_core.specs.declared.due.Due.TheVariants.{AskGate, Turn, ReadResponse, GiveBack, Release, HangUp, Refuse, TryRefusal}
+use Rattle.exchange_core.specs.declared.due.Due.TheVariants.{AskGate, Turn, ReadResponse, GiveBack, Release, HangUp, Linger, Refuse}
+use Rattle.exchange_core.specs.declared.due.Due.TheVariants.{TryRefusal}
 use Rattle.exchange_core.specs.declared.event.Event.TheVariants.{HeadBegun, RequestRead, ResponseRead, Planned, Stale, Queued, Lent}
 use Rattle.exchange_core.specs.declared.event.Event.TheVariants.{Asked, Learned, Reserved, HalfTold, Told, LetPass, Renewed}
 use Rattle.exchange_core.specs.declared.event.Event.TheVariants.{Heard, Withdrawn, Failed, Dialed, Started}
-use Rattle.exchange_core.specs.declared.event.Event.TheVariants.{UserLost, Dropped, Late, Returned, Released, HungUp}
+use Rattle.exchange_core.specs.declared.event.Event.TheVariants.{UserClosed, UserLost, Dropped, Late, Returned, Released, HungUp}
 use Rattle.exchange_core.specs.declared.event.RefusalCause.TheVariants.{Scarce, Deadline}
 use Rattle.exchange_core.specs.declared.phase.Phase.{Phase}
 use Rattle.exchange_core.specs.declared.phase.Phase.TheVariants.{InQueue}
@@ -28,6 +29,8 @@ use Rattle.exchange_report.specs.Reasons.{cause_of}
 use Rattle.exchange_report.specs.declared.reason.Reason.{Reason}
 use Rattle.shard_exchange.specs.declared.answers.HeadTurn.{HeadTurn}
 use Rattle.shard_exchange.specs.declared.answers.HeadTurn.TheVariants as head_turns
+use Rattle.shard_exchange.specs.declared.answers.Lingered.{Lingered}
+use Rattle.shard_exchange.specs.declared.answers.Lingered.TheVariants as lingering
 use Rattle.shard_exchange.specs.declared.answers.Marks.{Marks}
 use Rattle.shard_exchange.specs.declared.answers.Round.{Round}
 use Rattle.adapt_sides.specs.declared.saying.Said.{Said}
@@ -42,7 +45,7 @@ use Rattle.shard_exchange.specs.declared.answers.Round.TheVariants as rounds
 use Rattle.shard_exchange.specs.declared.ends.End.{End}
 use Rattle.shard_exchange.specs.declared.ends.EndedBy.TheVariants as ended
 use Rattle.shard_exchange.specs.EndedBy.{MayEnd}
-use Rattle.shard_exchange.specs.Ends.{moves, IsEnded, IsServedBy}
+use Rattle.shard_exchange.specs.Ends.{moves, begun_with, served_with, IsEnded, IsServedBy}
 use Rattle.shard_exchange.specs.Saying.{LaysPage, SaysOn, interim_text, refusal_by}
 
 -- the message fails of what may fail where this is due
@@ -183,7 +186,7 @@ begun_of c = if is_idle c.phase then after c HeadBegun else c
 -- came, the proxy drains, and the user has rested for as long as one then may.
 abbrev pub SilenceLeads : (begun late rested : Bool) → (old new : Course) → Type 0
 SilenceLeads begun late rested old new = (new ≡ (if late then after (if begun then begun_of old else old) Late else
-    (if begun then begun_of old else old)))
+    (if begun then begun_of old else old))) × ((not begun && (old.draining && rested)) ≡ false)
     ⊎ ((begun ≡ false) × (old.draining ≡ true) × (rested ≡ true) × (new ≡ after old Dropped))
 
 -- where it leads that there is no head: to the refusal of this reason, or the user is gone
@@ -284,9 +287,24 @@ IsHeard {H} learns usable keeps asks renews old new = (new ≡ old)
     ⊎ ((held : H) × renews held × asks (point_of old.phase) × (may_come old Renewed ≡ true) × (new ≡ after old Renewed))
     ⊎ FailsAt Hear old new
 
+-- where it leads that what the user still sends was dropped as far as this: it is over once the user has ended that, or the deadline passed
+abbrev pub LingerLeads : (late : Bool) → (old new : Course) → Lingered → Type 0
+LingerLeads late old new lingering.Over = new ≡ after old UserClosed
+LingerLeads late old new came = new ≡ (if late then after old Late else old)
+
+-- A user's connection closes: the user is told that nothing more comes; and once it was, what it still sends is dropped.
+abbrev pub IsClosed : (lingers : Lingered → Type 0) → (late told tells : Bool) → (old new : Course) → Type 0
+IsClosed lingers late told tells old new = (told ≡ false → (tells ≡ true) × (new ≡ old))
+    × (told ≡ true → (came : Lingered) × lingers came × LingerLeads late old new came)
+
 -- an answer to the user may be made of this message: it is a response, or a request that its service was offered
 abbrev pub has_answer : Phase → Bool
 has_answer phase = not (is_request (point_of phase)) || is_offered phase
+
+-- where the service's connection broke in this round, the request began anew on a fresh one
+abbrev pub anew_with : Round → Course → Course
+anew_with rounds.Broken c = after c Renewed
+anew_with _ c = c
 
 -- with this round a message is over: its transaction is, or nothing moved though the deadline has passed
 abbrev pub is_last : (late : Bool) → Round → Bool
@@ -319,6 +337,7 @@ pub record IsTurned {H O : Type 0} (rounds : H → H → O → Round → Type 0)
   pub round : Round
   pub taken : rounds held turned later round
   pub freed : moves new ≡ true → (usable : Option Bool) × frees turned usable
+      × (new ≡ served_with usable (begun_with (answered turned) (anew_with round old)))
   pub begun : moves new ≡ true → new.begun ≡ (old.begun || (answered turned && has_answer old.phase))
   pub alone : answered turned ≡ true → is_refusing new.phase ≡ false
   pub served : IsServedBy (reusable turned) old.connection new.connection
@@ -371,6 +390,8 @@ pub record Deeds : Type 1 where
   pub given : Type 0
   pub released : Type 0
   pub hung : Type 0
+  -- it closes the user's connection
+  pub closed : Type 0
   -- it says what is left of the refusal of this status, and so at a stop
   pub refused : (status : ℕ) → Type 0
   pub last : (status : ℕ) → Type 0
@@ -394,6 +415,7 @@ Does deeds ReadResponse = deeds.read
 Does deeds GiveBack = deeds.given
 Does deeds Release = deeds.released
 Does deeds HangUp = deeds.hung
+Does deeds Linger = deeds.closed
 Does deeds (Refuse status) = deeds.refused status
 Does deeds (TryRefusal status) = deeds.last status
 Does deeds _ = ⊤

@@ -16,11 +16,12 @@ ghost use Rattle.icap_head.specs.Heads.{Response as AnyResponse, response_parts}
 ghost use Rattle.trace_core.specs.declared.history.Point.{Point as AnyPoint};
 ghost use Rattle.service_lines.specs.declared.connector.LendFault.{LendFault as AnyFault};
 ghost use Rattle.wire_kit.specs.Past.{Past};
-ghost use Rattle.shard_exchange.specs.Hand.{Keeps, KeepsButTold, KeepsButRefused, KeepsButLease, KeepsButRoom, KeepsButOrigin, SetsOut, ComesBack};
+ghost use Rattle.shard_exchange.specs.Hand.{Keeps, KeepsButFinished, KeepsButTold, KeepsButRefused, KeepsButLease, KeepsButRoom, KeepsButOrigin, SetsOut, ComesBack};
 ghost use Rattle.shard_exchange.specs.EndedBy.{MayEnd, is_good, served_as};
 ghost use Rattle.exchange_report.specs.Reasons.{cause_of};
 ghost use Rattle.shard_exchange.specs.Reasons.{lies_elsewhere, unplanned_reason};
 ghost use Rattle.shard_exchange.specs.Saying.{LaysPage, SaysOn, refusal_by};
+ghost use Rattle.shard_exchange.specs.declared.answers.Lingered.{Lingered as AnyLingered};
 ghost use Rattle.shard_exchange.specs.declared.answers.Marks.{Marks as AnyMarks};
 ghost use Rattle.shard_exchange.specs.declared.answers.Round.{Round as AnyRound};
 ghost use Rattle.shard_exchange.specs.declared.answers.Unplanned.{Unplanned as AnyUnplanned};
@@ -47,6 +48,9 @@ pub trait Effects<P>: Holder {
 
     // a message has waited for a connection to its service as long as it may, or hasn't
     ghost has_waited: { Self.Outside → P → Bool → Type 0 };
+
+    // a question for options may be asked anew, or not
+    ghost may_retry: { Self.Outside → P → Bool → Type 0 };
 
     // no connection was lent, for this fault: the surroundings after that
     ghost fails: { Self.Outside → P → AnyFault → Type 0 };
@@ -116,8 +120,8 @@ pub trait Effects<P>: Holder {
 
     ghost gives_up: { Self → Self.Outside → Self.Outside → P → Type 0 };
 
-    // it is there, beside its lease
-    ghost has_line: { Self → Bool };
+    // what the user still sends was dropped as far as this: what is held before that and after it
+    ghost lingers: { Self → Self → AnyLingered → Type 0 };
 
     // the user had nothing now of what is dropped: what is held before that was read and after it
     ghost sends_nothing: { Self → Self → Type 0 };
@@ -138,7 +142,8 @@ pub trait Effects<P>: Holder {
         ensures { has_waited out.now at.now result };
 
     /// Whether a question for options may be asked anew.
-    fn may_retry(at: &P, out: &Self::Outside) -> bool;
+    fn may_retry(at: &P, out: &Self::Outside) -> bool
+        ensures { may_retry out.now at.now result };
 
     /// Whether the transaction of a message may move.
     fn may_pass(at: &P, out: &mut Self::Outside) -> bool
@@ -312,7 +317,7 @@ pub trait Effects<P>: Holder {
         ensures stays { Self.stays self.old self.new }
         ensures put { result ≡ true → puts self.old out.old out.new at.now }
         ensures closed { result ≡ false → gives_up self.old out.old out.new at.now }
-        ensures ready { result ≡ (is_ready course.now.connection && has_line self.old) };
+        ensures ready { result ≡ (is_ready course.now.connection && Self.has_line self.old) };
 
     /// Closes the reservation.
     fn release<R: Wait>(&mut self, rt: &R, at: &P, out: &mut Self::Outside)
@@ -337,12 +342,13 @@ pub trait Effects<P>: Holder {
     fn close(&mut self, at: &P, course: &Exchange)
         requires silent { is_silent course.now.phase ≡ true }
         ensures user { keeps_user self.old self.new }
-        ensures said { Self.finished self.new ≡ true }
-        ensures kept { Keeps (Self.hand self.old) (Self.hand self.new) };
+        ensures said { (Self.hand self.new).finished ≡ true }
+        ensures kept { KeepsButFinished (Self.hand self.old) (Self.hand self.new) };
 
     /// Drops what the user still sends. At this course all is said to it.
     fn linger(&mut self, at: &P, out: &mut Self::Outside, course: &Exchange) -> Lingered
         requires silent { is_silent course.now.phase ≡ true }
+        ensures lingers { lingers self.old self.new result }
         ensures nothing { result ≡ Lingered.Waiting → sends_nothing self.old self.new }
         ensures kept { Keeps (Self.hand self.old) (Self.hand self.new) };
 

@@ -72,6 +72,9 @@ pub trait Holder: InHand {
     // so does one at the head of the origin's response
     ghost hears: { Self → Self → Option AnyHeadTurn → Type 0 };
 
+    // the service's connection is there, beside its lease
+    ghost has_line: { Self → Bool };
+
     // a turn at asking a service for its options found nothing to read or to write now: what is held before it and after it
     ghost hears_nothing: { Self → Self → Type 0 };
 
@@ -112,6 +115,7 @@ pub trait Holder: InHand {
     /// A turn at asking the service for its options. `None` where nobody asks, or there is no connection for it.
     fn hear(&mut self, buffer: &mut [u8; WIRE_ROOM]) -> Option<OptionsTurn>
         ensures nothing { result ≡ Some OptionsTurn.Nothing → hears_nothing self.old self.new }
+        ensures line { has_line self.new ≡ has_line self.old }
         ensures bears { (first : Self) → bears first self.old → bears first self.new }
         ensures kept { Keeps (Self.hand self.old) (Self.hand self.new) };
 
@@ -122,12 +126,9 @@ pub trait Holder: InHand {
         ensures bears { (first : Self) → bears_message first self.old → bears_message first self.new }
         ensures kept { KeepsButTold (Self.hand self.old) (Self.hand self.new) };
 
-    // the user was told that nothing more comes
-    ghost finished: { Self → Bool };
-
     /// Whether the user was told that nothing more comes.
     fn is_finished(&self) -> bool
-        ensures { result ≡ finished self.now };
+        ensures { result ≡ (Self.hand self.now).finished };
 
     /// Closes the user's connection. At this course the user is gone.
     fn lose_user(&mut self, course: &Exchange)

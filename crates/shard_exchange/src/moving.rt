@@ -22,7 +22,7 @@ impl<H: Holder> Exchange<H> {
     ghost use Rattle.exchange_core.specs.declared.due.Due.TheVariants as dues;
     ghost use Rattle.exchange_core.specs.declared.event.Event.TheVariants.{Begun, Renewed, Withdrawn};
     ghost use Rattle.shard_exchange.specs.EndedBy.{MayEnd};
-    ghost use Rattle.shard_exchange.specs.Ends.{moves, Halts, IsEnded, IsServedBy};
+    ghost use Rattle.shard_exchange.specs.Ends.{moves, begun_with, served_with, Halts, IsEnded, IsServedBy};
     ghost use Rattle.shard_exchange.specs.Outcomes.{has_answer, IsGated, IsStarted, IsTurned};
     ghost use Rattle.shard_exchange.specs.Steps.{Heeds, GoesOn};
 
@@ -109,7 +109,7 @@ impl<H: Holder> Exchange<H> {
         ensures goes { Goes self.old.course self.new.course }
         ensures rounds { H.rounds self.old.holdings self.new.holdings out.old out.new at.now result }
         ensures still { (result ≡ Round.Broken → ⊥) → self.new.course ≡ self.old.course }
-        ensures renewed { (self.new.course ≡ self.old.course) ⊎ (self.new.course ≡ after self.old.course Renewed) }
+        ensures anew { result ≡ Round.Broken → self.new.course ≡ after self.old.course Renewed }
         ensures moves { is_moving self.new.course.phase ≡ true }
     {
         let may_renew = self.course.may(Event::Renewed);
@@ -127,6 +127,7 @@ impl<H: Holder> Exchange<H> {
         ensures held { self.new.holdings ≡ self.old.holdings }
         ensures says { result ≡ (H.answered self.old.holdings && may_come self.old.course Begun) }
         ensures told { self.new.course ≡ (if result then after self.old.course Begun else self.old.course) }
+        ensures begun { self.new.course ≡ begun_with (H.answered self.old.holdings) self.old.course }
     {
         let begins = self.holdings.has_answered() && self.course.may(Event::Begun);
         if begins {
@@ -139,7 +140,7 @@ impl<H: Holder> Exchange<H> {
     fn note_service(&mut self) -> bool
         requires { is_moving self.old.course.phase ≡ true }
         ensures goes { Goes self.old.course self.new.course }
-        ensures freed { (usable : AnyOption AnyBool) × H.frees self.old.holdings self.new.holdings usable }
+        ensures freed { (usable : AnyOption AnyBool) × H.frees self.old.holdings self.new.holdings usable × (self.new.course ≡ served_with usable self.old.course) }
         ensures served { IsServedBy (H.reusable self.old.holdings) self.old.course.connection self.new.course.connection }
         ensures kept { (self.new.course.phase ≡ self.old.course.phase) × (self.new.course.begun ≡ self.old.course.begun) }
         ensures none { result ≡ false → self.new.course ≡ self.old.course }
@@ -161,7 +162,8 @@ impl<H: Holder> Exchange<H> {
         ensures goes { Goes self.old.course self.new.course }
         ensures phase { self.new.course.phase ≡ self.old.course.phase }
         ensures begun { self.new.course.begun ≡ (self.old.course.begun || (H.answered self.old.holdings && has_answer self.old.course.phase)) }
-        ensures freed { (usable : AnyOption AnyBool) × H.frees self.old.holdings self.new.holdings usable }
+        ensures freed { (usable : AnyOption AnyBool) × H.frees self.old.holdings self.new.holdings usable
+            × (self.new.course ≡ served_with usable (begun_with (H.answered self.old.holdings) self.old.course)) }
         ensures served { IsServedBy (H.reusable self.old.holdings) self.old.course.connection self.new.course.connection }
         ensures none { result ≡ false → self.new.course ≡ self.old.course }
         ensures still { result ≡ false → H.frees self.old.holdings self.new.holdings None }

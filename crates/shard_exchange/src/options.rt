@@ -50,7 +50,7 @@ impl<H: Holder> Exchange<H> {
         H: Effects<P>,
         requires due { due_of self.old.course ≡ dues.Hear }
         ensures heard { IsHeard (H.learns out.old out.new at.now) H.usable_after (λ held. H.keeps_line held self.new.holdings) (H.asks self.new.holdings out.new)
-            (λ held. H.renews held self.new.holdings out.old out.new at.now) self.old.course self.new.course }
+            (λ held. H.renews held self.new.holdings out.old out.new at.now × H.may_retry out.old at.now true) self.old.course self.new.course }
         ensures bears { Bears H.bears self.old.holdings self.new.holdings }
         ensures goes { Goes self.old.course self.new.course }
         ensures heeds { Heeds (H.is_late out.new at.now) self.new.course result }
@@ -74,7 +74,7 @@ impl<H: Holder> Exchange<H> {
         H: Effects<P>,
         requires due { due_of self.old.course ≡ dues.Hear }
         ensures heard { IsHeard (H.learns out.old out.new at.now) H.usable_after (λ held. H.keeps_line held self.new.holdings) (H.asks self.new.holdings out.new)
-            (λ held. H.renews held self.new.holdings out.old out.new at.now) self.old.course self.new.course }
+            (λ held. H.renews held self.new.holdings out.old out.new at.now × H.may_retry out.old at.now true) self.old.course self.new.course }
         ensures bears { Bears H.bears self.old.holdings self.new.holdings }
         ensures goes { Goes self.old.course self.new.course }
     {
@@ -91,7 +91,7 @@ impl<H: Holder> Exchange<H> {
         H: Effects<P>,
         requires due { due_of self.old.course ≡ dues.Hear }
         ensures heard { IsHeard (H.learns out.old out.new at.now) H.usable_after (λ held. H.keeps_line held self.new.holdings) (H.asks self.new.holdings out.new)
-            (λ held. H.renews held self.new.holdings out.old out.new at.now) self.old.course self.new.course }
+            (λ held. H.renews held self.new.holdings out.old out.new at.now × H.may_retry out.old at.now true) self.old.course self.new.course }
         ensures bears { Bears H.bears self.old.holdings self.new.holdings }
         ensures goes { Goes self.old.course self.new.course }
     {
@@ -112,8 +112,9 @@ impl<H: Holder> Exchange<H> {
         H: Effects<P>,
         requires due { due_of self.old.course ≡ dues.Hear }
         requires may { may_come self.old.course Renewed ≡ true }
+        requires retry { H.may_retry out.old at.now true }
         ensures heard { IsHeard (H.learns out.old out.new at.now) H.usable_after (λ held. H.keeps_line held self.new.holdings) (H.asks self.new.holdings out.new)
-            (λ held. H.renews held self.new.holdings out.old out.new at.now) self.old.course self.new.course }
+            (λ held. H.renews held self.new.holdings out.old out.new at.now × H.may_retry out.old at.now true) self.old.course self.new.course }
         ensures bears { Bears H.bears self.old.holdings self.new.holdings }
         ensures goes { Goes self.old.course self.new.course }
     {

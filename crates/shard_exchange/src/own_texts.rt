@@ -23,7 +23,8 @@ impl<H: Holder> Exchange<H> {
     ghost use Rattle.shard_exchange.specs.Hand.{Keeps};
     ghost use Rattle.shard_exchange.specs.Saying.{SaysOn, interim_text, refusal_by};
     ghost use Rattle.shard_exchange.specs.Ends.{IsOwed};
-    ghost use Rattle.shard_exchange.specs.Outcomes.{Bears, Refuses, SaysInterim};
+    ghost use Rattle.shard_exchange.specs.Outcomes.{Bears, IsClosed, LingerLeads, Refuses, SaysInterim};
+    ghost use Rattle.shard_exchange.specs.declared.answers.Lingered.{Lingered as AnyLingered};
     ghost use Rattle.shard_exchange.specs.Steps.{Heeds, is_moved};
 
     /// Has a message that doesn't move go no further, for a reason of which what is due may fail: its user is refused, unless a part of
@@ -128,7 +129,8 @@ impl<H: Holder> Exchange<H> {
     where
         H: Effects<P>,
         requires due { due_of self.old.course ≡ dues.Linger }
-        ensures said { H.finished self.old.holdings ≡ false → H.finished self.new.holdings ≡ true }
+        ensures closed { IsClosed (H.lingers self.old.holdings self.new.holdings) (H.is_late out.new at.now) (H.hand self.old.holdings).finished (H.hand self.new.holdings).finished
+            self.old.course self.new.course }
         ensures goes { Goes self.old.course self.new.course }
         ensures heeds { Heeds (H.is_late out.new at.now) self.new.course result }
         ensures rests { result ≡ Step.Waits → H.sends_nothing self.old.holdings self.new.holdings }
@@ -145,6 +147,7 @@ impl<H: Holder> Exchange<H> {
     where
         H: Effects<P>,
         requires due { due_of self.old.course ≡ dues.Linger }
+        ensures dropped { (came : AnyLingered) × H.lingers self.old.holdings self.new.holdings came × LingerLeads (H.is_late out.new at.now) self.old.course self.new.course came }
         ensures goes { Goes self.old.course self.new.course }
         ensures heeds { Heeds (H.is_late out.new at.now) self.new.course result }
         ensures rests { result ≡ Step.Waits → H.sends_nothing self.old.holdings self.new.holdings }

@@ -25,7 +25,7 @@ impl<H: Holder> Exchange<H> {
     ghost use Rattle.exchange_core.specs.Course.{after};
     ghost use Rattle.exchange_core.specs.declared.event.Event.TheVariants.{Failed, Stuck, Withdrawn};
     ghost use Rattle.exchange_core.specs.declared.event.RefusalCause.TheVariants.{Deadline};
-    ghost use Rattle.shard_exchange.specs.Outcomes.{Bears, Does, IsAsked, IsAwaited, IsDialed, IsGated, IsGivenBack, IsHeard, IsHungUp, IsLent, IsPlanned, IsRead, IsReleased, IsRequested, IsReserved, IsStarted, IsTurned, LeavesQueue, MovesOn, Refuses, SaysInterim, SaysLast};
+    ghost use Rattle.shard_exchange.specs.Outcomes.{Bears, Does, IsAsked, IsAwaited, IsClosed, IsDialed, IsGated, IsGivenBack, IsHeard, IsHungUp, IsLent, IsPlanned, IsRead, IsReleased, IsRequested, IsReserved, IsStarted, IsTurned, LeavesQueue, MovesOn, Refuses, SaysInterim, SaysLast};
     ghost use Rattle.shard_exchange.specs.Steps.{Heeds, IsDone, GoesOn, is_end, is_step};
 
     /// Does a task, and says how far that came. An exchange that only closes isn't stopped: it goes on with that.
@@ -67,7 +67,7 @@ impl<H: Holder> Exchange<H> {
               self.old.course self.new.course × Bears H.bears self.old.holdings self.new.holdings × LeavesQueue (λ later. H.leaves later at.now) self.old.course self.new.course;
           asked = IsAsked (H.asks self.new.holdings out.new) self.old.course self.new.course × Bears H.bears self.old.holdings self.new.holdings × H.keeps_line self.old.holdings self.new.holdings;
           heard = IsHeard (H.learns out.old out.new at.now) H.usable_after (λ held. H.keeps_line held self.new.holdings) (H.asks self.new.holdings out.new)
-              (λ held. H.renews held self.new.holdings out.old out.new at.now) self.old.course self.new.course × Bears H.bears self.old.holdings self.new.holdings;
+              (λ held. H.renews held self.new.holdings out.old out.new at.now × H.may_retry out.old at.now true) self.old.course self.new.course × Bears H.bears self.old.holdings self.new.holdings;
           reserved = IsReserved (H.reserves self.new.holdings out.old) self.old.course self.new.course × Bears H.bears self.old.holdings self.new.holdings × H.keeps_line self.old.holdings self.new.holdings;
           tried = SaysInterim (H.user_past self.old.holdings) (H.user_past self.new.holdings) (H.hand self.old.holdings) (H.hand self.new.holdings)
               (after self.old.course Stuck) self.old.course self.new.course × Bears H.bears_message self.old.holdings self.new.holdings;
@@ -85,6 +85,7 @@ impl<H: Holder> Exchange<H> {
               (H.stays self.old.holdings self.new.holdings) (H.has_line self.old.holdings) self.old.course self.new.course;
           released = IsReleased self.old.course self.new.course × H.keeps_message self.old.holdings self.new.holdings × H.keeps_origin self.old.holdings self.new.holdings;
           hung = IsHungUp (H.lays self.old.holdings out.old out.new at.now) (H.closes self.old.holdings out.old out.new at.now) self.old.course self.new.course × H.keeps_message self.old.holdings self.new.holdings;
+          closed = IsClosed (H.lingers self.old.holdings self.new.holdings) (H.is_late out.new at.now) (H.hand self.old.holdings).finished (H.hand self.new.holdings).finished self.old.course self.new.course;
           refused = λ status. Refuses (H.has_page out.old at.now status) (H.user_past self.old.holdings) (H.user_past self.new.holdings)
               (H.hand self.old.holdings) (H.hand self.new.holdings) status self.new.course.phase;
           last = λ status. SaysLast H.user_past H.hand (H.has_page out.old at.now status) self.old.holdings self.new.holdings status self.old.course self.new.course;
@@ -143,7 +144,7 @@ impl<H: Holder> Exchange<H> {
               self.old.course self.new.course × Bears H.bears self.old.holdings self.new.holdings × LeavesQueue (λ later. H.leaves later at.now) self.old.course self.new.course;
           asked = IsAsked (H.asks self.new.holdings out.new) self.old.course self.new.course × Bears H.bears self.old.holdings self.new.holdings × H.keeps_line self.old.holdings self.new.holdings;
           heard = IsHeard (H.learns out.old out.new at.now) H.usable_after (λ held. H.keeps_line held self.new.holdings) (H.asks self.new.holdings out.new)
-              (λ held. H.renews held self.new.holdings out.old out.new at.now) self.old.course self.new.course × Bears H.bears self.old.holdings self.new.holdings;
+              (λ held. H.renews held self.new.holdings out.old out.new at.now × H.may_retry out.old at.now true) self.old.course self.new.course × Bears H.bears self.old.holdings self.new.holdings;
           reserved = IsReserved (H.reserves self.new.holdings out.old) self.old.course self.new.course × Bears H.bears self.old.holdings self.new.holdings × H.keeps_line self.old.holdings self.new.holdings;
           tried = SaysInterim (H.user_past self.old.holdings) (H.user_past self.new.holdings) (H.hand self.old.holdings) (H.hand self.new.holdings)
               (after self.old.course Stuck) self.old.course self.new.course × Bears H.bears_message self.old.holdings self.new.holdings;
@@ -161,6 +162,7 @@ impl<H: Holder> Exchange<H> {
               (H.stays self.old.holdings self.new.holdings) (H.has_line self.old.holdings) self.old.course self.new.course;
           released = IsReleased self.old.course self.new.course × H.keeps_message self.old.holdings self.new.holdings × H.keeps_origin self.old.holdings self.new.holdings;
           hung = IsHungUp (H.lays self.old.holdings out.old out.new at.now) (H.closes self.old.holdings out.old out.new at.now) self.old.course self.new.course × H.keeps_message self.old.holdings self.new.holdings;
+          closed = IsClosed (H.lingers self.old.holdings self.new.holdings) (H.is_late out.new at.now) (H.hand self.old.holdings).finished (H.hand self.new.holdings).finished self.old.course self.new.course;
           refused = λ status. Refuses (H.has_page out.old at.now status) (H.user_past self.old.holdings) (H.user_past self.new.holdings)
               (H.hand self.old.holdings) (H.hand self.new.holdings) status self.new.course.phase;
           last = λ status. SaysLast H.user_past H.hand (H.has_page out.old at.now status) self.old.holdings self.new.holdings status self.old.course self.new.course;
@@ -205,7 +207,7 @@ impl<H: Holder> Exchange<H> {
               self.old.course self.new.course × Bears H.bears self.old.holdings self.new.holdings × LeavesQueue (λ later. H.leaves later at.now) self.old.course self.new.course;
           asked = IsAsked (H.asks self.new.holdings out.new) self.old.course self.new.course × Bears H.bears self.old.holdings self.new.holdings × H.keeps_line self.old.holdings self.new.holdings;
           heard = IsHeard (H.learns out.old out.new at.now) H.usable_after (λ held. H.keeps_line held self.new.holdings) (H.asks self.new.holdings out.new)
-              (λ held. H.renews held self.new.holdings out.old out.new at.now) self.old.course self.new.course × Bears H.bears self.old.holdings self.new.holdings;
+              (λ held. H.renews held self.new.holdings out.old out.new at.now × H.may_retry out.old at.now true) self.old.course self.new.course × Bears H.bears self.old.holdings self.new.holdings;
           reserved = IsReserved (H.reserves self.new.holdings out.old) self.old.course self.new.course × Bears H.bears self.old.holdings self.new.holdings × H.keeps_line self.old.holdings self.new.holdings;
           tried = SaysInterim (H.user_past self.old.holdings) (H.user_past self.new.holdings) (H.hand self.old.holdings) (H.hand self.new.holdings)
               (after self.old.course Stuck) self.old.course self.new.course × Bears H.bears_message self.old.holdings self.new.holdings;
@@ -223,6 +225,7 @@ impl<H: Holder> Exchange<H> {
               (H.stays self.old.holdings self.new.holdings) (H.has_line self.old.holdings) self.old.course self.new.course;
           released = IsReleased self.old.course self.new.course × H.keeps_message self.old.holdings self.new.holdings × H.keeps_origin self.old.holdings self.new.holdings;
           hung = IsHungUp (H.lays self.old.holdings out.old out.new at.now) (H.closes self.old.holdings out.old out.new at.now) self.old.course self.new.course × H.keeps_message self.old.holdings self.new.holdings;
+          closed = IsClosed (H.lingers self.old.holdings self.new.holdings) (H.is_late out.new at.now) (H.hand self.old.holdings).finished (H.hand self.new.holdings).finished self.old.course self.new.course;
           refused = λ status. Refuses (H.has_page out.old at.now status) (H.user_past self.old.holdings) (H.user_past self.new.holdings)
               (H.hand self.old.holdings) (H.hand self.new.holdings) status self.new.course.phase;
           last = λ status. SaysLast H.user_past H.hand (H.has_page out.old at.now status) self.old.holdings self.new.holdings status self.old.course self.new.course;

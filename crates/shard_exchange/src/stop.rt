@@ -224,6 +224,7 @@ impl<H: Holder> Exchange<H> {
         ensures goes { Goes self.old.course self.new.course }
         ensures gone { is_gone self.new.course.phase ≡ true }
         ensures over { result ≡ Step.Over → is_over self.new.course ≡ true }
+        ensures ended { result ≡ Step.Over → (held : H) × (dropped : H) × H.lingers held dropped Lingered.Over }
         ensures rests { result ≡ Step.Waits → (held : H) × H.sends_nothing held self.new.holdings }
     {
         if !self.holdings.is_finished() {

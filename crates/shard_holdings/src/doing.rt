@@ -6,12 +6,13 @@ ghost use Rattle.exchange_core.specs.declared.dialing.Dialing.TheVariants.{KeptF
 ghost use Rattle.shard_message.specs.Begun.{IsMannerOf};
 ghost use Rattle.shard_message.specs.Dialed.{LeadsAsPlanned};
 ghost use Rattle.shard_message.specs.Ended.{HasGiven};
-ghost use Rattle.shard_message.specs.Lines.{line_in, HasLine, IsRenewed};
+ghost use Rattle.shard_message.specs.Lines.{HasLine, IsRenewed};
 ghost use Rattle.shard_message.specs.Outset.{BeginsClean, IsLineAfter, Outset, SetsOut};
 ghost use Rattle.shard_holdings.specs.Borne.{plan_of};
 ghost use Rattle.shard_holdings.specs.Settled.{LaysOrNot};
 ghost use Rattle.shard_holdings.specs.Started.{Starts};
 ghost use Rattle.shard_message.specs.Learning.{IsAsking, IsLearned};
+ghost use Rattle.proxy_config.specs.declared.config.Config.{Config as AnyConfig};
 ghost use Rattle.shard_message.specs.Planning.{PlansBy};
 ghost use Rattle.shard_exchange.specs.Saying.{past_of};
 ghost use Rattle.shard_message.specs.Taking.{taken_if};
@@ -60,6 +61,8 @@ impl<P, O: Outside<P>> Effects<P> for Holdings<O> {
     ghost has_rested = { λ out at. O.has_rested out at };
 
     ghost has_waited = { λ out at waited. O.has_waited out at waited };
+
+    ghost may_retry = { λ out at may. (config : AnyConfig) × O.config_is out config × (may ≡ config.retry) };
 
     ghost lets_pass = { λ old new at passes. O.lets_pass old new at passes };
 
@@ -123,7 +126,7 @@ impl<P, O: Outside<P>> Effects<P> for Holdings<O> {
 
     ghost puts = { λ held old new at. IfSome held.connection (λ leased. IfSome leased.wire (λ wire. O.puts old new at wire leased.lease)) };
 
-    ghost has_line = { λ held. is_some (line_in (λ leased. leased.wire) held.connection) };
+    ghost lingers = { λ old new came. IfSome old.user (λ user. IfSome new.user (λ later. O.lingers user later came)) };
 
     ghost sends_nothing = { λ old new. GivesNone (past_of O.User.past old.user) (past_of O.User.past new.user) };
 

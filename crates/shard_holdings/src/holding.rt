@@ -32,7 +32,7 @@ use shard_message::{
 };
 
 impl<O: Kinds> InHand for Holdings<O> {
-    ghost hand = { λ held. hand_of (is_some held.connection) (is_some held.room) (is_some held.origin) (is_some held.tx) held.told (refused_of (option_map (λ text. text.items) held.page) held.refused) };
+    ghost hand = { λ held. hand_of (is_some held.connection) (is_some held.room) (is_some held.origin) (is_some held.tx) held.told (refused_of (option_map (λ text. text.items) held.page) held.refused) held.is_finished };
 }
 
 impl<O: Kinds> Holder for Holdings<O> {
@@ -91,6 +91,8 @@ impl<O: Kinds> Holder for Holdings<O> {
         (first : O.User) (ahead since beside : List ℕ) → Came O.User.Wire first ahead since beside m.value.side w
         → IfSome new.message (λ n. IfSome new.user (λ v. (more : List ℕ) × Came O.User.Wire first ahead (since ++ more) beside n.value.side v)))) };
 
+    ghost has_line = { λ held. is_some (line_in (λ leased. leased.wire) held.connection) };
+
     ghost hears_nothing = { λ old new. MovesNone (IsSomeAnd old.asking (λ side. side.value.stage ≡ Over))
         (past_of O.Service.past (line_in (λ leased. leased.wire) old.connection)) (past_of O.Service.past (line_in (λ leased. leased.wire) new.connection)) };
 
@@ -140,8 +142,6 @@ impl<O: Kinds> Holder for Holdings<O> {
     fn tell(&mut self, _course: &Exchange) -> Said {
         say_to(&mut self.user, interim_continue(), &mut self.told)
     }
-
-    ghost finished = { λ held. held.is_finished };
 
     fn is_finished(&self) -> bool {
         self.is_finished

@@ -61,7 +61,7 @@ impl<O: Kinds> Holdings<O> {
     pub fn new(user: O::User, message: Option<Box<Incoming>>) -> Holdings<O>
         ensures none { (result.connection ≡ None) × (result.room ≡ None) × (result.origin ≡ None) × (result.tx ≡ None) }
         ensures has { (result.user ≡ Some user) × (result.message ≡ message) × (result.planned ≡ None) × (result.asking ≡ None) }
-        ensures silent { (result.told ≡ 0) × (result.refused ≡ 0) × (result.page ≡ None) }
+        ensures silent { (result.told ≡ 0) × (result.refused ≡ 0) × (result.page ≡ None) × (result.is_finished ≡ false) }
     {
         Holdings {
             user: Some(user),
@@ -142,7 +142,7 @@ impl<O: Kinds> Holdings<O> {
         requires { (is_some self.old.room ≡ false) × (is_some self.old.tx ≡ false) }
         ensures leased { is_some self.new.connection ≡ is_some self.old.connection }
         ensures back { (is_some self.new.room ≡ true) × (self.new.origin ≡ Some remains.connections.origin) × (self.new.tx ≡ None) }
-        ensures said { (self.new.told ≡ self.old.told) × (self.new.refused ≡ self.old.refused) × (self.new.page ≡ self.old.page) }
+        ensures said { (self.new.told ≡ self.old.told) × (self.new.refused ≡ self.old.refused) × (self.new.page ≡ self.old.page) × (self.new.is_finished ≡ self.old.is_finished) }
         ensures kept { (self.new.message ≡ self.old.message) × (self.new.before ≡ self.old.before) }
         ensures user { self.new.user ≡ Some remains.connections.user }
         ensures line { IfSome remains.connections.service (HasLine (λ leased. leased.wire) self.new.connection) }

@@ -25,6 +25,7 @@ pub fn hear_on<O: Kinds>(
     buffer: &mut [u8; WIRE_ROOM],
 ) -> Option<OptionsTurn>
     ensures there { is_some connection.new ≡ is_some connection.old }
+    ensures line { is_some (line_in (λ leased. leased.wire) connection.new) ≡ is_some (line_in (λ leased. leased.wire) connection.old) }
     ensures waits { result ≡ Some OptionsTurn.Nothing → MovesNone (IsSomeAnd asking.old (λ side. side.value.stage ≡ Over))
         (past_of O.Service.past (line_in (λ leased. leased.wire) connection.old)) (past_of O.Service.past (line_in (λ leased. leased.wire) connection.new)) }
 {

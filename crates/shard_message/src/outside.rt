@@ -9,6 +9,7 @@ ghost use Rattle.proxy_config.specs.declared.config.Config.{Config as AnyConfig}
 ghost use Rattle.service_lines.specs.declared.connector.LendFault.{LendFault as AnyFault};
 ghost use Rattle.service_lines.specs.declared.book.PointBook.{PointBook as AnyBook};
 ghost use Rattle.shard_exchange.specs.Reasons.{lies_elsewhere};
+ghost use Rattle.shard_exchange.specs.declared.answers.Lingered.{Lingered as AnyLingered};
 ghost use Rattle.exchange_core.specs.declared.dialing.Dialing.TheVariants.{KeptFirst};
 ghost use Rattle.std.specs.declared.net.ipv4_addr.Ipv4Addr.{Ipv4Addr as AnyIp};
 ghost use Rattle.std.specs.declared.net.socket_addr.SocketAddrV4.{SocketAddrV4 as AnyAddress};
@@ -274,8 +275,12 @@ pub trait UserEnd: Kinds {
     /// Has the user see that what it got isn't whole: its connection is reset at once, and what it hasn't got yet is dropped.
     fn cut(user: &Self::User);
 
+    // what the user still sends was dropped as far as this: its connection before that and after it
+    ghost lingers: { (before after : Self.User) → AnyLingered → Type 0 } = { λ _ _ _. ⊤ };
+
     /// Reads and drops what the user still sends.
     fn linger(&mut self, user: &mut Self::User) -> Lingered
+        ensures lingers { lingers user.old user.new result }
         ensures waits { result ≡ Lingered.Waiting → GivesNone (Self.User.past user.old) (Self.User.past user.new) };
 }
 
@@ -284,11 +289,16 @@ pub trait Noting<P>: Kinds {
     // refusals of this status have this page, where the surroundings say what pages they have
     ghost has_page: { Self → P → (status : ℕ) → List ℕ → Type 0 } = { λ _ _ _ _. ⊤ };
 
+    // a further message came, which hasn't waited for a connection: the surroundings before that and after it
+    ghost begins: { Self → Self → P → Type 0 } = { λ _ _ _. ⊤ };
+
     /// The head of a request was read.
-    fn note_request(&mut self, at: &P, request: &Incoming);
+    fn note_request(&mut self, at: &P, request: &Incoming)
+        ensures { begins self.old self.new at.now };
 
     /// The head of the origin's response was read.
-    fn note_response(&mut self, at: &P, response: &Incoming);
+    fn note_response(&mut self, at: &P, response: &Incoming)
+        ensures { begins self.old self.new at.now };
 
     /// The connection there is opened.
     fn note_route(&mut self, at: &P, route: Route);

@@ -1,6 +1,6 @@
 //! What an exchange has its surroundings do by its course: for a user that is refused or closes, and for a message that waits.
 
-ghost use Rattle.std.specs.Prelude.{◌≡◌};
+ghost use Rattle.std.specs.Prelude.{◌≡◌, IfSome};
 ghost use Rattle.exchange_core.specs.declared.phase.Phase.TheVariants.{InQueue};
 ghost use Rattle.trace_core.specs.declared.history.Point.{Point as AnyPoint};
 ghost use Rattle.shard_exchange.specs.Saying.{past_of};
@@ -42,6 +42,7 @@ pub fn finish_user<P, O: Outside<P>>(user: &Option<O::User>) {
 
 /// Drops what a user still sends.
 pub fn linger_on<P, O: Outside<P>>(user: &mut Option<O::User>, out: &mut O) -> Lingered
+    ensures lingers { IfSome user.old (λ old. IfSome user.new (λ new. O.lingers old new result)) }
     ensures waits { result ≡ Lingered.Waiting → GivesNone (past_of O.User.past user.old) (past_of O.User.past user.new) }
 {
     match user {

@@ -2,6 +2,8 @@
 
 ghost use Rattle.std.specs.Prelude.{◌≡◌, Some};
 ghost use Rattle.proxy_config.specs.Pages.{page_of};
+ghost use Rattle.shard_desk.specs.Seats.{waiting_not};
+ghost use Rattle.slab.specs.Slab.{get, Updates};
 ghost use Rattle.proxy_config.specs.declared.config.Config.{Config as AnyConfig};
 
 use crate::desk::Desk;
@@ -31,6 +33,8 @@ impl<S: Shares> Desk<S> {
 
 impl<'r, S: Shares, R: Wait + Dial + Clock, G: Gate> Noting<Spot<'r, R, G>> for Desk<S> {
     ghost has_page = { λ desk at status page. (config : AnyConfig) × S.config_is desk.shared config × (page_of config.pages status ≡ Some page) };
+
+    ghost begins = { λ old new at. Updates old.seats.all new.seats.all at.key (waiting_not (get old.seats.all at.key)) };
 
     fn note_request(&mut self, at: &Spot<'r, R, G>, request: &Incoming) {
         self.heed_refresh();

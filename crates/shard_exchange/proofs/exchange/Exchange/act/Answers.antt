@@ -32,7 +32,8 @@ took_turns : {H O : Type 0} (rounds : H → H → O → Round → Type 0) (frees
     → IsTurned rounds frees answered reusable ends follows repeats late held old new → moves new ≡ true
     → (turned : H) × (later : O) × (round : Round) × rounds held turned later round × ((usable : Option Bool) × frees turned usable)
 took_turns rounds frees answered reusable ends follows repeats late held old new turn moving =
-    (turn.turned, turn.later, turn.round, turn.taken, turn.freed moving)
+    let freed = turn.freed moving in
+    (turn.turned, turn.later, turn.round, turn.taken, (freed.0, freed.1))
 
 -- a connection goes back, or there is a round of turns
 by_due : {H O : Type 0} (stays : H → H → Type 0) (rounds : H → H → O → Round → Type 0) (frees : H → Option Bool → Type 0) (held holds : H)
@@ -63,5 +64,5 @@ returns-in-Step-clause-same g c = λ moved moving.
     moving_on g.H.Holder.stays (λ held turned later round. g.H.Effects.rounds held turned c.args.out.now later c.args.at.now round)
     (λ turned usable. g.H.Holder.frees turned holds usable) held holds _ c.args.self.now.course.phase c.args.self.now.course moved
     (λ gated. passed (λ later passes. g.H.Effects.lets_pass c.args.out.now later c.args.at.now passes) _ _ _ _ _ _ _ _ gated moving)
-    (λ given. went_back _ _ _ (g.H.Effects.has_line held) c.args.self.now.course c.step.new.self.course given)
+    (λ given. went_back _ _ _ (g.H.Holder.has_line held) c.args.self.now.course c.step.new.self.course given)
     (λ turned. took_turns _ _ _ _ _ _ _ _ _ _ _ turned moving) c.step.ensures.does

@@ -4,3 +4,7 @@ use Rattle.shard_exchange.proofs.exchange.Exchange.do_due.Goals as goal
 -- a connection goes back, since that is due
 pub returns-in-GiveBack-clause-does : goal.returns-in-GiveBack-clause-does
 returns-in-GiveBack-clause-does g c = rw (sym c.due.ensures.due ∙ c.in-GiveBack.is) c.give_back.ensures.given
+
+-- so does the user's connection close
+pub returns-in-Linger-clause-does : goal.returns-in-Linger-clause-does
+returns-in-Linger-clause-does g c = rw (sym c.due.ensures.due ∙ c.in-Linger.is) c.close.ensures.closed

@@ -15,7 +15,9 @@ before : (mid new : Phase) → new ≡ mid → is_in_queue new ≡ false → is_
 before mid new same out = ap (λ (p : Phase). is_in_queue p) (sym same) ∙ out
 
 pub returns-then-is_over-clause-left : goal.returns-then-is_over-clause-left
-returns-then-is_over-clause-left g c = λ point queued out none. c.stop.ensures.left point queued (before _ _ c.free_gone.ensures.frees.0 out)
+returns-then-is_over-clause-left g c = λ point queued out none. c.stop.ensures.left point queued
+    (before _ _ c.free_gone.ensures.frees.0 out)
 
 pub returns-else-is_over-clause-left : goal.returns-else-is_over-clause-left
-returns-else-is_over-clause-left g c = λ point queued out none. c.stop.ensures.left point queued (before _ _ c.free_gone.ensures.frees.0 out)
+returns-else-is_over-clause-left g c = λ point queued out none. c.stop.ensures.left point queued
+    (before _ _ c.free_gone.ensures.frees.0 out)

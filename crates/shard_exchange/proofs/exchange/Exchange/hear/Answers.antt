@@ -21,5 +21,6 @@ returns-in-Some-Nothing-clause-heard g c =
     let at = c.args.at.now in
     let told = c.wait_or_refuse in
     silent (g.H.Effects.learns out told.new.out at) g.H.Holder.usable_after (λ held. g.H.Holder.keeps_line held told.new.self.holdings)
-    (g.H.Effects.asks told.new.self.holdings told.new.out) (λ held. g.H.Effects.renews held told.new.self.holdings out told.new.out at)
+    (g.H.Effects.asks told.new.self.holdings told.new.out) (λ held. g.H.Effects.renews held told.new.self.holdings out told.new.out at
+    × g.H.Effects.may_retry out at true)
     (g.H.Effects.is_late out at) c.args.self.now.course told.new.self.course told.ensures.course

@@ -12,8 +12,8 @@ use Rattle.exchange_core.proofs.Stepping.{goes_on}
 use Rattle.shard_exchange.specs.declared.answers.Round.{Round}
 use Rattle.shard_exchange.specs.declared.ends.End.{End}
 use Rattle.shard_exchange.specs.declared.answers.Round.TheVariants as came
-use Rattle.shard_exchange.specs.Ends.{moves, IsServedBy}
-use Rattle.shard_exchange.specs.Outcomes.{has_answer, is_last, IsOver, IsOverdue, IsTurned}
+use Rattle.shard_exchange.specs.Ends.{moves, begun_with, served_with, IsServedBy}
+use Rattle.shard_exchange.specs.Outcomes.{anew_with, has_answer, is_last, IsOver, IsOverdue, IsTurned}
 use Rattle.shard_exchange.proofs.exchange.Exchange.turn.Goals as goal
 
 pub returns-in-Over-clause-goes : goal.returns-in-Over-clause-goes
@@ -62,27 +62,40 @@ noted_anew answered usable old new n = record {
   served = served_anew usable old.connection new.connection n.served;
 }
 
-from_here : (answered usable : Bool) (old mid new : Course) → (mid ≡ old) ⊎ (mid ≡ after old Renewed) → Noted answered usable mid new
+from_round : (answered usable : Bool) (round : Round) (old new : Course) → Noted answered usable (anew_with round old) new
     → Noted answered usable old new
-from_here answered usable old mid new (inl e) n = subst (λ (c : Course). Noted answered usable c new) e n
-from_here answered usable old mid new (inr e) n = noted_anew answered usable old new
-    (subst (λ (c : Course). Noted answered usable c new) e n)
+from_round answered usable came.Broken old new n = noted_anew answered usable old new n
+from_round answered usable (came.Moved framing) old new n = n
+from_round answered usable came.Waiting old new n = n
+from_round answered usable came.Over old new n = n
+
+-- where the connection broke the course is told so, and else it is as before
+anew_is : (round : Round) (old mid : Course) → (round ≡ came.Broken → mid ≡ after old Renewed)
+    → ((round ≡ came.Broken → ⊥) → mid ≡ old) → mid ≡ anew_with round old
+anew_is came.Broken old mid anew still = anew refl
+anew_is (came.Moved framing) old mid anew still = still (λ e. cc)
+anew_is came.Waiting old mid anew still = still (λ e. cc)
+anew_is came.Over old mid anew still = still (λ e. cc)
 
 moving_on : {H O : Type 0} (rounds : H → H → O → Round → Type 0) (frees : H → Option Bool → Type 0) (answered reusable : H → Bool)
     (ends : H → Bool → End → Type 0) (follows : H → O → End → Type 0) (repeats : H → Type 0) (late : O → Bool) (held turned : H) (later : O)
     (round : Round)
-    (old new : Course)
-    → rounds held turned later round → (is_last (late later) round ≡ true → ⊥) → (usable : Option Bool) × frees turned usable
-    → Noted (answered turned) (reusable turned) old new
+    (old mid new : Course)
+    → rounds held turned later round → (is_last (late later) round ≡ true → ⊥) → mid ≡ anew_with round old
+    → (usable : Option Bool) × frees turned usable × (new ≡ served_with usable (begun_with (answered turned) mid))
+    → Noted (answered turned) (reusable turned) mid new
     → IsTurned rounds frees answered reusable ends follows repeats late held old new
-moving_on rounds frees answered reusable ends follows repeats late held turned later round old new r on f n =
+moving_on rounds frees answered reusable ends follows repeats late held turned later round old mid new r on same f here =
+    let n = from_round (answered turned) (reusable turned) round old new
+    (subst (λ (c : Course). Noted (answered turned) (reusable turned) c new) same here) in
     let moves = ap (λ (p : Phase). is_moving p) n.phase ∙ n.moves in
     record {
       turned = turned;
       later = later;
       round = round;
       taken = r;
-      freed = λ m. f;
+      freed = λ m. subst (λ (c : Course). (usable : Option Bool) × frees turned usable
+          × (new ≡ served_with usable (begun_with (answered turned) c))) same f;
       begun = λ m. n.begun;
       alone = λ a. not_refusing new.phase moves;
       served = n.served;
@@ -93,28 +106,30 @@ moving_on rounds frees answered reusable ends follows repeats late held turned l
 
 pub returns-in-Moved-clause-turned : goal.returns-in-Moved-clause-turned
 returns-in-Moved-clause-turned g c =
-    moving_on _ _ _ _ _ _ _ (λ out. g.H.Effects.is_late out c.args.at.now) _ c.round.new.self.holdings c.round.new.out c.round.result _ _
+    moving_on _ _ _ _ _ _ _ (λ out. g.H.Effects.is_late out c.args.at.now) _ c.round.new.self.holdings c.round.new.out c.round.result _ _ _
     c.round.ensures.rounds
     (subst (λ (r : Round). is_last (g.H.Effects.is_late c.round.new.out c.args.at.now) r ≡ true → ⊥) (sym c.in-Moved.is) (λ e. cc))
-    c.note_round.ensures.freed (from_here _ _ _ c.round.new.self.course _ c.round.ensures.renewed
+    (anew_is c.round.result c.args.self.now.course c.round.new.self.course c.round.ensures.anew c.round.ensures.still)
+    c.note_round.ensures.freed
     (record {
       moves = c.round.ensures.moves;
       phase = c.note_round.ensures.phase;
       begun = c.note_round.ensures.begun;
       served = c.note_round.ensures.served;
-    }))
+    })
 
 pub returns-else-not-note_round-clause-turned : goal.returns-else-not-note_round-clause-turned
 returns-else-not-note_round-clause-turned g c =
-    moving_on _ _ _ _ _ _ _ (λ out. g.H.Effects.is_late out c.args.at.now) _ c.round.new.self.holdings c.round.new.out c.round.result _ _
+    moving_on _ _ _ _ _ _ _ (λ out. g.H.Effects.is_late out c.args.at.now) _ c.round.new.self.holdings c.round.new.out c.round.result _ _ _
     c.round.ensures.rounds (search rules)
-    c.note_round-in_default.ensures.freed (from_here _ _ _ c.round.new.self.course _ c.round.ensures.renewed
+    (anew_is c.round.result c.args.self.now.course c.round.new.self.course c.round.ensures.anew c.round.ensures.still)
+    c.note_round-in_default.ensures.freed
     (record {
       moves = c.round.ensures.moves;
       phase = c.note_round-in_default.ensures.phase;
       begun = c.note_round-in_default.ensures.begun;
       served = c.note_round-in_default.ensures.served;
-    }))
+    })
 
 -- what a message came to that is over: the course is as before where it is told
 ended_there : {H O : Type 0} (rounds : H → H → O → Round → Type 0) (frees : H → Option Bool → Type 0) (answered reusable : H → Bool)

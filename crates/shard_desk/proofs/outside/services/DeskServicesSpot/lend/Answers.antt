@@ -5,4 +5,5 @@ use Rattle.shard_desk.proofs.outside.services.DeskServicesSpot.lend.Goals as goa
 
 pub returns-clause-serves : goal.returns-clause-serves
 returns-clause-serves g c =
-    serves_lease (λ lease. point_of lease) (λ wire. wire.stream.to) _ place_at _ _ c.lend_now-lent.ensures.point c.lend_now-lent.ensures.leads
+    serves_lease (λ lease. point_of lease) (λ wire. wire.stream.to) _ place_at _ _ c.lend_now-lent.ensures.point
+    c.lend_now-lent.ensures.leads
