@@ -30,6 +30,7 @@ pub fn go_on<B: Ledgers>(rt: &impl Wait, bank: &Bank<B>, hold: &mut Hold<B>, eve
     ensures stepped { hold.new ≡ moved hold.old event [] }
     ensures roomy { IsRoomy hold.new }
 {
+    // For the proof alone: a state is that of its history.
     let _state = hold.state();
     match hold.move_on(rt, bank, event) {
         Ok(()) => {}
@@ -56,6 +57,7 @@ fn bring<B: Ledgers>(rt: &impl Wait, bank: &Bank<B>, hold: &mut Hold<B>, event: 
     ensures stepped { hold.new ≡ moved hold.old event bytes.now }
     ensures roomy { IsRoomy hold.new }
 {
+    // For the proof alone: a state is that of its history.
     let _state = hold.state();
     match hold.put_in(rt, bank, event, bytes) {
         Ok(()) => {}
@@ -96,6 +98,7 @@ pub fn step_all<B: Ledgers>(
     ensures stepped { hold.new ≡ moved_all hold.old events.now bytes.now }
     ensures roomy { IsRoomy hold.new }
 {
+    // For the proof alone: a state is that of its history.
     let _state = hold.state();
     match events {
         [] => {}

@@ -90,6 +90,7 @@ fn drop_before(tape: &mut SpanTape, place: u64) -> (u64, Pages)
     ensures paged { IsPaged tape.new }
 {
     let freed = place - tape.base();
+    // For the proof alone: no place of a tape is past its bound.
     let _end = tape.end();
     let pages = tape.drop_to(place);
     (freed, pages)

@@ -10,14 +10,14 @@ use Rattle.exchange_core.specs.declared.event.Event.TheVariants.{Stop, Tried}
 use Rattle.exchange_core.specs.declared.due.Due.{Due}
 use Rattle.exchange_core.specs.declared.due.Due.TheVariants.{Await, Start, Turn, ReadResponse}
 use Rattle.exchange_core.specs.declared.event.RefusalCause.{RefusalCause}
-use Rattle.exchange_core.specs.declared.course.Course.{Course}
+use Rattle.exchange_core.specs.declared.state.CourseState.{CourseState}
 use Rattle.exchange_core.specs.May.{is_refusing, is_gone, may_come, is_free}
 use Rattle.exchange_core.specs.Dues.{due_of, comes_of, fits, is_wait, is_for_message, fails_of, is_for_user, is_between}
 use Rattle.exchange_core.specs.Log.{course_of, IsLegal, IsReached}
 use Rattle.exchange_core.proofs.Sound.{Sound, sound}
 use Rattle.exchange_core.proofs.Going.{waits_late}
 
-done_at : (c : Course) (event : Event) → Sound c → comes_of (due_of c) event ≡ true → fits c event ≡ true → may_come c event ≡ true
+done_at : (c : CourseState) (event : Event) → Sound c → comes_of (due_of c) event ≡ true → fits c event ≡ true → may_come c event ≡ true
 done_at c HeadBegun s d f = grind (arith, nat_tests)
 done_at c RequestRead s d f = grind (arith, nat_tests)
 done_at c ResponseRead s d f = grind (arith, nat_tests)
@@ -59,67 +59,67 @@ pub done : (events : List Event) (event : Event) → IsLegal events → comes_of
 done events event l d f = done_at (course_of events) event (sound events l) d f
 
 -- the same wherever some legal log leads
-sound_there : (c : Course) → IsReached c → Sound c
+sound_there : (c : CourseState) → IsReached c → Sound c
 sound_there c r = subst Sound r.2 (sound r.0 r.1)
 
-pub done_there : (c : Course) (event : Event) → IsReached c → comes_of (due_of c) event ≡ true → fits c event ≡ true
+pub done_there : (c : CourseState) (event : Event) → IsReached c → comes_of (due_of c) event ≡ true → fits c event ≡ true
     → may_come c event ≡ true
 done_there c event r d f = done_at c event (sound_there c r) d f
 
-pub late_there : (c : Course) → IsReached c → is_wait (due_of c) ≡ true → may_come c Late ≡ true
+pub late_there : (c : CourseState) → IsReached c → is_wait (due_of c) ≡ true → may_come c Late ≡ true
 late_there c r w = waits_late c (sound_there c r) w
 
-starts_at : (c : Course) → Sound c → due_of c ≡ Start → (c.stake ≡ true) × (c.origin ≡ true)
+starts_at : (c : CourseState) → Sound c → due_of c ≡ Start → (c.stake ≡ true) × (c.origin ≡ true)
 starts_at c s d = grind (arith, nat_tests)
 
-turns_at : (c : Course) → Sound c → due_of c ≡ Turn → (c.stake ≡ true) × (c.origin ≡ true)
+turns_at : (c : CourseState) → Sound c → due_of c ≡ Turn → (c.stake ≡ true) × (c.origin ≡ true)
 turns_at c s d = grind (arith, nat_tests)
 
-hears_at : (c : Course) → Sound c → due_of c ≡ ReadResponse → c.origin ≡ true
+hears_at : (c : CourseState) → Sound c → due_of c ≡ ReadResponse → c.origin ≡ true
 hears_at c s d = grind (arith, nat_tests)
 
-pub starts_there : (c : Course) → IsReached c → due_of c ≡ Start → (c.stake ≡ true) × (c.origin ≡ true)
+pub starts_there : (c : CourseState) → IsReached c → due_of c ≡ Start → (c.stake ≡ true) × (c.origin ≡ true)
 starts_there c r d = starts_at c (sound_there c r) d
 
-pub turns_there : (c : Course) → IsReached c → due_of c ≡ Turn → (c.stake ≡ true) × (c.origin ≡ true)
+pub turns_there : (c : CourseState) → IsReached c → due_of c ≡ Turn → (c.stake ≡ true) × (c.origin ≡ true)
 turns_there c r d = turns_at c (sound_there c r) d
 
-pub fails_there : (c : Course) (why : RefusalCause) → is_for_message (due_of c) ≡ true → may_come c (Failed why) ≡ true
+pub fails_there : (c : CourseState) (why : RefusalCause) → is_for_message (due_of c) ≡ true → may_come c (Failed why) ≡ true
 fails_there c why d = grind (arith, nat_tests)
 
 -- what fails of a cause is due for a message
 for_message : (d : Due) (why : RefusalCause) → fails_of d why ≡ true → is_for_message d ≡ true
 for_message d why f = grind (arith, nat_tests)
 
-pub fails_so : (c : Course) (why : RefusalCause) → fails_of (due_of c) why ≡ true → may_come c (Failed why) ≡ true
+pub fails_so : (c : CourseState) (why : RefusalCause) → fails_of (due_of c) why ≡ true → may_come c (Failed why) ≡ true
 fails_so c why f = fails_there c why (for_message (due_of c) why f)
 
-serves_at : (c : Course) → Sound c → is_for_user (due_of c) ≡ true → c.stopping ≡ false
+serves_at : (c : CourseState) → Sound c → is_for_user (due_of c) ≡ true → c.stopping ≡ false
 serves_at c s d = grind (arith, nat_tests)
 
-loses_at : (c : Course) → Sound c → is_for_user (due_of c) ≡ true → may_come c UserLost ≡ true
+loses_at : (c : CourseState) → Sound c → is_for_user (due_of c) ≡ true → may_come c UserLost ≡ true
 loses_at c s d = grind (arith, nat_tests)
 
-drops_at : (c : Course) → Sound c → is_between (due_of c) ≡ true → may_come c Dropped ≡ true
+drops_at : (c : CourseState) → Sound c → is_between (due_of c) ≡ true → may_come c Dropped ≡ true
 drops_at c s d = grind (arith, nat_tests)
 
-queues_at : (c : Course) → Sound c → due_of c ≡ Await → is_free c ≡ true
+queues_at : (c : CourseState) → Sound c → due_of c ≡ Await → is_free c ≡ true
 queues_at c s d = grind (arith, nat_tests)
 
-pub queues_there : (c : Course) → IsReached c → due_of c ≡ Await → is_free c ≡ true
+pub queues_there : (c : CourseState) → IsReached c → due_of c ≡ Await → is_free c ≡ true
 queues_there c r d = queues_at c (sound_there c r) d
 
-pub serves_there : (c : Course) → IsReached c → is_for_user (due_of c) ≡ true → c.stopping ≡ false
+pub serves_there : (c : CourseState) → IsReached c → is_for_user (due_of c) ≡ true → c.stopping ≡ false
 serves_there c r d = serves_at c (sound_there c r) d
 
-pub loses_there : (c : Course) → IsReached c → is_for_user (due_of c) ≡ true → may_come c UserLost ≡ true
+pub loses_there : (c : CourseState) → IsReached c → is_for_user (due_of c) ≡ true → may_come c UserLost ≡ true
 loses_there c r d = loses_at c (sound_there c r) d
 
-pub drops_there : (c : Course) → IsReached c → is_between (due_of c) ≡ true → may_come c Dropped ≡ true
+pub drops_there : (c : CourseState) → IsReached c → is_between (due_of c) ≡ true → may_come c Dropped ≡ true
 drops_there c r d = drops_at c (sound_there c r) d
 
-pub hears_there : (c : Course) → IsReached c → due_of c ≡ ReadResponse → c.origin ≡ true
+pub hears_there : (c : CourseState) → IsReached c → due_of c ≡ ReadResponse → c.origin ≡ true
 hears_there c r d = hears_at c (sound_there c r) d
 
-pub stops_there : (c : Course) → IsReached c → c.stopping ≡ true → (is_refusing c.phase || is_gone c.phase) ≡ true
+pub stops_there : (c : CourseState) → IsReached c → c.stopping ≡ true → (is_refusing c.phase || is_gone c.phase) ≡ true
 stops_there c r = (sound_there c r).stopped

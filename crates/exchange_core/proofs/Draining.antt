@@ -4,7 +4,7 @@ use Rattle.std.proofs.lemmas.Bool.Decides.{nat_tests}
 use Rattle.exchange_core.specs.declared.event.Event.{Event}
 use Rattle.exchange_core.specs.declared.event.Event.TheVariants.{Answered, Drain}
 use Rattle.exchange_core.specs.declared.phase.Phase.TheVariants.{Closing}
-use Rattle.exchange_core.specs.declared.course.Course.{Course}
+use Rattle.exchange_core.specs.declared.state.CourseState.{CourseState}
 use Rattle.exchange_core.specs.Course.{after}
 use Rattle.exchange_core.specs.May.{may_come, is_idle, is_head, is_at_gate, is_moving}
 use Rattle.exchange_core.specs.Log.{course_of, IsLegal, count, one_if, is_request_read, is_last_answer}
@@ -12,14 +12,14 @@ use Rattle.exchange_core.proofs.Sound.{Sound, sound}
 use Rattle.exchange_core.proofs.Marks.{closes_stands}
 
 -- one more request may be read
-abbrev may_ask_more : Course → Bool
+abbrev may_ask_more : CourseState → Bool
 may_ask_more c = is_idle c.phase || (is_head c.phase || ((is_at_gate c.phase || is_moving c.phase) && not c.closes))
 
-one_step : (c : Course) (event : Event) → Sound c → c.draining ≡ true → may_come c event ≡ true
+one_step : (c : CourseState) (event : Event) → Sound c → c.draining ≡ true → may_come c event ≡ true
     → one_if (is_request_read event) + one_if (may_ask_more (after c event)) ≤ one_if (may_ask_more c)
 one_step c event s d m = grind (arith, nat_tests)
 
-draining_step : (c : Course) (event : Event) → c.draining ≡ true → (after c event).draining ≡ true
+draining_step : (c : CourseState) (event : Event) → c.draining ≡ true → (after c event).draining ≡ true
 draining_step c event d = grind (arith, nat_tests)
 
 stays_draining : (more events : List Event) → (course_of (more ++ Drain ∷ events)).draining ≡ true
@@ -43,7 +43,7 @@ one b = grind (arith, nat_tests)
 pub one_more : (more events : List Event) → IsLegal (more ++ Drain ∷ events) → count is_request_read more ≤ 1
 one_more more events l = omega (arith, one_room more events l, one (may_ask_more (course_of (Drain ∷ events))))
 
-closes_at : (c : Course) (keeps lasts : Bool) → c.closes ≡ true → (after c (Answered keeps lasts)).phase ≡ Closing
+closes_at : (c : CourseState) (keeps lasts : Bool) → c.closes ≡ true → (after c (Answered keeps lasts)).phase ≡ Closing
 closes_at c keeps lasts d = grind (arith, nat_tests)
 
 pub closes : (events : List Event) (keeps lasts : Bool) → IsLegal (Answered keeps lasts ∷ events)

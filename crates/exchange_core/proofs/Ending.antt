@@ -4,7 +4,7 @@ use Rattle.std.proofs.lemmas.Bool.Decides.{nat_tests}
 use Rattle.exchange_core.specs.declared.event.Event.{Event}
 use Rattle.exchange_core.specs.declared.event.Event.TheVariants.{Failed, UserLost, Late, Stop}
 use Rattle.exchange_core.specs.declared.event.RefusalCause.TheVariants.{Deadline}
-use Rattle.exchange_core.specs.declared.course.Course.{Course}
+use Rattle.exchange_core.specs.declared.state.CourseState.{CourseState}
 use Rattle.exchange_core.specs.declared.phase.Phase.{Phase}
 use Rattle.exchange_core.specs.declared.phase.Phase.TheVariants.{Gone}
 use Rattle.exchange_core.specs.Course.{after}
@@ -16,17 +16,17 @@ use Rattle.exchange_core.proofs.Sound.{Sound, sound}
 use Rattle.exchange_core.proofs.Marks.{stopping_stands}
 
 -- one event or the other says that a deadline passed
-pub late_fails : (c : Course) → is_wait (due_of c) ≡ true → is_for_leave (due_of c) ≡ false → after c Late ≡ after c (Failed Deadline)
+pub late_fails : (c : CourseState) → is_wait (due_of c) ≡ true → is_for_leave (due_of c) ≡ false → after c Late ≡ after c (Failed Deadline)
 late_fails c w l = grind (arith, nat_tests)
 
-pub late_lets_go : (c : Course) → is_for_leave (due_of c) ≡ true → (after c Late).phase ≡ Gone
+pub late_lets_go : (c : CourseState) → is_for_leave (due_of c) ≡ true → (after c Late).phase ≡ Gone
 late_lets_go c l = grind (arith, nat_tests)
 
-failing_step : (c : Course) (event : Event) → may_come c event ≡ true → is_quiet event ≡ true
+failing_step : (c : CourseState) (event : Event) → may_come c event ≡ true → is_quiet event ≡ true
     → one_if (is_failing event) + failures_from (after c event).phase ≤ failures_from c.phase
 failing_step c event m q = grind (arith, nat_tests)
 
-free_step : (c : Course) (event : Event) → may_come c event ≡ true → is_quiet event ≡ true
+free_step : (c : CourseState) (event : Event) → may_come c event ≡ true → is_quiet event ≡ true
     → 1 + held_by (after c event) ≤ one_if (is_failing event) + held_by c
 free_step c event m q = grind (arith, nat_tests)
 
@@ -45,7 +45,7 @@ frees (event ∷ more) events l q =
 two : (phase : Phase) → failures_from phase ≤ 2
 two phase = grind (arith, nat_tests)
 
-three : (c : Course) → held_by c ≤ 3
+three : (c : CourseState) → held_by c ≤ 3
 three c = grind (arith, nat_tests)
 
 pub few_failures : (more events : List Event) → IsLegal (more ++ events) → AllAre is_quiet more → count is_failing more ≤ 2
@@ -55,19 +55,19 @@ pub few_quiet : (more events : List Event) → IsLegal (more ++ events) → AllA
 few_quiet more events l q = omega (arith, few_failures more events l q, frees more events l q, three (course_of events))
 
 -- what is left once the proxy stops
-abbrev left : Course → ℕ
+abbrev left : CourseState → ℕ
 left c = one_if (is_refusing c.phase) + held_by c
 
-last_step : (c : Course) (event : Event) → Sound c → c.stopping ≡ true → may_come c event ≡ true → is_last event ≡ true
+last_step : (c : CourseState) (event : Event) → Sound c → c.stopping ≡ true → may_come c event ≡ true → is_last event ≡ true
 last_step c event s p m = grind (arith, nat_tests)
 
-left_step : (c : Course) (event : Event) → Sound c → c.stopping ≡ true → may_come c event ≡ true → 1 + left (after c event) ≤ left c
+left_step : (c : CourseState) (event : Event) → Sound c → c.stopping ≡ true → may_come c event ≡ true → 1 + left (after c event) ≤ left c
 left_step c event s p m = grind (arith, nat_tests)
 
-stopping_step : (c : Course) (event : Event) → c.stopping ≡ true → (after c event).stopping ≡ true
+stopping_step : (c : CourseState) (event : Event) → c.stopping ≡ true → (after c event).stopping ≡ true
 stopping_step c event p = grind (arith, nat_tests)
 
-stops_at : (c : Course) → (after c Stop).stopping ≡ true
+stops_at : (c : CourseState) → (after c Stop).stopping ≡ true
 stops_at c = refl
 
 stays_stopping : (more events : List Event) → (course_of (more ++ Stop ∷ events)).stopping ≡ true
@@ -99,13 +99,13 @@ few_last more events l =
     omega (arith, left_falls more events l, three (course_of (Stop ∷ events)), one (is_refusing (course_of (Stop ∷ events)).phase))
 
 -- after a user's connection is over
-gone_step : (c : Course) (event : Event) → may_come c event ≡ true → is_gone c.phase ≡ true → is_freeing event ≡ true
+gone_step : (c : CourseState) (event : Event) → may_come c event ≡ true → is_gone c.phase ≡ true → is_freeing event ≡ true
 gone_step c event m g = grind (arith, nat_tests)
 
-gone_stays_at : (c : Course) (event : Event) → may_come c event ≡ true → is_gone c.phase ≡ true → is_gone (after c event).phase ≡ true
+gone_stays_at : (c : CourseState) (event : Event) → may_come c event ≡ true → is_gone c.phase ≡ true → is_gone (after c event).phase ≡ true
 gone_stays_at c event m g = grind (arith, nat_tests)
 
-gone_frees : (c : Course) (event : Event) → may_come c event ≡ true → is_gone c.phase ≡ true → 1 + held_by (after c event) ≤ held_by c
+gone_frees : (c : CourseState) (event : Event) → may_come c event ≡ true → is_gone c.phase ≡ true → 1 + held_by (after c event) ≤ held_by c
 gone_frees c event m g = grind (arith, nat_tests)
 
 gone_stays : (more events : List Event) → IsLegal (more ++ events) → is_gone (course_of events).phase ≡ true
@@ -127,7 +127,7 @@ held_falls (event ∷ more) events l g =
 pub few_after_gone : (more events : List Event) → IsLegal (more ++ events) → is_gone (course_of events).phase ≡ true → length more ≤ 3
 few_after_gone more events l g = omega (arith, held_falls more events l g, three (course_of events))
 
-lost_at : (c : Course) → is_gone c.phase ≡ false → c.stopping ≡ false → may_come c UserLost ≡ true
+lost_at : (c : CourseState) → is_gone c.phase ≡ false → c.stopping ≡ false → may_come c UserLost ≡ true
 lost_at c g p = grind (arith, nat_tests)
 
 pub lost_at_once : (events : List Event) → IsLegal events → is_gone (course_of events).phase ≡ false

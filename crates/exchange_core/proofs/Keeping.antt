@@ -3,7 +3,7 @@ use Rattle.std.proofs.Common.{◌≡◌, Bool, true, false, not, ◌&&◌, ◌||
 use Rattle.std.proofs.lemmas.Bool.Decides.{nat_tests}
 use Rattle.exchange_core.specs.declared.event.Event.{Event}
 use Rattle.exchange_core.specs.declared.event.Event.TheVariants.{HungUp}
-use Rattle.exchange_core.specs.declared.course.Course.{Course}
+use Rattle.exchange_core.specs.declared.state.CourseState.{CourseState}
 use Rattle.exchange_core.specs.Course.{after, point_of, lasts_after}
 use Rattle.exchange_core.specs.May.{may_come, is_idle, is_answer, is_request}
 use Rattle.exchange_core.specs.Log.{course_of, IsLegal, stands, is_kept_on, has_request, is_response_read, is_request_read, is_lasting}
@@ -16,10 +16,10 @@ use Rattle.exchange_core.proofs.Turning.{sent_at_answer}
 either : (a b : Bool) → a ≡ true → (a || b) ≡ true
 either a b q = grind (arith, nat_tests)
 
-lasts_at : (c : Course) → may_come c (HungUp true) ≡ true → c.lasts ≡ true
+lasts_at : (c : CourseState) → may_come c (HungUp true) ≡ true → c.lasts ≡ true
 lasts_at c m = grind (arith, nat_tests)
 
-goes_on_at : (c : Course) → may_come c (HungUp true) ≡ true → (c.draining ≡ false) × (c.stopping ≡ false)
+goes_on_at : (c : CourseState) → may_come c (HungUp true) ≡ true → (c.draining ≡ false) × (c.stopping ≡ false)
 goes_on_at c m = grind (arith, nat_tests)
 
 -- a proxy that drains or stops keeps none
@@ -33,12 +33,12 @@ pub kept_if_it_lasts : (events : List Event) → IsLegal (HungUp true ∷ events
 kept_if_it_lasts events l = sym (lasts_stands events) ∙ lasts_at (course_of events) l.0
 
 -- no request is read, or withdrawn, as long as it lasts
-lasts_alone : (c : Course) (event : Event) → (c.lasts ≡ true → (c.origin && (is_idle c.phase || is_leaving c.phase)) ≡ true)
+lasts_alone : (c : CourseState) (event : Event) → (c.lasts ≡ true → (c.origin && (is_idle c.phase || is_leaving c.phase)) ≡ true)
     → may_come c event ≡ true
     → (is_request_read event || is_withdrawn event) ≡ true → c.lasts ≡ false
 lasts_alone c event k m b = grind (arith, nat_tests)
 
-response_at : (c : Course) (event : Event) → may_come c event ≡ true → is_lasting event ≡ true → is_request (point_of c.phase) ≡ false
+response_at : (c : CourseState) (event : Event) → may_come c event ≡ true → is_lasting event ≡ true → is_request (point_of c.phase) ≡ false
 response_at c event m b = grind (arith, nat_tests)
 
 read_step : (event : Event) (lasts read : Bool) → (is_request_read event ≡ true → lasts ≡ false) → (is_lasting event ≡ true → read ≡ true)
@@ -58,7 +58,7 @@ pub kept_if_read : (events : List Event) → IsLegal (HungUp true ∷ events) �
 kept_if_read events l = read events l.1 (lasts_at (course_of events) l.0)
 
 -- the origin had the whole request before its response
-sent_step : (c : Course) (before : List Event) (event : Event) → may_come c event ≡ true
+sent_step : (c : CourseState) (before : List Event) (event : Event) → may_come c event ≡ true
     → (is_answer c.phase ≡ true → has_request before ≡ true)
     → (is_request (point_of c.phase) ≡ false → has_request before ≡ true) → is_request (point_of (after c event).phase) ≡ false
     → has_request (event ∷ before) ≡ true

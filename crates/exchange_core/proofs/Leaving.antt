@@ -3,7 +3,7 @@ use Rattle.std.proofs.Common.{◌≡◌, ◌+◌, ◌≤◌, true, false, not, L
 use Rattle.std.proofs.lemmas.Bool.Decides.{nat_tests}
 use Rattle.exchange_core.specs.declared.event.Event.{Event}
 use Rattle.exchange_core.specs.declared.event.RefusalCause.{RefusalCause}
-use Rattle.exchange_core.specs.declared.course.Course.{Course}
+use Rattle.exchange_core.specs.declared.state.CourseState.{CourseState}
 use Rattle.exchange_core.specs.Course.{after}
 use Rattle.exchange_core.specs.May.{may_come, is_refusing}
 use Rattle.exchange_core.specs.Log.{course_of, IsLegal, AllAre, count, one_if, is_leaving, is_silent, is_parting, is_refused, KeepsTo}
@@ -11,22 +11,23 @@ use Rattle.exchange_core.specs.Log.{has_begun, is_half_out}
 use Rattle.exchange_core.proofs.Sound.{Sound, sound}
 use Rattle.exchange_core.proofs.Marks.{begun_stands, half_told_stands}
 
-untouched_at : (c : Course) → Sound c → is_refusing c.phase ≡ true → c.begun ≡ false
+untouched_at : (c : CourseState) → Sound c → is_refusing c.phase ≡ true → c.begun ≡ false
 untouched_at c s r = grind (arith, nat_tests)
 
 pub untouched : (events : List Event) → IsLegal events → is_refusing (course_of events).phase ≡ true → has_begun events ≡ false
 untouched events l r = sym (begun_stands events) ∙ untouched_at (course_of events) (sound events l) r
 
-whole_at : (c : Course) → Sound c → is_refusing c.phase ≡ true → c.half_told ≡ false
+whole_at : (c : CourseState) → Sound c → is_refusing c.phase ≡ true → c.half_told ≡ false
 whole_at c s r = grind (arith, nat_tests)
 
 pub whole : (events : List Event) → IsLegal events → is_refusing (course_of events).phase ≡ true → is_half_out events ≡ false
 whole events l r = sym (half_told_stands events) ∙ whole_at (course_of events) (sound events l) r
 
-parting_step : (c : Course) (event : Event) → may_come c event ≡ true → is_leaving c.phase ≡ true → is_parting event ≡ true
+parting_step : (c : CourseState) (event : Event) → may_come c event ≡ true → is_leaving c.phase ≡ true → is_parting event ≡ true
 parting_step c event m v = grind (arith, nat_tests)
 
-leaving_step : (c : Course) (event : Event) → may_come c event ≡ true → is_leaving c.phase ≡ true → is_leaving (after c event).phase ≡ true
+leaving_step : (c : CourseState) (event : Event) → may_come c event ≡ true → is_leaving c.phase ≡ true
+    → is_leaving (after c event).phase ≡ true
 leaving_step c event m v = grind (arith, nat_tests)
 
 pub leaving_stays : (more events : List Event) → IsLegal (more ++ events) → is_leaving (course_of events).phase ≡ true
@@ -39,10 +40,11 @@ parting [] events l v = tt
 parting (event ∷ more) events l v =
     (parting_step (course_of (more ++ events)) event l.0 (leaving_stays more events l.1 v), parting more events l.1 v)
 
-silent_step : (c : Course) (event : Event) → may_come c event ≡ true → is_silent c.phase ≡ true → is_silent (after c event).phase ≡ true
+silent_step : (c : CourseState) (event : Event) → may_come c event ≡ true → is_silent c.phase ≡ true
+    → is_silent (after c event).phase ≡ true
 silent_step c event m v = grind (arith, nat_tests)
 
-keeps_to_step : (c : Course) (event : Event) (why : RefusalCause) → may_come c event ≡ true → KeepsTo why c.phase
+keeps_to_step : (c : CourseState) (event : Event) (why : RefusalCause) → may_come c event ≡ true → KeepsTo why c.phase
     → KeepsTo why (after c event).phase
 keeps_to_step c event why m b = grind (arith, nat_tests)
 
@@ -51,7 +53,7 @@ pub keeps_to : (more events : List Event) (why : RefusalCause) → IsLegal (more
 keeps_to [] events why l b = b
 keeps_to (event ∷ more) events why l b = keeps_to_step (course_of (more ++ events)) event why l.0 (keeps_to more events why l.1 b)
 
-refused_step : (c : Course) (event : Event) → may_come c event ≡ true
+refused_step : (c : CourseState) (event : Event) → may_come c event ≡ true
     → one_if (is_refused event) + one_if (not (is_silent (after c event).phase)) ≤ one_if (not (is_silent c.phase))
 refused_step c event m = grind (arith, nat_tests)
 

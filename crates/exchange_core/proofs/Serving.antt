@@ -3,38 +3,38 @@ use Rattle.std.proofs.Common.{◌≡◌, Bool, true, false, List, [], ◌∷◌,
 use Rattle.std.proofs.lemmas.Bool.Decides.{nat_tests}
 use Rattle.exchange_core.specs.declared.event.Event.{Event}
 use Rattle.exchange_core.specs.declared.event.Event.TheVariants.{Returned}
-use Rattle.exchange_core.specs.declared.course.Course.{Course}
+use Rattle.exchange_core.specs.declared.state.CourseState.{CourseState}
 use Rattle.exchange_core.specs.Course.{after, is_in_use, is_ready, is_leased, is_offered}
 use Rattle.exchange_core.specs.May.{may_come, is_moving, is_at_gate}
 use Rattle.exchange_core.specs.Log.{course_of, IsLegal, has_served, usable_after, is_usable, is_out}
 
 -- at the gate the connection is ready; after it either the service still has to say something, or it has said all
-pub record Serves (c : Course) (served : Bool) : Type 0 where
+pub record Serves (c : CourseState) (served : Bool) : Type 0 where
   pub gate : is_at_gate c.phase ≡ true → is_offered c.phase ≡ true → is_ready c.connection ≡ true
   pub rest : is_moving c.phase ≡ true → is_leased c.connection ≡ true → is_in_use c.connection ≡ false → served ≡ true
   pub quiet : is_moving c.phase ≡ true → is_offered c.phase ≡ true → is_in_use c.connection ≡ false → served ≡ true
   pub plain : is_moving c.phase ≡ true → is_offered c.phase ≡ false → is_leased c.connection ≡ false
   pub plain_gate : is_at_gate c.phase ≡ true → is_offered c.phase ≡ false → is_leased c.connection ≡ false
 
-gate_step : (c : Course) (before : List Event) (event : Event) → Serves c (has_served before) → may_come c event ≡ true
+gate_step : (c : CourseState) (before : List Event) (event : Event) → Serves c (has_served before) → may_come c event ≡ true
     → is_at_gate (after c event).phase ≡ true → is_offered (after c event).phase ≡ true → is_ready (after c event).connection ≡ true
 gate_step c before event s m = grind (arith, nat_tests)
 
-rest_step : (c : Course) (before : List Event) (event : Event) → Serves c (has_served before) → may_come c event ≡ true
+rest_step : (c : CourseState) (before : List Event) (event : Event) → Serves c (has_served before) → may_come c event ≡ true
     → is_moving (after c event).phase ≡ true → is_leased (after c event).connection ≡ true → is_in_use (after c event).connection ≡ false
     → has_served (event ∷ before) ≡ true
 rest_step c before event s m = grind (arith, nat_tests)
 
-quiet_step : (c : Course) (before : List Event) (event : Event) → Serves c (has_served before) → may_come c event ≡ true
+quiet_step : (c : CourseState) (before : List Event) (event : Event) → Serves c (has_served before) → may_come c event ≡ true
     → is_moving (after c event).phase ≡ true → is_offered (after c event).phase ≡ true → is_in_use (after c event).connection ≡ false
     → has_served (event ∷ before) ≡ true
 quiet_step c before event s m = grind (arith, nat_tests)
 
-plain_step : (c : Course) (before : List Event) (event : Event) → Serves c (has_served before) → may_come c event ≡ true
+plain_step : (c : CourseState) (before : List Event) (event : Event) → Serves c (has_served before) → may_come c event ≡ true
     → is_moving (after c event).phase ≡ true → is_offered (after c event).phase ≡ false → is_leased (after c event).connection ≡ false
 plain_step c before event s m = grind (arith, nat_tests)
 
-plain_gate_step : (c : Course) (before : List Event) (event : Event) → Serves c (has_served before) → may_come c event ≡ true
+plain_gate_step : (c : CourseState) (before : List Event) (event : Event) → Serves c (has_served before) → may_come c event ≡ true
     → is_at_gate (after c event).phase ≡ true → is_offered (after c event).phase ≡ false → is_leased (after c event).connection ≡ false
 plain_gate_step c before event s m = grind (arith, nat_tests)
 
@@ -55,7 +55,7 @@ serves (event ∷ before) l =
       plain_gate = plain_gate_step (course_of before) before event s l.0;
     }
 
-returned_at : (c : Course) (served kept : Bool) → Serves c served → may_come c (Returned kept) ≡ true → is_moving c.phase ≡ true
+returned_at : (c : CourseState) (served kept : Bool) → Serves c served → may_come c (Returned kept) ≡ true → is_moving c.phase ≡ true
     → served ≡ true
 returned_at c served kept s m v = grind (arith, nat_tests)
 
@@ -64,11 +64,11 @@ pub returned_once_served : (events : List Event) (kept : Bool) → IsLegal (Retu
     → is_moving (course_of events).phase ≡ true → has_served events ≡ true
 returned_once_served events kept l v = returned_at (course_of events) (has_served events) kept (serves events l.1) l.0 v
 
-pub kept_if_ready : (c : Course) → may_come c (Returned true) ≡ true → is_ready c.connection ≡ true
+pub kept_if_ready : (c : CourseState) → may_come c (Returned true) ≡ true → is_ready c.connection ≡ true
 kept_if_ready c m = grind (arith, nat_tests)
 
 -- a connection that may serve again was said to be one
-usable_step : (c : Course) (usable : Bool) (event : Event) → may_come c event ≡ true → (is_ready c.connection ≡ true → usable ≡ true)
+usable_step : (c : CourseState) (usable : Bool) (event : Event) → may_come c event ≡ true → (is_ready c.connection ≡ true → usable ≡ true)
     → is_ready (after c event).connection ≡ true → usable_after usable event ≡ true
 usable_step c usable event m u r = grind (arith, nat_tests)
 
@@ -79,7 +79,7 @@ usable_at (event ∷ before) l r = usable_step (course_of before) (is_usable bef
 pub kept_if_usable : (events : List Event) → IsLegal (Returned true ∷ events) → is_usable events ≡ true
 kept_if_usable events l = usable_at events l.1 (kept_if_ready (course_of events) l.0)
 
-out_at : (c : Course) (served : Bool) (event : Event) → Serves c served → may_come c event ≡ true → is_out event ≡ true
+out_at : (c : CourseState) (served : Bool) (event : Event) → Serves c served → may_come c event ≡ true → is_out event ≡ true
     → is_offered c.phase ≡ true → served ≡ true
 out_at c served event s m o f = grind (arith, nat_tests)
 

@@ -1,42 +1,46 @@
 -- Events that may come lead from course to course.
 use Rattle.std.proofs.Common.{◌≡◌, true, List, [], ◌∷◌, ◌++◌, refl, sym, ◌∙◌, ap, subst}
 use Rattle.exchange_core.specs.declared.event.Event.{Event}
-use Rattle.exchange_core.specs.declared.course.Course.{Course}
+use Rattle.exchange_core.specs.declared.state.CourseState.{CourseState}
 use Rattle.exchange_core.specs.Course.{after}
 use Rattle.exchange_core.specs.May.{may_come}
 use Rattle.exchange_core.specs.Log.{led_from, MayFollow, Goes, IsReached}
 use Rattle.exchange_core.proofs.Reached.{reached_after}
 
-pub goes_nowhere : (c : Course) → Goes c c
+pub goes_nowhere : (c : CourseState) → Goes c c
 goes_nowhere c = ([], tt, refl)
 
-pub goes_once : (c : Course) (event : Event) → may_come c event ≡ true → Goes c (after c event)
+pub goes_once : (c : CourseState) (event : Event) → may_come c event ≡ true → Goes c (after c event)
 goes_once c event m = (event ∷ [], (m, tt), refl)
 
 -- seen through a view of the course
-pub goes_seen : (a b d : Course) (event : Event) → b ≡ a → may_come b event ≡ true → d ≡ after b event → Goes a d
-goes_seen a b d event view m e =
-    (event ∷ [], (subst (λ (x : Course). may_come x event ≡ true) view m, tt), ap (λ (x : Course). after x event) (sym view) ∙ sym e)
+pub goes_seen : (a b d : CourseState) (event : Event) → b ≡ a → may_come b event ≡ true → d ≡ after b event → Goes a d
+goes_seen a b d event view m e = (
+  event ∷ [],
+  (subst (λ (x : CourseState). may_come x event ≡ true) view m, tt),
+  ap (λ (x : CourseState). after x event) (sym view) ∙ sym e,
+)
 
-led_on : (c : Course) (more events : List Event) → led_from c (more ++ events) ≡ led_from (led_from c events) more
+led_on : (c : CourseState) (more events : List Event) → led_from c (more ++ events) ≡ led_from (led_from c events) more
 led_on c [] events = refl
 led_on c (event ∷ more) events = ap (λ d. after d event) (led_on c more events)
 
-follow_on : (c : Course) (more events : List Event) → MayFollow (led_from c events) more → MayFollow c events → MayFollow c (more ++ events)
+follow_on : (c : CourseState) (more events : List Event) → MayFollow (led_from c events) more → MayFollow c events
+    → MayFollow c (more ++ events)
 follow_on c [] events m e = e
 follow_on c (event ∷ more) events m e =
     (subst (λ d. may_come d event ≡ true) (sym (led_on c more events)) m.0, follow_on c more events m.1 e)
 
-pub goes_on : (a b c : Course) → Goes a b → Goes b c → Goes a c
+pub goes_on : (a b c : CourseState) → Goes a b → Goes b c → Goes a c
 goes_on a b c first second = (
   second.0 ++ first.0,
   follow_on a second.0 first.0 (subst (λ d. MayFollow d second.0) (sym first.2) second.1) first.1,
   led_on a second.0 first.0 ∙ (ap (λ d. led_from d second.0) first.2 ∙ second.2),
 )
 
-reached_by : (c : Course) (events : List Event) → IsReached c → MayFollow c events → IsReached (led_from c events)
+reached_by : (c : CourseState) (events : List Event) → IsReached c → MayFollow c events → IsReached (led_from c events)
 reached_by c [] r m = r
 reached_by c (event ∷ before) r m = reached_after (led_from c before) event (reached_by c before r m.1) m.0
 
-pub reached_there : (a b : Course) → IsReached a → Goes a b → IsReached b
+pub reached_there : (a b : CourseState) → IsReached a → Goes a b → IsReached b
 reached_there a b r g = subst IsReached g.2 (reached_by a g.0 r g.1)

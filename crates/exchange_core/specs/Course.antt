@@ -15,7 +15,7 @@ use Rattle.exchange_core.specs.declared.connection.Connection.TheVariants.{Absen
 use Rattle.exchange_core.specs.declared.phase.Phase.{Phase}
 use Rattle.exchange_core.specs.declared.phase.Phase.TheVariants.{Idle, Head, Planning, Asking, InQueue, Preparing, Telling, AtGate, Moving}
 use Rattle.exchange_core.specs.declared.phase.Phase.TheVariants.{Answer, Withdrawing, Refusing, Closing, Gone}
-use Rattle.exchange_core.specs.declared.course.Course.{Course}
+use Rattle.exchange_core.specs.declared.state.CourseState.{CourseState}
 
 -- The service's connection.
 
@@ -177,16 +177,16 @@ is_offered (Moving point offered) = offered
 is_offered _ = false
 
 -- what a user got of this request makes no whole text yet: a refusal after that would be read as a part of it
-abbrev pub is_mid_text : Course → Bool
+abbrev pub is_mid_text : CourseState → Bool
 is_mid_text c = c.begun || c.half_told
 
 -- a refusal is due exactly where it stands alone; else the connection is cut
-abbrev pub phase_when_failed : Course → RefusalCause → Phase
+abbrev pub phase_when_failed : CourseState → RefusalCause → Phase
 phase_when_failed c why = if is_mid_text c then Closing else Refusing why
 
 -- a message that doesn't move has failed, and so has one that waits for a connection; a user that sends no head, or takes no
 -- refusal, is let go
-abbrev pub late_from : Phase → Course → Phase
+abbrev pub late_from : Phase → CourseState → Phase
 late_from (Asking point) c = phase_when_failed c causes.Deadline
 late_from (InQueue point) c = phase_when_failed c causes.Deadline
 late_from Telling c = phase_when_failed c causes.Deadline
@@ -194,11 +194,11 @@ late_from (Moving point offered) c = phase_when_failed c causes.Deadline
 late_from Answer c = phase_when_failed c causes.Deadline
 late_from _ c = Gone
 
-abbrev pub phase_when_late : Course → Phase
+abbrev pub phase_when_late : CourseState → Phase
 phase_when_late c = late_from c.phase c
 
 -- a refusal that goes out stays due; a request to which nothing was answered is refused
-abbrev pub stop_from : Phase → Course → Phase
+abbrev pub stop_from : Phase → CourseState → Phase
 stop_from (Refusing why) c = Refusing why
 stop_from Idle c = Gone
 stop_from Head c = Gone
@@ -206,7 +206,7 @@ stop_from Closing c = Gone
 stop_from Gone c = Gone
 stop_from _ c = if is_mid_text c then Gone else Refusing causes.Stopping
 
-abbrev pub phase_when_stopping : Course → Phase
+abbrev pub phase_when_stopping : CourseState → Phase
 phase_when_stopping c = stop_from c.phase c
 
 -- a message that waited for a connection is planned anew
@@ -219,7 +219,7 @@ abbrev pub told_from : Phase → Phase
 told_from Telling = Planning Reqmod
 told_from phase = phase
 
-abbrev pub phase_after : Course → Event → Phase
+abbrev pub phase_after : CourseState → Event → Phase
 phase_after c HeadBegun = Head
 phase_after c RequestRead = Planning Reqmod
 phase_after c ResponseRead = Planning Respmod
@@ -247,7 +247,7 @@ phase_after c _ = c.phase
 
 -- All of it.
 
-abbrev pub after : Course → Event → Course
+abbrev pub after : CourseState → Event → CourseState
 after c event = record {
   phase = phase_after c event;
   connection = connection_after c.connection event;
@@ -268,7 +268,7 @@ after c event = record {
 }
 
 -- before the first event
-abbrev pub start : Course
+abbrev pub start : CourseState
 start = record {
   phase = Head;
   connection = Absent;

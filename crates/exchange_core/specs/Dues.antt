@@ -14,7 +14,7 @@ use Rattle.exchange_core.specs.declared.connection.Connection.TheVariants.{Absen
 use Rattle.exchange_core.specs.declared.phase.Phase.{Phase}
 use Rattle.exchange_core.specs.declared.phase.Phase.TheVariants.{Idle, Head, Planning, Asking, InQueue, Preparing, Telling, AtGate, Moving}
 use Rattle.exchange_core.specs.declared.phase.Phase.TheVariants.{Answer, Withdrawing, Refusing, Closing, Gone}
-use Rattle.exchange_core.specs.declared.course.Course.{Course}
+use Rattle.exchange_core.specs.declared.state.CourseState.{CourseState}
 use Rattle.exchange_core.specs.Course.{is_leased, is_ready, is_in_use, is_spent, point_of, is_offered}
 use Rattle.exchange_core.specs.May.{is_request, is_idle, is_head, is_gone, is_free, holds_nothing, may_take_kept, may_keep_origin}
 
@@ -28,12 +28,12 @@ status_of causes.Deadline = 504
 status_of causes.Stopping = 503
 
 -- what is held goes back before anything else is done
-abbrev pub freed_first : Course → Due → Due
+abbrev pub freed_first : CourseState → Due → Due
 freed_first c due =
     if is_leased c.connection then GiveBack else (if c.stake then Release else (if c.origin then HangUp else due))
 
 -- of a message that is being gathered: a connection for the offer and none else, a reservation, the user's leave, and the origin
-abbrev pub gathers : Course → Point → (offered waits : Bool) → Due
+abbrev pub gathers : CourseState → Point → (offered waits : Bool) → Due
 gathers c point offered waits =
     if offered && not (is_leased c.connection) then Lend
     else (if not offered && is_leased c.connection then GiveBack
@@ -49,7 +49,7 @@ asks (Ready reused) = Ask
 asks (InUse reused) = Hear
 asks Spent = GiveBack
 
-abbrev pub due_at : Phase → Course → Due
+abbrev pub due_at : Phase → CourseState → Due
 due_at Idle c = freed_first c ReadRequest
 due_at Head c = freed_first c ReadRequest
 -- a connection that may not serve again goes back at once
@@ -68,11 +68,11 @@ due_at (Refusing why) c = if c.stopping then TryRefusal (status_of why) else fre
 due_at Closing c = freed_first c Linger
 due_at Gone c = freed_first c Nothing
 
-abbrev pub due_of : Course → Due
+abbrev pub due_of : CourseState → Due
 due_of c = due_at c.phase c
 
 -- the user's connection is over, and nothing is held
-abbrev pub is_over : Course → Bool
+abbrev pub is_over : CourseState → Bool
 is_over c = is_gone c.phase && holds_nothing c
 
 -- the event is what comes of doing it
@@ -113,7 +113,7 @@ comes_of Linger happens.UserClosed = true
 comes_of _ _ = false
 
 -- of the events that may come of it, this one fits what is there
-abbrev pub fits : Course → Event → Bool
+abbrev pub fits : CourseState → Event → Bool
 fits c happens.HeadBegun = is_idle c.phase
 fits c happens.RequestRead = is_head c.phase
 fits c happens.Stale = not c.asked

@@ -8,12 +8,12 @@ use Rattle.exchange_core.specs.declared.event.Event.TheVariants.{UserLost, Dropp
 use Rattle.exchange_core.specs.declared.event.RefusalCause.{RefusalCause}
 use Rattle.exchange_core.specs.declared.phase.Phase.{Phase}
 use Rattle.exchange_core.specs.declared.phase.Phase.TheVariants.{Refusing, Closing, Gone}
-use Rattle.exchange_core.specs.declared.course.Course.{Course}
+use Rattle.exchange_core.specs.declared.state.CourseState.{CourseState}
 use Rattle.exchange_core.specs.Course.{start, after, is_leased, closes_after}
 use Rattle.exchange_core.specs.May.{may_come}
 
 -- where a log leads
-abbrev pub course_of : List Event → Course
+abbrev pub course_of : List Event → CourseState
 course_of [] = start
 course_of (event ∷ before) = after (course_of before) event
 
@@ -23,21 +23,21 @@ IsLegal [] = ⊤
 IsLegal (event ∷ before) = (may_come (course_of before) event ≡ true) × IsLegal before
 
 -- some legal log leads there
-abbrev pub IsReached : Course → Type 0
+abbrev pub IsReached : CourseState → Type 0
 IsReached c = (events : List Event) × IsLegal events × (course_of events ≡ c)
 
 -- where a list of events leads from a course
-abbrev pub led_from : Course → List Event → Course
+abbrev pub led_from : CourseState → List Event → CourseState
 led_from c [] = c
 led_from c (event ∷ before) = after (led_from c before) event
 
 -- each event of a list may come after those before it, from that course on
-abbrev pub MayFollow : Course → List Event → Type 0
+abbrev pub MayFollow : CourseState → List Event → Type 0
 MayFollow c [] = ⊤
 MayFollow c (event ∷ before) = (may_come (led_from c before) event ≡ true) × MayFollow c before
 
 -- some list of events, each of which may come, leads from the one course to the other
-abbrev pub Goes : Course → Course → Type 0
+abbrev pub Goes : CourseState → CourseState → Type 0
 Goes old new = (events : List Event) × MayFollow old events × (led_from old events ≡ new)
 
 -- Single events.
@@ -277,7 +277,7 @@ failures_from Gone = 0
 failures_from _ = 2
 
 -- how much is held
-abbrev pub held_by : Course → ℕ
+abbrev pub held_by : CourseState → ℕ
 held_by c = one_if (is_leased c.connection) + (one_if c.stake + one_if c.origin)
 
 -- a message moves

@@ -11,7 +11,7 @@ use Rattle.exchange_core.specs.declared.event.Event.TheVariants.{Stop, Tried}
 use Rattle.exchange_core.specs.declared.phase.Phase.{Phase}
 use Rattle.exchange_core.specs.declared.phase.Phase.TheVariants.{Idle, Head, Planning, Asking, InQueue, Preparing, Telling, AtGate, Moving}
 use Rattle.exchange_core.specs.declared.phase.Phase.TheVariants.{Answer, Withdrawing, Refusing, Closing, Gone}
-use Rattle.exchange_core.specs.declared.course.Course.{Course}
+use Rattle.exchange_core.specs.declared.state.CourseState.{CourseState}
 use Rattle.exchange_core.specs.declared.dialing.Dialing.{Dialing}
 use Rattle.exchange_core.specs.declared.dialing.Dialing.TheVariants.{Fresh, KeptFirst}
 use Rattle.exchange_core.specs.Course.{is_leased, is_ready, is_in_use, is_spent, is_reused, point_of, is_offered}
@@ -83,11 +83,11 @@ waits_of (Preparing point offered waits) = waits
 waits_of _ = false
 
 -- no lease, no reservation
-abbrev pub is_free : Course → Bool
+abbrev pub is_free : CourseState → Bool
 is_free c = not (is_leased c.connection) && not c.stake
 
 -- nor a connection to the origin
-abbrev pub holds_nothing : Course → Bool
+abbrev pub holds_nothing : CourseState → Bool
 holds_nothing c = is_free c && not c.origin
 
 -- one leased connection serves the question for options, or the offer
@@ -128,32 +128,32 @@ awaits_origin Answer = true
 awaits_origin _ = false
 
 -- the message may be planned: what a withdrawn one held has gone back
-abbrev pub is_to_plan : Course → Bool
+abbrev pub is_to_plan : CourseState → Bool
 is_to_plan c = is_planning c.phase || (is_withdrawing c.phase && holds_nothing c)
 
 -- the request may go out on a kept connection: it may be sent again, and wasn't withdrawn from one
-abbrev pub may_take_kept : Course → Bool
+abbrev pub may_take_kept : CourseState → Bool
 may_take_kept c = c.repeatable && not c.withdrawn
 
 -- how the origin of the request is to be dialed
-abbrev pub dialing_of : Course → Dialing
+abbrev pub dialing_of : CourseState → Dialing
 dialing_of c = if may_take_kept c then KeptFirst else Fresh
 
 -- the origin's connection may be kept for later exchanges: it lasts, and the proxy neither drains nor stops
-abbrev pub may_keep_origin : Course → Bool
+abbrev pub may_keep_origin : CourseState → Bool
 may_keep_origin c = c.lasts && (not c.draining && not c.stopping)
 
 -- the connection that an offer wants is there, or none, and the reservation
-abbrev pub is_provided : Course → Bool
+abbrev pub is_provided : CourseState → Bool
 is_provided c = is_preparing c.phase
     && ((if is_offered c.phase then is_ready c.connection else not (is_leased c.connection)) && c.stake)
 
 -- its user doesn't wait, or was told
-abbrev pub is_bidden : Course → Bool
+abbrev pub is_bidden : CourseState → Bool
 is_bidden c = not (waits_of c.phase) || c.told
 
 -- the text that tells a user is due: a connection and a reservation are there, or were there and nothing is held
-abbrev pub may_tell : Course → Bool
+abbrev pub may_tell : CourseState → Bool
 may_tell c = not c.told && ((waits_of c.phase && is_provided c) || (is_telling c.phase && holds_nothing c))
 
 -- a message, or the head before it, may go no further
@@ -206,7 +206,7 @@ goes_on_with Released = true
 goes_on_with (HungUp kept) = true
 goes_on_with event = ends_with event
 
-abbrev pub may_come : Course → Event → Bool
+abbrev pub may_come : CourseState → Event → Bool
 -- the next request is read once nothing of the one before is held
 may_come c HeadBegun = is_idle c.phase && holds_nothing c
 may_come c RequestRead = is_head c.phase && holds_nothing c

@@ -1,232 +1,138 @@
-//! Where a user's connection stands and what it holds, and what an event makes of that.
+//! The course of one user's connection, from its first event to its last.
 
-ghost use Rattle.std.specs.Prelude.{◌≡◌};
+ghost use Rattle.std.specs.Prelude.{◌≡◌, ◌||◌, true, false};
 
-use crate::connection::Connection;
+use crate::due::Due;
 use crate::event::{Event, RefusalCause};
-use crate::phase::Phase;
-use trace_core::Point;
+use crate::state::CourseState;
+use std::marker::Model;
 
-/// Where a user's connection stands, and what it holds: a lease, a reservation, and a connection to the origin.
-#[derive(Clone, Copy)]
+/// The course of one user's connection. To a contract it is its state, to which some legal log of events leads: so the laws hold of it.
+///
+/// ```
+/// let mut course = Course::begin();
+/// assert_eq!(rt; course.due(), Due::ReadRequest);
+/// assert_eq!(rt; course.may(Event::Served { usable: true }), false);
+/// if course.may(Event::RequestRead) {
+///     course.take(Event::RequestRead);
+/// }
+/// assert_eq!(rt; course.due(), Due::Plan);
+/// ```
+#[derive(Drop)]
 pub struct Course {
-    pub phase: Phase,
-    /// The service's connection.
-    pub connection: Connection,
-    /// A reservation is open.
-    pub stake: bool,
-    /// The origin's connection is open.
-    pub origin: bool,
-    /// The origin's newest connection was kept from an earlier exchange.
-    pub kept: bool,
-    /// The origin's connection lasts: its answer was read whole, and another request may go out there.
-    pub lasts: bool,
-    /// The service said its options for the sake of this message.
-    pub asked: bool,
-    /// The newest plan says that its message may be sent again.
-    pub repeatable: bool,
-    /// This request was withdrawn from a kept connection.
-    pub withdrawn: bool,
-    /// A byte of the origin's answer to this request was read.
-    pub heard: bool,
-    /// The user was told to send the body of this request.
-    pub told: bool,
-    /// A part of the text that tells it went out, and not all.
-    pub half_told: bool,
-    /// A byte of the answer to this request went to the user, and not all.
-    pub begun: bool,
-    /// The answer of the message that moves is the last one of its connection, and its head says so: its transaction started while the
-    /// proxy drained.
-    pub closes: bool,
-    /// The proxy drains.
-    pub draining: bool,
-    /// The proxy stops.
-    pub stopping: bool,
+    state: CourseState,
+}
+
+impl Model for Course {
+    ghost use Rattle.exchange_core.specs.declared.state.CourseState.{CourseState};
+
+    ghost Value = { CourseState };
+
+    ghost use Rattle.exchange_core.specs.Log.{IsReached};
+
+    ghost view = { λ course. course.state };
+
+    ghost invariant = { λ course. IsReached course.state };
 }
 
 impl Course {
-    ghost use Rattle.exchange_core.specs.Course.{start, after, is_mid_text, phase_when_late, phase_when_stopping, phase_when_failed, phase_after};
+    ghost use Rattle.exchange_core.specs.declared.event.Event.TheVariants.{Failed, UserLost, Dropped, Late};
+    ghost use Rattle.exchange_core.specs.declared.due.Due.TheVariants.{Await, Start, Turn, ReadResponse};
+    ghost use Rattle.exchange_core.specs.Course.{start, after};
+    ghost use Rattle.exchange_core.specs.May.{may_come, is_free, is_refusing, is_gone};
+    ghost use Rattle.exchange_core.specs.Dues.{due_of, comes_of, fits, is_wait, fails_of, is_for_user, is_between};
+    ghost use Rattle.exchange_core.specs.Log.{IsReached, Goes};
 
-    /// Before the first event.
-    pub fn start() -> Course
+    /// Before the first event: the head of the first request comes.
+    pub fn begin() -> Course
         ensures { result ≡ start }
     {
         Course {
-            phase: Phase::Head,
-            connection: Connection::Absent,
-            stake: false,
-            origin: false,
-            kept: false,
-            lasts: false,
-            asked: false,
-            repeatable: false,
-            withdrawn: false,
-            heard: false,
-            told: false,
-            half_told: false,
-            begun: false,
-            closes: false,
-            draining: false,
-            stopping: false,
+            state: CourseState::start(),
         }
     }
 
-    /// Whether what the user got makes no whole text yet, so that it would read a refusal as a part of that text.
-    pub fn is_mid_text(self) -> bool
-        ensures { result ≡ is_mid_text self }
+    /// Whether an event may come next.
+    pub fn may(&self, event: Event) -> bool
+        ensures { result ≡ may_come self.now event }
     {
-        self.begun || self.half_told
+        self.state.may(event)
     }
 
-    /// Where what goes no further goes: to a refusal, where that stands alone.
-    fn phase_when_failed(self, why: RefusalCause) -> Phase
-        ensures { result ≡ phase_when_failed self why }
+    /// Takes an event that may come next.
+    pub fn take(&mut self, event: Event)
+        requires { may_come self.old event ≡ true }
+        ensures after { self.new ≡ after self.old event }
+        ensures goes { Goes self.old self.new }
     {
-        if self.is_mid_text() {
-            Phase::Closing
-        } else {
-            Phase::Refusing { why }
-        }
+        self.state = self.state.after(event);
     }
 
-    /// Where a deadline leads. A message that waits fails: `Failed(RefusalCause::Deadline)`, which the proxy tells there, leads to the same
-    /// phase. Any other user is let go.
-    fn phase_when_late(self) -> Phase
-        ensures { result ≡ phase_when_late self }
+    /// Takes what came of doing what is due, where it fits what is there.
+    pub fn done(&mut self, event: Event)
+        requires due { comes_of (due_of self.old) event ≡ true }
+        requires fits { fits self.old event ≡ true }
+        ensures after { self.new ≡ after self.old event }
+        ensures goes { Goes self.old self.new }
     {
-        match self.phase {
-            Phase::Asking { .. }
-            | Phase::InQueue { .. }
-            | Phase::Telling
-            | Phase::Answer
-            | Phase::Moving { .. } => self.phase_when_failed(RefusalCause::Deadline),
-            _ => Phase::Gone,
-        }
+        self.state = self.state.after(event);
     }
 
-    /// Where the end of the proxy leads.
-    fn phase_when_stopping(self) -> Phase
-        ensures { result ≡ phase_when_stopping self }
+    /// Takes a deadline, where what is due may have to wait.
+    pub fn late(&mut self)
+        requires { is_wait (due_of self.old) ≡ true }
+        ensures after { self.new ≡ after self.old Late }
+        ensures goes { Goes self.old self.new }
     {
-        match self.phase {
-            Phase::Refusing { why } => Phase::Refusing { why },
-            Phase::Idle | Phase::Head | Phase::Closing | Phase::Gone => Phase::Gone,
-            _ if self.is_mid_text() => Phase::Gone,
-            _ => Phase::Refusing {
-                why: RefusalCause::Stopping,
-            },
-        }
+        self.state = self.state.after(Event::Late);
     }
 
-    /// Where an event leads.
-    fn phase_after(self, event: Event) -> Phase
-        ensures { result ≡ phase_after self event }
+    /// Takes it that the message, or the head before it, goes no further, for a cause of which what is due may fail.
+    pub fn failed(&mut self, why: RefusalCause)
+        requires { fails_of (due_of self.old) why ≡ true }
+        ensures after { self.new ≡ after self.old (Failed why) }
+        ensures goes { Goes self.old self.new }
     {
-        let point = self.phase.point();
-        let offered = self.phase.is_offered();
-        match event {
-            Event::HeadBegun => Phase::Head,
-            Event::RequestRead => Phase::Planning {
-                point: Point::Reqmod,
-            },
-            Event::ResponseRead => Phase::Planning {
-                point: Point::Respmod,
-            },
-            Event::Stale => Phase::Asking { point },
-            Event::Queued => Phase::InQueue { point },
-            Event::Lent { .. } => self.phase.lent(),
-            Event::Learned { .. } => Phase::Planning { point },
-            Event::Planned { offered, waits, .. } => Phase::Preparing {
-                point,
-                offered,
-                waits,
-            },
-            Event::Stuck => Phase::Telling,
-            Event::Told => self.phase.told(),
-            Event::Started => Phase::AtGate { point, offered },
-            Event::LetPass => Phase::Moving { point, offered },
-            Event::Sent => Phase::Answer,
-            Event::Withdrawn => Phase::Withdrawing,
-            Event::Answered { keeps, .. } if keeps && !self.closes => Phase::Idle,
-            Event::Answered { .. } | Event::Refused => Phase::Closing,
-            Event::Failed(why) => self.phase_when_failed(why),
-            Event::UserClosed | Event::UserLost | Event::Dropped | Event::Tried => Phase::Gone,
-            Event::Late => self.phase_when_late(),
-            Event::Stop => self.phase_when_stopping(),
-            _ => self.phase,
-        }
+        self.state = self.state.after(Event::Failed(why));
     }
 
-    /// What an event leaves.
-    pub(crate) fn after(self, event: Event) -> Course
-        ensures { result ≡ after self event }
+    /// Takes it that the user is lost, while something is due for it.
+    pub fn lost(&mut self)
+        requires { is_for_user (due_of self.old) ≡ true }
+        ensures after { self.new ≡ after self.old UserLost }
+        ensures goes { Goes self.old self.new }
     {
-        let mut course = self;
-        course.phase = self.phase_after(event);
-        match event {
-            Event::RequestRead => {
-                course.asked = false;
-                course.withdrawn = false;
-                course.heard = false;
-                course.told = false;
-                course.half_told = false;
-                course.begun = false;
-                course.closes = false;
-            }
-            Event::ResponseRead => {
-                course.asked = false;
-                course.heard = true;
-            }
-            Event::Lent { reused } => course.connection = Connection::Ready { reused },
-            Event::Asked | Event::LetPass => course.connection = self.connection.in_use(),
-            Event::Learned { usable } => {
-                course.connection = self.connection.learned(usable);
-                course.asked = true;
-            }
-            Event::Planned { repeatable, .. } => course.repeatable = repeatable,
-            Event::Reserved => course.stake = true,
-            Event::HalfTold => course.half_told = true,
-            Event::Told => {
-                course.told = true;
-                course.half_told = false;
-            }
-            Event::Dialed { kept } => {
-                course.origin = true;
-                course.kept = kept;
-            }
-            Event::Heard => course.heard = true,
-            Event::Withdrawn => course.withdrawn = true,
-            Event::Renewed => course.connection = self.connection.renewed(),
-            Event::Served { usable } => course.connection = self.connection.said(usable),
-            Event::Started => course.closes = self.draining,
-            Event::Begun => course.begun = true,
-            Event::Answered { lasts, .. } => {
-                course.lasts = lasts;
-                course.begun = false;
-                course.closes = false;
-            }
-            Event::Returned { .. } => course.connection = Connection::Absent,
-            Event::Released => course.stake = false,
-            Event::HungUp { .. } => {
-                course.origin = false;
-                course.lasts = false;
-            }
-            Event::Drain => course.draining = true,
-            Event::Stop => course.stopping = true,
-            // These change the phase alone.
-            Event::HeadBegun
-            | Event::Stale
-            | Event::Queued
-            | Event::Stuck
-            | Event::Sent
-            | Event::Failed(_)
-            | Event::Refused
-            | Event::UserClosed
-            | Event::UserLost
-            | Event::Dropped
-            | Event::Late
-            | Event::Tried => {}
-        }
-        course
+        self.state = self.state.after(Event::UserLost);
+    }
+
+    /// Takes it that the user's connection was closed at once, while no request of it is under way.
+    pub fn dropped(&mut self)
+        requires { is_between (due_of self.old) ≡ true }
+        ensures after { self.new ≡ after self.old Dropped }
+        ensures goes { Goes self.old self.new }
+    {
+        self.state = self.state.after(Event::Dropped);
+    }
+
+    /// What is due. While that is for the user, the proxy doesn't stop. Who waits in the queue has no lease and no reservation. A
+    /// transaction starts and turns with a reservation and the origin's connection, and the origin is heard on its connection.
+    pub fn due(&self) -> Due
+        ensures due { result ≡ due_of self.now }
+        ensures serves { is_for_user result ≡ true → self.now.stopping ≡ false }
+        ensures queues { result ≡ Await → is_free self.now ≡ true }
+        ensures starts { result ≡ Start → (self.now.stake ≡ true) × (self.now.origin ≡ true) }
+        ensures turns { result ≡ Turn → (self.now.stake ≡ true) × (self.now.origin ≡ true) }
+        ensures hears { result ≡ ReadResponse → self.now.origin ≡ true }
+    {
+        self.state.due()
+    }
+
+    /// Where it stands. Once the proxy stops, a refusal may be tried, and what is held goes back.
+    pub fn state(&self) -> CourseState
+        ensures same { result ≡ self.now }
+        ensures reached { IsReached result }
+        ensures stops { result.stopping ≡ true → (is_refusing result.phase || is_gone result.phase) ≡ true }
+    {
+        self.state
     }
 }

@@ -5,7 +5,7 @@ ghost use Rattle.exchange_core.specs.declared.event.RefusalCause.{RefusalCause};
 ghost use Rattle.exchange_core.specs.declared.event.RefusalCause.TheVariants.{Deadline};
 ghost use Rattle.exchange_core.specs.declared.event.Event.{Event};
 ghost use Rattle.exchange_core.specs.declared.event.Event.TheVariants.{RequestRead, ResponseRead, Told, Dialed, Started, Begun, Withdrawn, Answered, Failed, Returned, HungUp, UserLost, Late, Drain, Stop};
-ghost use Rattle.exchange_core.specs.declared.course.Course.{Course};
+ghost use Rattle.exchange_core.specs.declared.state.CourseState.{CourseState};
 ghost use Rattle.exchange_core.specs.declared.phase.Phase.TheVariants.{Refusing, Closing, Gone};
 ghost use Rattle.exchange_core.specs.declared.due.Due.TheVariants.{Nothing};
 ghost use Rattle.exchange_core.specs.Course.{after, is_leased, is_ready, is_offered, point_of};
@@ -154,13 +154,13 @@ pub fn a_connection_in_use_stays()
 /// waited for, nothing is held. While a connection of the service is waited for, there is no lease and no reservation, and for a
 /// request no connection to the origin.
 pub fn no_exchange_is_forgotten()
-    ensures over { (c : Course) → (is_over c ≡ true ↔ due_of c ≡ Nothing) }
+    ensures over { (c : CourseState) → (is_over c ≡ true ↔ due_of c ≡ Nothing) }
     ensures goes_on { (events : List Event) → IsLegal events → is_over (course_of events) ≡ false
         → (event : Event) × (comes_of (due_of (course_of events)) event ≡ true) × (may_come (course_of events) event ≡ true) }
     ensures deadline { (events : List Event) → IsLegal events
         → is_wait (due_of (course_of events)) ≡ true → may_come (course_of events) Late ≡ true }
-    ensures failure { (c : Course) (why : RefusalCause) → is_for_message (due_of c) ≡ true → may_come c (Failed why) ≡ true }
-    ensures free { (c : Course) → is_wait_for_user (due_of c) ≡ true → holds_nothing c ≡ true }
+    ensures failure { (c : CourseState) (why : RefusalCause) → is_for_message (due_of c) ≡ true → may_come c (Failed why) ≡ true }
+    ensures free { (c : CourseState) → is_wait_for_user (due_of c) ≡ true → holds_nothing c ≡ true }
     ensures queue { (events : List Event) → IsLegal events → is_in_queue (course_of events).phase ≡ true
         → is_free (course_of events) ≡ true }
     ensures queue_origin { (events : List Event) → IsLegal events → is_in_queue (course_of events).phase ≡ true
@@ -176,9 +176,9 @@ pub fn what_is_due_may_come()
 /// A deadline of a message is the same as its failure for that reason; any other one lets the user go. Where nothing moves, each
 /// deadline and each failure brings the end nearer: at most two come, and with what goes back there are at most five events.
 pub fn deadlines_end_an_exchange()
-    ensures refused { (c : Course) → is_wait (due_of c) ≡ true → is_for_leave (due_of c) ≡ false
+    ensures refused { (c : CourseState) → is_wait (due_of c) ≡ true → is_for_leave (due_of c) ≡ false
         → after c Late ≡ after c (Failed Deadline) }
-    ensures let_go { (c : Course) → is_for_leave (due_of c) ≡ true → (after c Late).phase ≡ Gone }
+    ensures let_go { (c : CourseState) → is_for_leave (due_of c) ≡ true → (after c Late).phase ≡ Gone }
     ensures falls { (more events : List Event) → IsLegal (more ++ events) → AllAre is_quiet more
         → count is_failing more + failures_from (course_of (more ++ events)).phase ≤ failures_from (course_of events).phase }
     ensures two { (more events : List Event) → IsLegal (more ++ events) → AllAre is_quiet more → count is_failing more ≤ 2 }

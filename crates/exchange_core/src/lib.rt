@@ -11,15 +11,15 @@ mod course;
 mod dialing;
 mod due;
 mod event;
-mod exchange;
 pub mod laws;
 mod may;
 mod phase;
+mod state;
 
 pub use connection::Connection;
 pub use course::Course;
 pub use dialing::Dialing;
 pub use due::Due;
 pub use event::{Event, RefusalCause};
-pub use exchange::Exchange;
 pub use phase::Phase;
+pub use state::CourseState;

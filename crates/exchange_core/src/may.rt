@@ -3,12 +3,12 @@
 ghost use Rattle.std.specs.Prelude.{◌≡◌, true};
 ghost use Rattle.exchange_core.specs.May.{may_come, is_free, holds_nothing, is_to_plan, may_take_kept, dialing_of, may_keep_origin, is_provided, is_bidden, may_tell, ends_with, goes_on_with};
 
-use crate::course::Course;
 use crate::dialing::Dialing;
 use crate::event::Event;
 use crate::phase::Phase;
+use crate::state::CourseState;
 
-impl Course {
+impl CourseState {
     /// Neither a lease nor a reservation is out.
     pub fn is_free(self) -> bool
         ensures { result ≡ is_free self }

@@ -118,6 +118,7 @@ fn fits_length(seen: &Seen, framing: Framing, came: u64, over: bool) -> bool
     ensures exact { result ≡ true → chosen_over seen.now ≡ true → IfSome (length_of framing) (λ n. chosen_received seen.now ≡ n) }
     ensures breaks { result ≡ false → BreaksLength seen.now framing }
 {
+    // For the proof alone: what is required is said of what the history shows.
     let _ = seen;
     match framing {
         Framing::None => came == 0,

@@ -206,6 +206,7 @@ impl HopWriter {
         if let Some(fault) = self.fault {
             return Err(fault);
         }
+        // For the proof alone: a state's trace is legal.
         let _ = state.trace();
         let may = state.sendable().done;
         let next = match decide(state, &self.writer, self.framing, self.stage, self.turn) {

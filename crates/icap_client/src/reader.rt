@@ -256,6 +256,7 @@ impl ReplyReader {
         ensures head { KeepsHead (shows state.now) self.old self.new }
         ensures stays { IfErr result (λ _. Stays self.old self.new) }
     {
+        // For the proof alone: the body is in this stage.
         let _ = &self.stage;
         let mut next = chunks;
         match read_body(&mut next, raw, out) {

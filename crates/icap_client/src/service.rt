@@ -50,6 +50,7 @@ fn write_once<W: Wire>(
     ensures last_stop { last_stop.new ≡ (after_all (shows state.now) (events_of result)).last_stop }
     ensures head { writer.new.head ≡ writer.old.head }
 {
+    // For the proof alone: a state's trace is legal.
     let _ = state.trace();
     let next = decide(state, writer, most);
     let wrote = writer.write(&next, tape, wire, buffer);

@@ -79,6 +79,7 @@ pub fn the_wires_take_one_message<B: Ledgers, W: Wires>(tx: &Tx<B, OwnEnds<W>>)
     ensures took { (request : List ℕ) (t : Texts) → ⟦<Tx<B, OwnEnds<W>> as Standing>⟧.stands tx.now request t
         → WiresTook tx.now.ends tx.now.hold request t }
 {
+    // For the proof alone: its state is that of its history.
     let _ = tx.seen();
 }
 
@@ -197,5 +198,6 @@ pub fn each_held_byte_is_needed<B: Ledgers, W: Wires>(tx: &Tx<B, OwnEnds<W>>)
     ensures adapted_scripts { (place : ℕ) → IsIn (interval tx.now.hold.adapted) place → IsScript Adapted place tx.now.hold.history.plan tx.now.hold.history.events (script_of Adapted (shows tx.now.hold.history) place)
         × (length (script_of Adapted (shows tx.now.hold.history) place) ≤ MAX_SCRIPT) }
 {
+    // For the proof alone: its state is that of its history.
     let _ = tx.seen();
 }

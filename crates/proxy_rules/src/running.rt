@@ -213,6 +213,7 @@ impl<B: Ledgers, W: Wires> Running<B, W> {
         ensures back { IfSome self.old.tx.ends.service (λ line. result ≡ line.wire) }
         ensures lasts { ⟦<Tx<B, OwnEnds<W>> as Lasting<W>>⟧.lasts (anew_on (wire_of self.new.tx.ends.service)) self.old.tx self.new.tx }
     {
+        // For the proof alone: its state is that of its history.
         let _ = self.tx.seen();
         self.tx.retry(rt, bank, wire)
     }

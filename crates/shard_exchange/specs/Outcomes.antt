@@ -1,7 +1,7 @@
 -- What a plan and a refusal come to.
 use Rattle.std.specs.Prelude.{◌≡◌, ◌⊎◌, ℕ, List, Bool, true, false, ⊤, not, ◌&&◌, ◌||◌, if◌then◌else◌, Option, Some, None, Result, Ok, Err}
 use Rattle.trace_core.specs.declared.history.Point.{Point}
-use Rattle.exchange_core.specs.declared.course.Course.{Course}
+use Rattle.exchange_core.specs.declared.state.CourseState.{CourseState}
 use Rattle.exchange_core.specs.declared.event.RefusalCause.{RefusalCause}
 use Rattle.exchange_core.specs.declared.dialing.Dialing.{Dialing}
 use Rattle.exchange_core.specs.declared.due.Due.{Due}
@@ -49,12 +49,12 @@ use Rattle.shard_exchange.specs.Ends.{moves, begun_with, served_with, IsEnded, I
 use Rattle.shard_exchange.specs.Saying.{LaysPage, SaysOn, interim_text, refusal_by}
 
 -- the message fails of what may fail where this is due
-abbrev pub FailsAt : Due → (old new : Course) → Type 0
+abbrev pub FailsAt : Due → (old new : CourseState) → Type 0
 FailsAt due old new = (why : RefusalCause) × (fails_of due why ≡ true) × (new ≡ after old (Failed why))
 
 -- What a message's plan leads to: a user that was told to send its body isn't told again, nor one whose response comes; and a service is
 -- asked for its options once.
-abbrev pub Leads : (old new : Course) → Result Marks Unplanned → Type 0
+abbrev pub Leads : (old new : CourseState) → Result Marks Unplanned → Type 0
 Leads old new (Ok marks) =
     new ≡ after old (Planned marks.offered (marks.waits && (is_request (point_of old.phase) && not old.told)) marks.repeatable)
 Leads old new (Err unplanned.Stale) = new ≡ (if old.asked then after old (Failed (cause_of (unplanned_reason unplanned.Stale))) else after
@@ -62,7 +62,7 @@ Leads old new (Err unplanned.Stale) = new ≡ (if old.asked then after old (Fail
 Leads old new (Err (unplanned.Refused reason)) = new ≡ after old (Failed (cause_of reason))
 
 -- A message is planned: as one whose service was asked for it exactly where the course says so.
-pub record IsPlanned (plans : Bool → Result Marks Unplanned → Type 0) (old new : Course) : Type 0 where
+pub record IsPlanned (plans : Bool → Result Marks Unplanned → Type 0) (old new : CourseState) : Type 0 where
   pub answer : Result Marks Unplanned
   pub plan : plans old.asked answer
   pub leads : Leads old new answer
@@ -76,14 +76,14 @@ SaidLeads Broken phase = is_gone phase ≡ true
 
 -- Where the last refusal leads of which so much was said, of a user whose exchange was stopped: it stays due, and what is held stays so; or
 -- the user is gone.
-abbrev pub LastLeads : {H : Type 0} → (held holds : H) → (old new : Course) → Said → Type 0
+abbrev pub LastLeads : {H : Type 0} → (held holds : H) → (old new : CourseState) → Said → Type 0
 LastLeads held holds old new (Part out) = (new ≡ old) × (holds ≡ held)
 LastLeads held holds old new Nothing = (new ≡ old) × (holds ≡ held)
 LastLeads held holds old new _ = is_gone new.phase ≡ true
 
 -- The user of an exchange that was stopped gets what is left of the refusal of this status, once.
 pub record SaysLast {H : Type 0} (user : H → Past → Type 0) (hand : H → Hand) (pages : List ℕ → Type 0) (held holds : H) (status : ℕ)
-    (old new : Course) : Type 0 where
+    (old new : CourseState) : Type 0 where
   pub later : H
   pub said : Said
   pub laid : LaysPage pages status (hand held).refused (hand later).refused.page
@@ -98,14 +98,14 @@ pub record SaysRefusal (user later : Past → Type 0) (old new : Hand) (status :
   pub leads : SaidLeads said phase
 
 -- where the text leads of which so much was said that tells the user to send its body; and, where it takes nothing now, to this
-abbrev pub TellLeads : (stays : Course) → (old new : Course) → Said → Type 0
+abbrev pub TellLeads : (stays : CourseState) → (old new : CourseState) → Said → Type 0
 TellLeads stays old new Whole = new ≡ after old Told
 TellLeads stays old new (Part out) = new ≡ (if old.half_told then old else after old HalfTold)
 TellLeads stays old new Nothing = new ≡ stays
 TellLeads stays old new Broken = is_gone new.phase ≡ true
 
 -- A user gets what is left of that text, and the course knows how much of it is out.
-pub record SaysInterim (user later : Past → Type 0) (held holds : Hand) (stays old new : Course) : Type 0 where
+pub record SaysInterim (user later : Past → Type 0) (held holds : Hand) (stays old new : CourseState) : Type 0 where
   pub said : Said
   pub text : SaysOn user later interim_text held.told holds.told said
   pub leads : TellLeads stays old new said
@@ -116,11 +116,11 @@ pub record Refuses (pages : List ℕ → Type 0) (user later : Past → Type 0) 
   pub says : SaysRefusal user later held holds status phase
 
 -- what a message may need is reserved; or that is wanting, and the message fails of just that
-abbrev pub IsReserved : (reserves : Type 0) → (old new : Course) → Type 0
+abbrev pub IsReserved : (reserves : Type 0) → (old new : CourseState) → Type 0
 IsReserved reserves old new = (reserves × (new ≡ after old Reserved)) ⊎ (new ≡ after old (Failed Scarce))
 
 -- no connection was leased for this fault: the message goes on as where others go first, or it fails of just that
-abbrev pub UnlentLeads : (busy : Type 0) → LendFault → (old new : Course) → Type 0
+abbrev pub UnlentLeads : (busy : Type 0) → LendFault → (old new : CourseState) → Type 0
 UnlentLeads busy Busy old new = busy
 UnlentLeads busy fault old new = new ≡ after old (Failed (cause_of (lend_reason fault)))
 
@@ -128,69 +128,69 @@ UnlentLeads busy fault old new = new ≡ after old (Failed (cause_of (lend_reaso
 -- Or none is,
 -- and that leads so.
 abbrev pub IsLentOr : {O : Type 0} → (leases : Point → (reused : Bool) → Type 0) → (fails : O → LendFault → Type 0) → (busy : O → Type 0)
-    → (old new : Course) → Type 0
+    → (old new : CourseState) → Type 0
 IsLentOr {O} leases fails busy old new = ((reused : Bool) × leases (point_of old.phase) reused × (new ≡ after old (Lent reused)))
     ⊎ ((later : O) × (fault : LendFault) × fails later fault × UnlentLeads (busy later) fault old new)
 
 -- the message waits in the queue, or fails of that want, where the course doesn't let it wait, or there was no room in the queue
-abbrev pub IsQueued : (joins : Bool → Type 0) → (old new : Course) → Type 0
+abbrev pub IsQueued : (joins : Bool → Type 0) → (old new : CourseState) → Type 0
 IsQueued joins old new = (joins true × (new ≡ after old Queued)) ⊎ ((may_come old Queued ≡ true → joins false)
     × (new ≡ after old (Failed Scarce)))
 
 -- a connection is leased, or the message waits for one where others go first
 abbrev pub IsLent : {O : Type 0} → (leases : Point → (reused : Bool) → Type 0) → (fails : O → LendFault → Type 0)
-    → (joins : O → Point → Bool → Type 0) → (old new : Course) → Type 0
+    → (joins : O → Point → Bool → Type 0) → (old new : CourseState) → Type 0
 IsLent {O} leases fails joins old new = IsLentOr leases fails (λ _. IsQueued
     (λ joined. (later : O) × joins later (point_of old.phase) joined) old new) old new
 
 -- it waits on in the queue, unless it has waited as long as it may, or the deadline has passed
-abbrev pub WaitsOn : (waited : Bool → Type 0) → (late : Bool) → (old new : Course) → Type 0
+abbrev pub WaitsOn : (waited : Bool → Type 0) → (late : Bool) → (old new : CourseState) → Type 0
 WaitsOn waited late old new = (long : Bool) × waited long × (new ≡ (if long then after old (Failed Scarce) else
     (if late then after old (Failed Deadline) else old)))
 
 -- a message that waits in its queue no more, and has no connection, has left it
-abbrev pub LeavesQueue : {O : Type 0} → (leaves : O → Point → Type 0) → (old new : Course) → Type 0
+abbrev pub LeavesQueue : {O : Type 0} → (leaves : O → Point → Type 0) → (old new : CourseState) → Type 0
 LeavesQueue {O} leaves old new = (point : Point) → old.phase ≡ InQueue point → is_in_queue new.phase ≡ false
     → is_leased new.connection ≡ false → (later : O) × leaves later point
 
 -- it is released
-abbrev pub IsReleased : (old new : Course) → Type 0
+abbrev pub IsReleased : (old new : CourseState) → Type 0
 IsReleased old new = new ≡ after old Released
 
 -- a connection is leased once it is the message's turn
 abbrev pub IsAwaited : {O : Type 0} → (leases : Point → (reused : Bool) → Type 0) → (fails : O → LendFault → Type 0)
-    → (waited : O → Bool → Type 0) → (late : O → Bool) → (old new : Course) → Type 0
+    → (waited : O → Bool → Type 0) → (late : O → Bool) → (old new : CourseState) → Type 0
 IsAwaited {O} leases fails waited late old new = IsLentOr leases fails (λ later. WaitsOn (waited later) (late later) old new) old new
 
 -- the service of the message's own point is asked for its options, or the message fails of that
-abbrev pub IsAsked : (asks : Point → Type 0) → (old new : Course) → Type 0
+abbrev pub IsAsked : (asks : Point → Type 0) → (old new : CourseState) → Type 0
 IsAsked asks old new = (asks (point_of old.phase) × (new ≡ after old Asked)) ⊎ FailsAt Ask old new
 
 -- An origin's connection that is dialed leads where the message's plan says, and is known as the kept or the fresh one that it is: a kept
 -- one only where the request may be sent again, and wasn't withdrawn. Or the message fails of that.
-abbrev pub IsDialed : (dials : Dialing → Bool → Type 0) → (old new : Course) → Type 0
+abbrev pub IsDialed : (dials : Dialing → Bool → Type 0) → (old new : CourseState) → Type 0
 IsDialed dials old new = ((kept : Bool) × dials (dialing_of old) kept × (kept ≡ true → may_take_kept old ≡ true)
     × (new ≡ after old (Dialed kept))) ⊎ FailsAt Dial old new
 
 -- A message begins to move with what is there. Or it can't begin, or no memory is found for it: then the user's connection is held as
 -- before; or it has no user.
-abbrev pub IsStarted : (starts keeps : Type 0) → (user : Past → Type 0) → (old new : Course) → Type 0
+abbrev pub IsStarted : (starts keeps : Type 0) → (user : Past → Type 0) → (old new : CourseState) → Type 0
 IsStarted starts keeps user old new = (starts × (new ≡ after old Started)) ⊎ (keeps × (new ≡ after old (Failed Scarce)))
     ⊎ (((p : Past) → user p → ⊥) × (new ≡ after old UserLost))
 
 -- a byte of the head of a request came
-abbrev pub begun_of : Course → Course
+abbrev pub begun_of : CourseState → CourseState
 begun_of c = if is_idle c.phase then after c HeadBegun else c
 
 -- Where it leads that nothing comes of a request's head: the user is waited for, until the deadline. It is let go where no byte of the head
 -- came, the proxy drains, and the user has rested for as long as one then may.
-abbrev pub SilenceLeads : (begun late rested : Bool) → (old new : Course) → Type 0
+abbrev pub SilenceLeads : (begun late rested : Bool) → (old new : CourseState) → Type 0
 SilenceLeads begun late rested old new = (new ≡ (if late then after (if begun then begun_of old else old) Late else
     (if begun then begun_of old else old))) × ((not begun && (old.draining && rested)) ≡ false)
     ⊎ ((begun ≡ false) × (old.draining ≡ true) × (rested ≡ true) × (new ≡ after old Dropped))
 
 -- where it leads that there is no head: to the refusal of this reason, or the user is gone
-abbrev pub NoHeadLeads : Option Reason → (old new : Course) → Type 0
+abbrev pub NoHeadLeads : Option Reason → (old new : CourseState) → Type 0
 NoHeadLeads (Some reason) old new = new ≡ after old (Failed (cause_of reason))
 NoHeadLeads None old new = new ≡ after old UserLost
 
@@ -199,7 +199,7 @@ abbrev pub Bears : {H : Type 0} → (bears : H → H → Type 0) → (held holds
 Bears {H} bears held holds = (first : H) → bears first held → bears first holds
 
 -- where a turn at the head of the user's request leads that brought this; head: what is at fault in it
-abbrev pub RequestLeads : (begun late rested : Bool) → (head : Option HttpFault) → (old new : Course) → Option HeadTurn → Type 0
+abbrev pub RequestLeads : (begun late rested : Bool) → (head : Option HttpFault) → (old new : CourseState) → Option HeadTurn → Type 0
 RequestLeads begun late rested head old new (Some head_turns.Whole) = new ≡ after (begun_of old) RequestRead
 RequestLeads begun late rested head old new (Some head_turns.More) = new ≡ (if begun then begun_of old else old)
 RequestLeads begun late rested head old new (Some head_turns.Interim) = new ≡ (if begun then begun_of old else old)
@@ -212,7 +212,7 @@ RequestLeads begun late rested head old new None = new ≡ after old UserLost
 -- they are, and of a further request nothing is told yet.
 pub record IsRequested {H : Type 0} (reads : H → H → Option HeadTurn → Type 0) (bears_message bears : H → H → Type 0)
     (line : H → H → Type 0) (told : H → ℕ) (begun : H → Bool) (head_fault : H → Option HttpFault) (late rested : Bool) (held holds : H)
-    (old new : Course) : Type 0 where
+    (old new : CourseState) : Type 0 where
   pub turned : H
   pub turn : Option HeadTurn
   pub brought : reads held turned turn
@@ -222,17 +222,18 @@ pub record IsRequested {H : Type 0} (reads : H → H → Option HeadTurn → Typ
   pub leads : RequestLeads (begun turned) late rested (head_fault turned) old new turn
 
 -- a byte of the origin's answer was read
-abbrev pub heard_of : Course → Course
+abbrev pub heard_of : CourseState → CourseState
 heard_of c = if c.heard then c else after c Heard
 
 -- a request may go back to its plan: its origin's connection has ended, and the course may go there
-abbrev pub may_go_back : RelayFault → Course → Bool
+abbrev pub may_go_back : RelayFault → CourseState → Bool
 may_go_back fault c = is_end_of_wire fault && may_come c Withdrawn
 
 -- Where the end of the origin's connection leads: back to the plan where the course may go there, and the request is the message again;
 -- that is so only where its origin has said nothing. Else the message fails. asked: what came of that, as what is held answered. head: what
 -- is at fault in the head.
-abbrev pub FaultLeads : (repeats : Type 0) → (asked : Withdrawal → Type 0) → (head : Option HttpFault) → RelayFault → (old new : Course)
+abbrev pub FaultLeads : (repeats : Type 0) → (asked : Withdrawal → Type 0) → (head : Option HttpFault) → RelayFault
+    → (old new : CourseState)
     → Type 0
 FaultLeads repeats asked head fault old new =
     (may_go_back fault old ≡ true) × asked Again × repeats × (new ≡ after old Withdrawn)
@@ -240,8 +241,8 @@ FaultLeads repeats asked head fault old new =
     × (new ≡ after old (Failed (cause_of (origin_head_reason fault head))))
 
 -- where a turn at the head of the origin's response leads that brought this
-abbrev pub TurnLeads : (repeats : Type 0) → (asked : Withdrawal → Type 0) → (head : Option HttpFault) → (late : Bool) → (old new : Course)
-    → Option HeadTurn → Type 0
+abbrev pub TurnLeads : (repeats : Type 0) → (asked : Withdrawal → Type 0) → (head : Option HttpFault) → (late : Bool)
+    → (old new : CourseState) → Option HeadTurn → Type 0
 TurnLeads repeats asked head late old new (Some head_turns.Whole) = new ≡ after old ResponseRead
 TurnLeads repeats asked head late old new (Some head_turns.More) = new ≡ heard_of old
 TurnLeads repeats asked head late old new (Some head_turns.Interim) =
@@ -251,13 +252,13 @@ TurnLeads repeats asked head late old new (Some (head_turns.Fault fault)) = Faul
 TurnLeads repeats asked head late old new None = new ≡ after old (Failed Scarce)
 
 -- what is held after such a turn stays what it was, unless the request was to be the message again
-abbrev pub KeepsTurned : {H : Type 0} → Course → Option HeadTurn → (turned holds : H) → Type 0
+abbrev pub KeepsTurned : {H : Type 0} → CourseState → Option HeadTurn → (turned holds : H) → Type 0
 KeepsTurned old (Some (head_turns.Fault fault)) turned holds = may_go_back fault old ≡ false → holds ≡ turned
 KeepsTurned old turn turned holds = holds ≡ turned
 
 -- A turn at the head of the origin's response was taken, and the course knows what it brought.
 pub record IsRead {H : Type 0} (hears : H → H → Option HeadTurn → Type 0) (repeats : H → Type 0) (withdraws : H → H → Withdrawal → Type 0)
-    (head_fault : H → Option HttpFault) (late : Bool) (held holds : H) (old new : Course) : Type 0 where
+    (head_fault : H → Option HttpFault) (late : Bool) (held holds : H) (old new : CourseState) : Type 0 where
   pub turned : H
   pub turn : Option HeadTurn
   pub brought : hears held turned turn
@@ -266,13 +267,13 @@ pub record IsRead {H : Type 0} (hears : H → H → Option HeadTurn → Type 0) 
 
 -- Where the origin's connection lasts, and the proxy neither drains nor stops, it was laid down for later exchanges, or there was no room
 -- for it. Else it was closed.
-abbrev pub IsHungUp : (lays : Bool → Type 0) → (closes : Type 0) → (old new : Course) → Type 0
+abbrev pub IsHungUp : (lays : Bool → Type 0) → (closes : Type 0) → (old new : CourseState) → Type 0
 IsHungUp lays closes old new = (may_keep_origin old ≡ true → (kept : Bool) × lays kept) × (may_keep_origin old ≡ false → closes)
     × (new ≡ after old (HungUp false))
 
 -- The service's connection was put back, exactly where by the course it may serve again, and it is there; else its lease was given up. A
 -- message that moves stays as it is.
-abbrev pub IsGivenBack : (puts gives_up stays : Type 0) → (there : Bool) → (old new : Course) → Type 0
+abbrev pub IsGivenBack : (puts gives_up stays : Type 0) → (there : Bool) → (old new : CourseState) → Type 0
 IsGivenBack puts gives_up stays there old new = ((is_ready old.connection && there) ≡ true → puts)
     × ((is_ready old.connection && there) ≡ false → gives_up) × stays × (new ≡ after old (Returned false))
 
@@ -280,7 +281,7 @@ IsGivenBack puts gives_up stays there old new = ((is_ready old.connection && the
 -- where it did, and is ready for others then exactly where it may serve again after that answer; or the same service is asked anew, on a
 -- fresh connection in place of one that was idle before; or the message fails of that.
 abbrev pub IsHeard : {H : Type 0} → (learns : Point → Response → Type 0) → (usable : H → Response → Bool) → (keeps : H → Type 0)
-    → (asks : Point → Type 0) → (renews : H → Type 0) → (old new : Course) → Type 0
+    → (asks : Point → Type 0) → (renews : H → Type 0) → (old new : CourseState) → Type 0
 IsHeard {H} learns usable keeps asks renews old new = (new ≡ old)
     ⊎ ((held : H) × (answer : Response) × learns (point_of old.phase) answer × keeps held
     × (new ≡ after old (Learned (usable held answer))))
@@ -288,12 +289,12 @@ IsHeard {H} learns usable keeps asks renews old new = (new ≡ old)
     ⊎ FailsAt Hear old new
 
 -- where it leads that what the user still sends was dropped as far as this: it is over once the user has ended that, or the deadline passed
-abbrev pub LingerLeads : (late : Bool) → (old new : Course) → Lingered → Type 0
+abbrev pub LingerLeads : (late : Bool) → (old new : CourseState) → Lingered → Type 0
 LingerLeads late old new lingering.Over = new ≡ after old UserClosed
 LingerLeads late old new came = new ≡ (if late then after old Late else old)
 
 -- A user's connection closes: the user is told that nothing more comes; and once it was, what it still sends is dropped.
-abbrev pub IsClosed : (lingers : Lingered → Type 0) → (late told tells : Bool) → (old new : Course) → Type 0
+abbrev pub IsClosed : (lingers : Lingered → Type 0) → (late told tells : Bool) → (old new : CourseState) → Type 0
 IsClosed lingers late told tells old new = (told ≡ false → (tells ≡ true) × (new ≡ old))
     × (told ≡ true → (came : Lingered) × lingers came × LingerLeads late old new came)
 
@@ -302,7 +303,7 @@ abbrev pub has_answer : Phase → Bool
 has_answer phase = not (is_request (point_of phase)) || is_offered phase
 
 -- where the service's connection broke in this round, the request began anew on a fresh one
-abbrev pub anew_with : Round → Course → Course
+abbrev pub anew_with : Round → CourseState → CourseState
 anew_with rounds.Broken c = after c Renewed
 anew_with _ c = c
 
@@ -313,15 +314,15 @@ is_last late rounds.Waiting = late
 is_last late _ = false
 
 -- A message is over because the deadline passed, and nothing moved in the round before that.
-pub record IsOverdue {O : Type 0} (late : O → Bool) (follows : End → Type 0) (answered reusable : Bool) (round : Round) (old new : Course) :
-    Type 0 where
+pub record IsOverdue {O : Type 0} (late : O → Bool) (follows : End → Type 0) (answered reusable : Bool) (round : Round)
+    (old new : CourseState) : Type 0 where
   pub out : O
   pub is_late : late out ≡ true
   pub still : round ≡ rounds.Waiting
   pub ended : IsEnded (MayEnd ended.Deadline (λ _. ⊤)) follows answered reusable old new
 
 -- it is over as its transaction ended, in the round before that
-pub record IsOver (ends follows : End → Type 0) (answered reusable : Bool) (round : Round) (old new : Course) : Type 0 where
+pub record IsOver (ends follows : End → Type 0) (answered reusable : Bool) (round : Round) (old new : CourseState) : Type 0 where
   pub last : round ≡ rounds.Over
   pub ended : IsEnded (MayEnd ended.Itself ends) follows answered reusable old new
 
@@ -331,7 +332,7 @@ pub record IsOver (ends follows : End → Type 0) (answered reusable : Bool) (ro
 -- be sent again, and its origin has said nothing.
 pub record IsTurned {H O : Type 0} (rounds : H → H → O → Round → Type 0) (frees : H → Option Bool → Type 0) (answered reusable : H → Bool)
     (ends : H → Bool → End → Type 0) (follows : H → O → End → Type 0) (repeats : H → Type 0) (late : O → Bool) (held : H)
-    (old new : Course) : Type 0 where
+    (old new : CourseState) : Type 0 where
   pub turned : H
   pub later : O
   pub round : Round
@@ -349,7 +350,7 @@ pub record IsTurned {H O : Type 0} (rounds : H → H → O → Round → Type 0)
 
 -- the gate was asked, and lets a message pass: then what is held stays as it is; or it doesn't, and the message is over
 abbrev pub IsGated : {H O : Type 0} → (passes : O → Bool → Type 0) → (ends : End → Type 0) → (follows : O → End → Type 0)
-    → (answered reusable : Bool) → (held holds : H) → (old new : Course) → Type 0
+    → (answered reusable : Bool) → (held holds : H) → (old new : CourseState) → Type 0
 IsGated {H} {O} passes ends follows answered reusable held holds old new =
     ((later : O) × passes later true × (new ≡ after old LetPass) × (holds ≡ held))
     ⊎ ((later : O) × passes later false × IsEnded (MayEnd ended.Gate ends) (follows later) answered reusable old new)

@@ -1,6 +1,6 @@
 -- What a step of an exchange keeps to.
 use Rattle.std.specs.Prelude.{◌≡◌, Bool, true, false, not, ⊤}
-use Rattle.exchange_core.specs.declared.course.Course.{Course}
+use Rattle.exchange_core.specs.declared.state.CourseState.{CourseState}
 use Rattle.exchange_core.specs.declared.due.Due.{Due}
 use Rattle.exchange_core.specs.declared.due.Due.TheVariants.{Plan, Lend, Ask, Reserve, Dial, Start, AskGate, Turn, GiveBack, Release}
 use Rattle.exchange_core.specs.declared.due.Due.TheVariants.{HangUp}
@@ -13,7 +13,7 @@ use Rattle.shard_exchange.specs.declared.tasks.Task.{Task}
 use Rattle.shard_exchange.specs.declared.tasks.Task.TheVariants as tasks
 
 -- who waits, or hasn't moved, has a deadline, and it hasn't passed; and only the course says what is over
-abbrev pub Heeds : (late : Bool) → Course → Step → Type 0
+abbrev pub Heeds : (late : Bool) → CourseState → Step → Type 0
 Heeds late c Waits = (late ≡ false) × (is_wait (due_of c) ≡ true)
 Heeds late c On = ⊤
 Heeds late c (Turned framing) = ⊤
@@ -41,15 +41,15 @@ is_at_once HangUp = true
 is_at_once _ = false
 
 -- what waits for nobody is due no more
-abbrev pub IsDone : (old new : Course) → Type 0
+abbrev pub IsDone : (old new : CourseState) → Type 0
 IsDone old new = is_at_once (due_of old) ≡ true → due_of new ≡ due_of old → ⊥
 
 -- events that may come lead on, and what waits for nobody is due no more
-abbrev pub GoesOn : (old new : Course) → Type 0
+abbrev pub GoesOn : (old new : CourseState) → Type 0
 GoesOn old new = Goes old new × IsDone old new
 
 -- the task does what is due: so does a leave where nothing was stopped
-abbrev pub is_step : Task → Course → Bool
+abbrev pub is_step : Task → CourseState → Bool
 is_step tasks.Step c = true
 is_step tasks.TakeLeave c = not (is_stopped c)
 is_step _ c = false

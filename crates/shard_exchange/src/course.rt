@@ -14,11 +14,11 @@ ghost use Rattle.shard_exchange.specs.Ends.{moves, ends_message, keeps_origin, S
 ghost use Rattle.shard_exchange.specs.Outcomes.{begun_of};
 
 use crate::ends::{End, Report};
-use exchange_core::{Event, Exchange, Phase, RefusalCause};
+use exchange_core::{Course, Event, Phase, RefusalCause};
 
 /// Takes an event that ends a message, where it may come. Else the message fails: its user is refused, unless a part of an answer is
 /// out.
-fn take_or_fail(course: &mut Exchange, event: Event)
+fn take_or_fail(course: &mut Course, event: Event)
     requires moves { moves course.old ≡ true }
     requires runs { course.old.stopping ≡ false }
     requires ends { ends_message event ≡ true }
@@ -38,7 +38,7 @@ fn take_or_fail(course: &mut Exchange, event: Event)
 }
 
 /// Tells the course of a byte of an answer that went to the user. False where none may have gone there: the exchange is lost.
-fn tell_begun(course: &mut Exchange, has_answered: bool) -> bool
+fn tell_begun(course: &mut Course, has_answered: bool) -> bool
     requires moves { moves course.old ≡ true }
     requires runs { course.old.stopping ≡ false }
     ensures goes { Goes course.old course.new }
@@ -51,7 +51,7 @@ fn tell_begun(course: &mut Exchange, has_answered: bool) -> bool
     ensures lost { result ≡ false → Leaves course.old course.new × (is_gone course.new.phase ≡ true) }
     ensures none { result ≡ false → (may_come course.old Begun ≡ false) × (course.old.begun ≡ false) }
 {
-    if !has_answered || course.course().begun {
+    if !has_answered || course.state().begun {
         return true;
     }
     let may = course.may(Event::Begun);
@@ -60,7 +60,7 @@ fn tell_begun(course: &mut Exchange, has_answered: bool) -> bool
 }
 
 /// Tells the course how a message ended.
-fn tell_end(course: &mut Exchange, end: End)
+fn tell_end(course: &mut Course, end: End)
     requires moves { moves course.old ≡ true }
     requires runs { course.old.stopping ≡ false }
     ensures goes { Goes course.old course.new }
@@ -97,7 +97,7 @@ fn tell_end(course: &mut Exchange, end: End)
 }
 
 /// Tells the course that the service has said all, where it has, and whether its connection may serve again.
-fn tell_served(course: &mut Exchange, served: Option<bool>)
+fn tell_served(course: &mut Course, served: Option<bool>)
     requires moves { moves course.old ≡ true }
     ensures goes { Goes course.old course.new }
     ensures told { course.new ≡ served_with served course.old }
@@ -116,7 +116,7 @@ fn tell_served(course: &mut Exchange, served: Option<bool>)
 }
 
 /// Tells the course that a user's connection was reset.
-fn tell_cut(course: &mut Exchange, cuts: bool)
+fn tell_cut(course: &mut Course, cuts: bool)
     requires { moves course.old ≡ false }
     ensures goes { Goes course.old course.new }
     ensures leaves { Leaves course.old course.new }
@@ -137,7 +137,7 @@ fn tell_cut(course: &mut Exchange, cuts: bool)
 /// keeps its connection, and a response is waited for only where its request was sent; each of them is, where the course may go there. The
 /// service's connection serves again exactly where the report says so, and so does the origin's last. A request goes back to its plan
 /// exactly where it was withdrawn, and there was memory for it.
-pub(crate) fn tell(course: &mut Exchange, report: Report)
+pub(crate) fn tell(course: &mut Course, report: Report)
     requires moves { moves course.old ≡ true }
     requires runs { course.old.stopping ≡ false }
     ensures goes { Goes course.old course.new }
@@ -166,7 +166,7 @@ pub(crate) fn tell(course: &mut Exchange, report: Report)
 }
 
 /// The first byte of a further request came, or of the first one.
-pub(crate) fn begin_head(course: &mut Exchange)
+pub(crate) fn begin_head(course: &mut Course)
     requires { due_of course.old ≡ dues.ReadRequest }
     ensures course { course.new ≡ begun_of course.old }
     ensures goes { Goes course.old course.new }
@@ -174,13 +174,13 @@ pub(crate) fn begin_head(course: &mut Exchange)
     ensures head { is_head course.new.phase ≡ true }
     ensures kept { (course.new.connection ≡ course.old.connection) × (course.new.stake ≡ course.old.stake) × (course.new.origin ≡ course.old.origin) }
 {
-    if course.course().phase == Phase::Idle {
+    if course.state().phase == Phase::Idle {
         course.done(Event::HeadBegun);
     }
 }
 
 /// Takes it that the proxy stops. A request of whose head a part came goes no further: so its user is refused.
-pub(crate) fn take_stop(course: &mut Exchange, is_in_head: bool)
+pub(crate) fn take_stop(course: &mut Course, is_in_head: bool)
     requires still { moves course.old ≡ false }
     requires may { may_come course.old Stop ≡ true }
     ensures goes { Goes course.old course.new }

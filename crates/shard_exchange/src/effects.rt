@@ -2,7 +2,7 @@
 
 ghost use Rattle.std.specs.Prelude.{◌≡◌, ◌&&◌, ℕ, Bool, List, IsTrue, Some, Result, is_ok, true, false, IfOk, IfErr};
 ghost use Rattle.exchange_core.specs.Course.{is_ready};
-ghost use Rattle.exchange_core.specs.declared.course.Course.{Course as AnyCourse};
+ghost use Rattle.exchange_core.specs.declared.state.CourseState.{CourseState as AnyState};
 ghost use Rattle.exchange_core.specs.declared.dialing.Dialing.{Dialing as AnyDialing};
 ghost use Rattle.exchange_core.specs.declared.dialing.Dialing.TheVariants.{KeptFirst};
 ghost use Rattle.exchange_core.specs.declared.phase.Phase.TheVariants.{InQueue};
@@ -31,7 +31,7 @@ use crate::answers::{Lingered, Marks, Round, Started, Unplanned, Withdrawal};
 use crate::ends::{End, EndedBy, Report};
 use crate::holder::Holder;
 use adapt_sides::{ClientFault, Said, Scratch};
-use exchange_core::{Course, Dialing, Exchange};
+use exchange_core::{Course, CourseState, Dialing};
 use exchange_report::Reason;
 use icap_head::IcapResponse;
 use service_lines::LendFault;
@@ -98,7 +98,7 @@ pub trait Effects<P>: Holder {
     ghost reserves: { Self → Self.Outside → Type 0 };
 
     // the message that begins to move began with this: what was held before that and is after it, the surroundings and the course
-    ghost starts: { Self → Self → Self.Outside → P → AnyCourse → Type 0 };
+    ghost starts: { Self → Self → Self.Outside → P → AnyState → Type 0 };
 
     // a round of turns of the message that moves leads from the one to the other, and answers this: with the surroundings before it and
     // after it
@@ -183,7 +183,7 @@ pub trait Effects<P>: Holder {
         ensures { joins out.new at.now point result };
 
     /// Has a message wait no more, where it waits for a connection.
-    fn leave_queue(at: &P, out: &mut Self::Outside, course: &Exchange)
+    fn leave_queue(at: &P, out: &mut Self::Outside, course: &Course)
         ensures { (point : AnyPoint) → course.now.phase ≡ InQueue point → leaves out.new at.now point };
 
     /// Begins to ask the point's service for its options.
@@ -243,10 +243,16 @@ pub trait Effects<P>: Holder {
         ensures kept { KeepsButOrigin (Self.hand self.old) (Self.hand self.new) };
 
     /// Starts the transaction of a message that has all that it needs. Where it can't, what it would have stood over stays here.
-    fn start<R: Wait>(&mut self, rt: &R, at: &P, out: &mut Self::Outside, course: Course) -> Started
+    fn start<R: Wait>(
+        &mut self,
+        rt: &R,
+        at: &P,
+        out: &mut Self::Outside,
+        state: CourseState,
+    ) -> Started
         requires needs { ((Self.hand self.old).room ≡ true) × ((Self.hand self.old).origin ≡ true) }
         requires still { (Self.hand self.old).moving ≡ false }
-        ensures begins { result ≡ Started.Moves → starts self.old self.new out.old at.now course }
+        ensures begins { result ≡ Started.Moves → starts self.old self.new out.old at.now state }
         ensures moves { result ≡ Started.Moves → SetsOut (Self.hand self.old) (Self.hand self.new) }
         ensures fails { result ≡ Started.Fails → Keeps (Self.hand self.old) (Self.hand self.new) }
         ensures user { result ≡ Started.Fails → keeps_user self.old self.new }
@@ -275,7 +281,7 @@ pub trait Effects<P>: Holder {
         at: &P,
         out: &mut Self::Outside,
         by: EndedBy,
-        course: &Exchange,
+        course: &Course,
     ) -> Report
         requires { (Self.hand self.old).moving ≡ true }
         ensures withdrawn { result.end ≡ End.Withdrawn true
@@ -291,7 +297,7 @@ pub trait Effects<P>: Holder {
 
     /// Has the request that went out be the message again, where its origin has said nothing, and memory is found for that. At this course
     /// its connection was kept, and has ended.
-    fn withdraw(&mut self, at: &P, out: &mut Self::Outside, course: &Exchange) -> Withdrawal
+    fn withdraw(&mut self, at: &P, out: &mut Self::Outside, course: &Course) -> Withdrawal
         requires may { may_come course.now Withdrawn ≡ true }
         ensures answers { Self.withdraws self.old self.new result }
         ensures repeats { result ≡ Withdrawal.Again → Self.repeats self.old }
@@ -299,7 +305,7 @@ pub trait Effects<P>: Holder {
 
     /// Keeps the origin's connection for later exchanges where it lasts at this course, and there is room for it. Else it is closed. Says
     /// whether it is kept.
-    fn keep_origin(&mut self, at: &P, out: &mut Self::Outside, course: &Exchange) -> bool
+    fn keep_origin(&mut self, at: &P, out: &mut Self::Outside, course: &Course) -> bool
         requires { (Self.hand self.old).origin ≡ true }
         ensures hung { (Self.hand self.new).origin ≡ false }
         ensures message { Self.keeps_message self.old self.new }
@@ -310,7 +316,7 @@ pub trait Effects<P>: Holder {
 
     /// Puts the service's connection back where by this course nothing is under way on it, and it may serve again: the one that was leased,
     /// with its lease. Else it is closed, and its lease given up. Says whether it was put back.
-    fn give_back(&mut self, at: &P, out: &mut Self::Outside, course: &Exchange) -> bool
+    fn give_back(&mut self, at: &P, out: &mut Self::Outside, course: &Course) -> bool
         requires { (Self.hand self.old).leased ≡ true }
         ensures back { (Self.hand self.new).leased ≡ false }
         ensures kept { KeepsButLease (Self.hand self.old) (Self.hand self.new) }
@@ -330,7 +336,7 @@ pub trait Effects<P>: Holder {
     /// Says the refusal of this status to the user, as far as it takes it, from where the last call ended. At this course it is due, so
     /// no byte of an answer or of another text is out. The proxy has a refusal of that status. It is the one with a page where refusals of
     /// the status have one, and memory is found for it; once a byte is out it stays what it is.
-    fn refuse(&mut self, at: &P, out: &mut Self::Outside, course: &Exchange, status: u16) -> Said
+    fn refuse(&mut self, at: &P, out: &mut Self::Outside, course: &Course, status: u16) -> Said
         requires due { refusal_due (due_of course.now) ≡ Some status }
         requires own { IsTrue (is_own_status status) }
         ensures lays { LaysPage (has_page out.old at.now status) status (Self.hand self.old).refused (Self.hand self.new).refused.page }
@@ -339,14 +345,14 @@ pub trait Effects<P>: Holder {
         ensures kept { KeepsButRefused (Self.hand self.old) (Self.hand self.new) };
 
     /// Says to the user that nothing more comes. At this course all is said to it, also the refusal.
-    fn close(&mut self, at: &P, course: &Exchange)
+    fn close(&mut self, at: &P, course: &Course)
         requires silent { is_silent course.now.phase ≡ true }
         ensures user { keeps_user self.old self.new }
         ensures said { (Self.hand self.new).finished ≡ true }
         ensures kept { KeepsButFinished (Self.hand self.old) (Self.hand self.new) };
 
     /// Drops what the user still sends. At this course all is said to it.
-    fn linger(&mut self, at: &P, out: &mut Self::Outside, course: &Exchange) -> Lingered
+    fn linger(&mut self, at: &P, out: &mut Self::Outside, course: &Course) -> Lingered
         requires silent { is_silent course.now.phase ≡ true }
         ensures lingers { lingers self.old self.new result }
         ensures nothing { result ≡ Lingered.Waiting → sends_nothing self.old self.new }
@@ -364,8 +370,8 @@ pub trait Effects<P>: Holder {
     fn note_response(&self, at: &P, out: &mut Self::Outside);
 
     /// The user is refused for this reason, where a refusal goes out at this course.
-    fn note_refusal(&self, at: &P, out: &mut Self::Outside, course: &Exchange, reason: Reason);
+    fn note_refusal(&self, at: &P, out: &mut Self::Outside, course: &Course, reason: Reason);
 
     /// An answer ends unfinished because the proxy stops, where it does at this course.
-    fn note_stop(at: &P, out: &mut Self::Outside, course: &Exchange);
+    fn note_stop(at: &P, out: &mut Self::Outside, course: &Course);
 }

@@ -5,14 +5,14 @@ ghost use Rattle.exchange_core.specs.Course.{is_leased};
 ghost use Rattle.exchange_core.specs.May.{is_at_gate, is_moving, may_come};
 
 use crate::holder::{Holder, InHand};
-use exchange_core::{Due, Event, Phase, RefusalCause};
+use exchange_core::{Course, Due, Event, Phase, RefusalCause};
 
 /// A user's connection, with what is held for it.
 ///
 /// Its course says what is due, and what is held: a lease, a reservation, and a connection to an origin. None of them is lost.
 #[must_use]
 pub struct Exchange<H: InHand> {
-    pub(crate) course: exchange_core::Exchange,
+    pub(crate) course: Course,
     pub(crate) holdings: H,
     // just what the course counts is held
     pub(crate) ghost leased: { (H.hand holdings).leased ≡ is_leased course.connection },
@@ -38,7 +38,7 @@ impl<H: InHand> Exchange<H> {
         ensures held { result.holdings ≡ holdings }
     {
         Exchange {
-            course: exchange_core::Exchange::begin(),
+            course: Course::begin(),
             holdings,
         }
     }
@@ -58,22 +58,22 @@ impl<H: InHand> Exchange<H> {
     pub fn phase(&self) -> Phase
         ensures { result ≡ self.now.course.phase }
     {
-        self.course.course().phase
+        self.course.state().phase
     }
 
     /// Whether nothing is due for the user any more, but for a refusal.
     pub(crate) fn is_stopped(&self) -> bool
         ensures { result ≡ is_stopped self.now.course }
     {
-        let course = self.course.course();
-        course.stopping || course.phase == Phase::Gone
+        let state = self.course.state();
+        state.stopping || state.phase == Phase::Gone
     }
 
     /// What is due.
     pub fn due(&self) -> Due
         ensures { result ≡ due_of self.now.course }
     {
-        self.course.course().due()
+        self.course.state().due()
     }
 
     /// What is held.

@@ -122,7 +122,7 @@ impl<H: Holder> Exchange<H> {
         ensures held { self.new.holdings ≡ self.old.holdings }
     {
         let is_silent = !self.holdings.has_begun();
-        if is_silent && self.course.course().draining && H::has_rested(at, out) {
+        if is_silent && self.course.state().draining && H::has_rested(at, out) {
             self.course.dropped();
             return Step::On;
         }
@@ -194,7 +194,7 @@ impl<H: Holder> Exchange<H> {
         ensures held { self.new.holdings ≡ self.old.holdings }
         ensures goes { Goes self.old.course self.new.course }
     {
-        if !self.course.course().heard {
+        if !self.course.state().heard {
             self.course.done(Event::Heard);
         }
     }

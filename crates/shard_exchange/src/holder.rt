@@ -14,7 +14,7 @@ ghost use Rattle.shard_exchange.specs.declared.ends.End.{End as AnyEnd};
 
 use crate::answers::{HeadTurn, OptionsTurn};
 use adapt_sides::{Said, WIRE_ROOM};
-use exchange_core::Exchange;
+use exchange_core::Course;
 use http_side::HttpFault;
 
 /// What is held of what the course of an exchange counts.
@@ -120,7 +120,7 @@ pub trait Holder: InHand {
         ensures kept { Keeps (Self.hand self.old) (Self.hand self.new) };
 
     /// Tells the user to send its body, as far as it takes the text, from where the last call ended. At this course that is due.
-    fn tell(&mut self, course: &Exchange) -> Said
+    fn tell(&mut self, course: &Course) -> Said
         requires due { is_for_telling (due_of course.now) ≡ true }
         ensures says { SaysOn (user_past self.old) (user_past self.new) interim_text (Self.hand self.old).told (Self.hand self.new).told result }
         ensures bears { (first : Self) → bears_message first self.old → bears_message first self.new }
@@ -131,7 +131,7 @@ pub trait Holder: InHand {
         ensures { result ≡ (Self.hand self.now).finished };
 
     /// Closes the user's connection. At this course the user is gone.
-    fn lose_user(&mut self, course: &Exchange)
+    fn lose_user(&mut self, course: &Course)
         requires gone { is_gone course.now.phase ≡ true }
         ensures bears { (first : Self) → bears_message first self.old → bears_message first self.new }
         ensures kept { Keeps (Self.hand self.old) (Self.hand self.new) };

@@ -9,6 +9,7 @@
 
 mod answers;
 mod course;
+mod deeds;
 mod effects;
 mod ends;
 mod exchange;
@@ -27,6 +28,7 @@ mod stop;
 mod tasks;
 
 pub use answers::{HeadTurn, Lingered, Marks, OptionsTurn, Round, Started, Unplanned, Withdrawal};
+pub use deeds::Stepping;
 pub use effects::Effects;
 pub use ends::{End, EndedBy, Report};
 pub use exchange::Exchange;

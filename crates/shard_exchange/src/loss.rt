@@ -45,7 +45,7 @@ impl<H: Holder> Exchange<H> {
         ensures frees { Frees self.old.course self.new.course }
         ensures free { is_free self.new.course ≡ true }
     {
-        if self.course.course().stake {
+        if self.course.state().stake {
             self.release(rt, at, out);
         }
     }
@@ -91,7 +91,7 @@ impl<H: Holder> Exchange<H> {
             (H.answered self.old.holdings) (H.reusable self.old.holdings) self.old.course self.new.course }
     {
         // For the proof alone: this course is one that can be reached.
-        let _ = self.course.course();
+        let _ = self.course.state();
         if !self.course.may(Event::UserLost) {
             if self.course.may(Event::Tried) {
                 self.course.take(Event::Tried);

@@ -35,7 +35,7 @@ impl<H: Holder> Exchange<H> {
         ensures started { IsStarted (H.starts self.old.holdings self.new.holdings out.old at.now self.old.course) (H.keeps_user self.old.holdings self.new.holdings) (H.user_past self.old.holdings) self.old.course self.new.course }
         ensures goes { GoesOn self.old.course self.new.course }
     {
-        match self.holdings.start(rt, at, out, self.course.course()) {
+        match self.holdings.start(rt, at, out, self.course.state()) {
             Started::Moves => self.course.done(Event::Started),
             Started::Fails => self.refuse(at, out, Reason::NoMemory),
             Started::NoUser => self.lose_user(),

@@ -26,17 +26,17 @@ impl<H: Holder> Exchange<H> {
         ensures planned { IsPlanned (H.plans self.old.holdings self.new.holdings out.old at.now) self.old.course self.new.course }
         ensures goes { GoesOn self.old.course self.new.course }
     {
-        let course = self.course.course();
-        match self.holdings.plan(at, out, course.asked) {
+        let state = self.course.state();
+        match self.holdings.plan(at, out, state.asked) {
             Ok(marks) => {
-                let waits = marks.waits && course.phase.point() == Point::Reqmod && !course.told;
+                let waits = marks.waits && state.phase.point() == Point::Reqmod && !state.told;
                 self.course.done(Event::Planned {
                     offered: marks.offered,
                     waits,
                     repeatable: marks.repeatable,
                 });
             }
-            Err(Unplanned::Stale) if !course.asked => self.course.done(Event::Stale),
+            Err(Unplanned::Stale) if !state.asked => self.course.done(Event::Stale),
             Err(unplanned) => self.refuse(at, out, unplanned.reason()),
         }
     }
@@ -61,7 +61,7 @@ impl<H: Holder> Exchange<H> {
     fn dialing(&self) -> Dialing
         ensures { result ≡ dialing_of self.now.course }
     {
-        self.course.course().dialing()
+        self.course.state().dialing()
     }
 
     /// Opens the connection that a request goes to, or takes one that was kept, where it may.

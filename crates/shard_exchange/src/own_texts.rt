@@ -182,7 +182,7 @@ impl<H: Holder> Exchange<H> {
         ensures held { self.new.holdings ≡ self.old.holdings }
         ensures goes { Goes self.old.course self.new.course }
     {
-        if !self.course.course().half_told {
+        if !self.course.state().half_told {
             self.course.done(Event::HalfTold);
         }
     }

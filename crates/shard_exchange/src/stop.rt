@@ -1,7 +1,7 @@
 //! The end of the proxy: exchanges stop, and their users get their refusals.
 
 ghost use Rattle.std.specs.Prelude.{◌≡◌, ◌⊎◌, ◌&&◌, ◌||◌, ℕ, Some, None, true, false};
-ghost use Rattle.exchange_core.specs.declared.course.Course.{Course};
+ghost use Rattle.exchange_core.specs.declared.state.CourseState.{CourseState};
 ghost use Rattle.exchange_core.specs.declared.event.Event.TheVariants.{Stop, Withdrawn};
 ghost use Rattle.exchange_core.specs.declared.due.Due.TheVariants as dues;
 ghost use Rattle.exchange_core.specs.May.{may_come, is_gone, is_head, is_idle, is_in_queue, is_refusing};
@@ -57,7 +57,7 @@ impl<H: Holder> Exchange<H> {
         ensures goes { Goes self.old.course self.new.course }
         ensures still { moves self.new.course ≡ false }
         ensures stops { Halts self.old.course self.new.course false }
-        ensures ended { (mid : Course) × (held : H) × (self.new.course.phase ≡ mid.phase) × (self.new.course.connection ≡ mid.connection)
+        ensures ended { (mid : CourseState) × (held : H) × (self.new.course.phase ≡ mid.phase) × (self.new.course.connection ≡ mid.connection)
             × IsEnded (MayEnd EndedBy.Stop (H.ends self.old.holdings (may_come self.old.course Withdrawn))) (λ end. H.follows self.old.holdings out.old end held)
             (H.answered self.old.holdings) (H.reusable self.old.holdings) self.old.course mid }
         ensures alone { H.answered self.old.holdings ≡ true → is_refusing self.new.course.phase ≡ false }
@@ -71,7 +71,7 @@ impl<H: Holder> Exchange<H> {
     fn is_in_head(&self) -> bool
         ensures { result ≡ ((is_idle self.now.course.phase || is_head self.now.course.phase) && H.has_begun self.now.holdings) }
     {
-        matches!(self.course.course().phase, Phase::Idle | Phase::Head) && self.holdings.has_begun()
+        matches!(self.course.state().phase, Phase::Idle | Phase::Head) && self.holdings.has_begun()
     }
 
     /// Takes note of the refusal of a request that was read, or of whose head a part came.
@@ -79,7 +79,7 @@ impl<H: Holder> Exchange<H> {
     where
         H: Effects<P>,
     {
-        if is_in_head || is_under_way(self.course.course().phase) {
+        if is_in_head || is_under_way(self.course.state().phase) {
             self.holdings
                 .note_refusal(at, out, &self.course, Reason::Stopping);
         }
@@ -115,7 +115,7 @@ impl<H: Holder> Exchange<H> {
         ensures alone { moves self.old.course ≡ true → H.answered self.old.holdings ≡ true → is_refusing self.new.course.phase ≡ false }
     {
         // For the proof alone: this course is one that can be reached.
-        let _ = self.course.course();
+        let _ = self.course.state();
         if !self.course.may(Event::Stop) {
             return;
         }
@@ -134,7 +134,7 @@ impl<H: Holder> Exchange<H> {
         ensures frees { Frees self.old.course self.new.course }
         ensures over { is_gone self.new.course.phase ≡ true → is_over self.new.course ≡ true }
     {
-        if self.course.course().phase == Phase::Gone {
+        if self.course.state().phase == Phase::Gone {
             self.free(rt, at, out);
         }
     }
@@ -154,7 +154,7 @@ impl<H: Holder> Exchange<H> {
     {
         self.stop(rt, at, out);
         self.free_gone(rt, at, out);
-        if self.course.course().is_over() {
+        if self.course.state().is_over() {
             Step::Over
         } else {
             Step::On
@@ -205,7 +205,7 @@ impl<H: Holder> Exchange<H> {
             (refusal_by status (H.hand self.new.holdings).refused.page) (H.hand self.old.holdings).refused.out (H.hand self.new.holdings).refused.out Said.Nothing }
     {
         // For the proof alone: this course is one that can be reached.
-        let _ = self.course.course();
+        let _ = self.course.state();
         let Due::TryRefusal(status) = self.course.due() else {
             return None;
         };

@@ -20,7 +20,7 @@ ghost use Rattle.shard_message.specs.Waits.{GivesNone};
 
 use crate::holdings::Holdings;
 use adapt_sides::{ClientFault, Said, Scratch};
-use exchange_core::{Course, Dialing, Exchange};
+use exchange_core::{Course, CourseState, Dialing};
 use icap_head::IcapResponse;
 use service_lines::LendFault;
 use shard_exchange::{
@@ -99,10 +99,10 @@ impl<P, O: Outside<P>> Effects<P> for Holdings<O> {
         × (dialing ≡ KeptFirst → LeadsAsPlanned (λ room. room.planned) (λ address. (later : O) × O.takes out later at address (taken_if kept origin)) old.room)
         × (kept ≡ true → O.has_kept out origin) × HasGiven O.Origin.past origin new.before.0) };
 
-    ghost starts = { λ old new out at course. (new.before ≡ old.before) × Starts (λ room. room.planned) (λ leased. leased.wire) (IsMannerOf (O.now_is out at) (O.config_is out) course)
+    ghost starts = { λ old new out at state. (new.before ≡ old.before) × Starts (λ room. room.planned) (λ leased. leased.wire) (IsMannerOf (O.now_is out at) (O.config_is out) state)
         (λ b user service origin tx. ⟦<Moving<O> as Moves<O>>⟧.begins b user service origin tx × ((s : Outset O.User O.Service O.Origin)
         → SetsOut O.User.Wire O.Origin.Wire b user service origin s → ⟦<Moving<O> as Accounted<O>>⟧.since s tx))
-        old.message old.room old.user old.connection old.origin (is_offered course.phase) new.tx };
+        old.message old.room old.user old.connection old.origin (is_offered state.phase) new.tx };
 
     ghost rounds = { λ old new out later at round. (new.user ≡ old.user) × (new.message ≡ old.message) × (new.planned ≡ old.planned) × (new.asking ≡ old.asking)
         × (new.room ≡ old.room) × (new.origin ≡ old.origin) × (new.before ≡ old.before) × IfSome old.tx (λ tx. IfSome new.tx (λ next.
@@ -176,7 +176,7 @@ impl<P, O: Outside<P>> Effects<P> for Holdings<O> {
         out.join_queue(at, point)
     }
 
-    fn leave_queue(at: &P, out: &mut O, course: &Exchange) {
+    fn leave_queue(at: &P, out: &mut O, course: &Course) {
         leave_queue(at, out, course);
     }
 
@@ -234,7 +234,7 @@ impl<P, O: Outside<P>> Effects<P> for Holdings<O> {
         }
     }
 
-    fn start<R: Wait>(&mut self, rt: &R, at: &P, out: &mut O, course: Course) -> Started {
+    fn start<R: Wait>(&mut self, rt: &R, at: &P, out: &mut O, state: CourseState) -> Started {
         let Some(message) = self.message.take() else {
             return Started::Fails;
         };
@@ -242,12 +242,12 @@ impl<P, O: Outside<P>> Effects<P> for Holdings<O> {
             &mut self.user,
             &mut self.connection,
             &mut self.origin,
-            course.phase.is_offered(),
+            state.phase.is_offered(),
         ) else {
             return Started::NoUser;
         };
         let room = take_out(&mut self.room);
-        let manner = manner_of(at, out, course);
+        let manner = manner_of(at, out, state);
         match Moving::begin(rt, out, message, room, connections, manner) {
             Ok(tx) => {
                 put_in(&mut self.tx, tx);
@@ -280,7 +280,7 @@ impl<P, O: Outside<P>> Effects<P> for Holdings<O> {
         at: &P,
         out: &mut O,
         by: EndedBy,
-        course: &Exchange,
+        course: &Course,
     ) -> Report {
         let tx = take_out(&mut self.tx);
         let Settled {
@@ -296,7 +296,7 @@ impl<P, O: Outside<P>> Effects<P> for Holdings<O> {
         report
     }
 
-    fn withdraw(&mut self, at: &P, out: &mut O, _course: &Exchange) -> Withdrawal {
+    fn withdraw(&mut self, at: &P, out: &mut O, _course: &Course) -> Withdrawal {
         if self.tx.is_some() || !has_given_none(&self.origin, self.before.0) {
             return Withdrawal::Heard;
         }
@@ -307,9 +307,9 @@ impl<P, O: Outside<P>> Effects<P> for Holdings<O> {
         Withdrawal::Again
     }
 
-    fn keep_origin(&mut self, at: &P, out: &mut O, course: &Exchange) -> bool {
+    fn keep_origin(&mut self, at: &P, out: &mut O, course: &Course) -> bool {
         let origin = take_out(&mut self.origin);
-        if course.course().may_keep_origin() {
+        if course.state().may_keep_origin() {
             out.keep_origin(at, LastingOrigin::new(origin, course))
         } else {
             drop(origin);
@@ -317,10 +317,10 @@ impl<P, O: Outside<P>> Effects<P> for Holdings<O> {
         }
     }
 
-    fn give_back(&mut self, at: &P, out: &mut O, course: &Exchange) -> bool {
+    fn give_back(&mut self, at: &P, out: &mut O, course: &Course) -> bool {
         let Connection { wire, lease } = take_out(&mut self.connection);
         match wire {
-            Some(wire) if course.course().connection.is_ready() => {
+            Some(wire) if course.state().connection.is_ready() => {
                 out.put(at, Reusable::new(wire, course), lease);
                 true
             }
@@ -337,18 +337,18 @@ impl<P, O: Outside<P>> Effects<P> for Holdings<O> {
         out.bank().close(rt, room.into_stake(), Pages::none());
     }
 
-    fn refuse(&mut self, at: &P, out: &mut O, _course: &Exchange, status: u16) -> Said {
+    fn refuse(&mut self, at: &P, out: &mut O, _course: &Course, status: u16) -> Said {
         lay_page(at, out, status, self.refused, &mut self.page);
         let text = refusal_by(status, &self.page);
         say_to(&mut self.user, text, &mut self.refused)
     }
 
-    fn close(&mut self, _at: &P, _course: &Exchange) {
+    fn close(&mut self, _at: &P, _course: &Course) {
         finish_user::<P, O>(&self.user);
         self.is_finished = true;
     }
 
-    fn linger(&mut self, _at: &P, out: &mut O, _course: &Exchange) -> Lingered {
+    fn linger(&mut self, _at: &P, out: &mut O, _course: &Course) -> Lingered {
         linger_on::<P, O>(&mut self.user, out)
     }
 
@@ -365,11 +365,11 @@ impl<P, O: Outside<P>> Effects<P> for Holdings<O> {
         }
     }
 
-    fn note_refusal(&self, at: &P, out: &mut O, course: &Exchange, reason: Reason) {
+    fn note_refusal(&self, at: &P, out: &mut O, course: &Course, reason: Reason) {
         note_refused(at, out, course, &self.user, &self.message, reason);
     }
 
-    fn note_stop(at: &P, out: &mut O, course: &Exchange) {
+    fn note_stop(at: &P, out: &mut O, course: &Course) {
         note_stopped(at, out, course);
     }
 }

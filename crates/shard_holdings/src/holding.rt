@@ -23,7 +23,7 @@ ghost use Rattle.shard_holdings.specs.Settled.{WithdrawsAs};
 use crate::holdings::Holdings;
 use adapt_sides::{Said, WIRE_ROOM};
 use adapt_turn::FreedConnection;
-use exchange_core::Exchange;
+use exchange_core::Course;
 use http_side::HttpFault;
 use proxy_rules::interim_continue;
 use shard_exchange::{HeadTurn, Holder, InHand, OptionsTurn};
@@ -139,7 +139,7 @@ impl<O: Kinds> Holder for Holdings<O> {
         hear_on(&mut self.asking, &mut self.connection, buffer)
     }
 
-    fn tell(&mut self, _course: &Exchange) -> Said {
+    fn tell(&mut self, _course: &Course) -> Said {
         say_to(&mut self.user, interim_continue(), &mut self.told)
     }
 
@@ -147,7 +147,7 @@ impl<O: Kinds> Holder for Holdings<O> {
         self.is_finished
     }
 
-    fn lose_user(&mut self, _course: &Exchange) {
+    fn lose_user(&mut self, _course: &Course) {
         clear(&mut self.user);
     }
 

@@ -7,7 +7,7 @@ ghost use Rattle.shard_message.specs.Outset.{Outset, SetsOut};
 ghost use Rattle.shard_holdings.specs.Way.{AreSteps, Carries, IsSince};
 
 use crate::holdings::Holdings;
-use exchange_core::Course;
+use exchange_core::CourseState;
 use shard_exchange::{Effects, Holder};
 use shard_message::{Accounted, Moving, Outside};
 
@@ -18,12 +18,12 @@ use shard_message::{Accounted, Moving, Outside};
 pub fn a_message_stays_the_one_that_set_out<P, O: Outside<P>>(
     at: &P,
     out: &O,
-    course: Course,
+    state: CourseState,
     held: &Holdings<O>,
     begun: &Holdings<O>,
     now: &Holdings<O>,
 )
-    ensures began { (set : ⟦<Holdings<O> as Effects<P>>⟧.starts held.now begun.now out.now at.now course) → (s : Outset O.User O.Service O.Origin)
+    ensures began { (set : ⟦<Holdings<O> as Effects<P>>⟧.starts held.now begun.now out.now at.now state) → (s : Outset O.User O.Service O.Origin)
         → SetsOut O.User.Wire O.Origin.Wire (beginning set.1.reserved.planned set.1.arrival.value set.1.manner) set.1.source set.1.line set.1.hop s
         → IsSince ⟦<Moving<O> as Accounted<O>>⟧.since s begun.now.tx }
     ensures stays { (n : ℕ) → AreSteps (λ one next. (old : O) × (spot : P) × MovesOn ⟦<Holdings<O> as Holder>⟧.stays

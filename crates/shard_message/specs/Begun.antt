@@ -2,7 +2,7 @@
 use Rattle.std.specs.Prelude.{◌≡◌, ℕ, ◌+◌, ◌^◌, ◌<◌, ◌==◌, ◌||◌, Bool, true, false, [], Option, Some, None, Box, is_some}
 use Rattle.std.specs.declared.alloc.Global.{Global}
 use Rattle.trace_core.specs.History.{History}
-use Rattle.exchange_core.specs.declared.course.Course.{Course}
+use Rattle.exchange_core.specs.declared.state.CourseState.{CourseState}
 use Rattle.exchange_core.specs.Course.{is_reused}
 use Rattle.plan_rules.specs.declared.pace.Pace.{Pace}
 use Rattle.proxy_config.specs.declared.config.Config.{Config}
@@ -27,26 +27,26 @@ pub record Beginning : Type 0 where
 abbrev pub beginning : Option (Box Planned Global) → Arrival → Manner → Beginning
 beginning a b c = record { planned = a; message = b; manner = c }
 
--- the pace of a transaction that begins at this course, by the moment and the configuration: its deadline is a second later than the
--- configured one
-pub record IsPaceOf (now_is : ℕ → Type 0) (config_is : Config → Type 0) (course : Course) (pace : Pace) : Type 0 where
+-- the pace of a transaction that begins in this state of its course, by the moment and the configuration: its deadline is a second later
+-- than the configured one
+pub record IsPaceOf (now_is : ℕ → Type 0) (config_is : Config → Type 0) (state : CourseState) (pace : Pace) : Type 0 where
   pub config : Config
   pub config_is_so : config_is config
   pub moment : now_is pace.last_moved
   pub deadline : config.deadline + 1 < 2 ^ 64 → pace.deadline ≡ config.deadline + 1
-  pub line : (pace.reused ≡ is_reused course.connection) × (pace.broken ≡ false)
+  pub line : (pace.reused ≡ is_reused state.connection) × (pace.broken ≡ false)
 
--- The use of the origin's connection that a request goes out on at this course: one that was kept; or it is closed after the answer, where
--- none is to be kept, or the proxy drains; or it may carry further requests.
+-- The use of the origin's connection that a request goes out on in this state of its course: one that was kept; or it is closed after the
+-- answer, where none is to be kept, or the proxy drains; or it may carry further requests.
 abbrev pub IsUse : (kept closes : Bool) → OriginUse → Type 0
 IsUse true closes origin = origin ≡ Kept
 IsUse false true origin = origin ≡ Once
 IsUse false false origin = origin ≡ Fresh
 
-pub record IsUseOf (config_is : Config → Type 0) (course : Course) (origin : OriginUse) : Type 0 where
+pub record IsUseOf (config_is : Config → Type 0) (state : CourseState) (origin : OriginUse) : Type 0 where
   pub config : Config
   pub config_is_so : config_is config
-  pub use_is : IsUse course.kept ((config.keep_origins == 0) || course.draining) origin
+  pub use_is : IsUse state.kept ((config.keep_origins == 0) || state.draining) origin
 
 -- a request goes to the server that its route names; a message that has none goes to no parent
 abbrev pub next_by : Option Route → NextServer
@@ -57,11 +57,11 @@ next_by (Some route) = route.next
 abbrev pub way_by : Option Route → OriginUse → OriginWay
 way_by route connection = record { next = next_by route; connection = connection }
 
--- how a transaction moves that begins at this course
-pub record IsMannerOf (now_is : ℕ → Type 0) (config_is : Config → Type 0) (course : Course) (manner : Manner) : Type 0 where
-  pub pace : IsPaceOf now_is config_is course manner.pace
-  pub last : manner.last ≡ course.draining
-  pub origin : IsUseOf config_is course manner.origin
+-- how a transaction moves that begins in this state of its course
+pub record IsMannerOf (now_is : ℕ → Type 0) (config_is : Config → Type 0) (state : CourseState) (manner : Manner) : Type 0 where
+  pub pace : IsPaceOf now_is config_is state manner.pace
+  pub last : manner.last ≡ state.draining
+  pub origin : IsUseOf config_is state manner.origin
 
 -- A transaction with this history, pace and ends began with just that, over these connections.
 pub record BeginsWith {E A W C H G : Type 0} (b : Beginning) (source : A) (line : Option W) (next : C) (history : History) (pace : Pace)

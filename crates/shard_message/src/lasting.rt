@@ -3,7 +3,7 @@
 ghost use Rattle.std.specs.Prelude.{◌≡◌, true};
 ghost use Rattle.exchange_core.specs.May.{may_keep_origin};
 
-use exchange_core::Exchange;
+use exchange_core::Course;
 
 /// A connection to an origin on which another request may go out: by the course of its exchange the answer was read whole, and nothing is
 /// left over on it. Only such a one is kept.
@@ -14,7 +14,7 @@ pub struct LastingOrigin<W> {
 
 impl<W> LastingOrigin<W> {
     /// The origin's connection at this course.
-    pub fn new(wire: W, course: &Exchange) -> LastingOrigin<W>
+    pub fn new(wire: W, course: &Course) -> LastingOrigin<W>
         requires { may_keep_origin course.now ≡ true }
         ensures { result.wire ≡ wire }
     {

@@ -25,7 +25,7 @@ use crate::taken::stake_of;
 use crate::turns::round_of;
 use adapt_sides::Scratch;
 use adapt_turn::FreedConnection;
-use exchange_core::Exchange;
+use exchange_core::Course;
 use proxy_rules::{Incoming, Running, Way};
 use shard_exchange::{End, EndedBy, Round};
 use span_bank::{Bank, Stake};
@@ -266,7 +266,7 @@ impl<O: Kinds> Moving<O> {
         out: &mut O,
         by: EndedBy,
         before: (u64, u64),
-        course: &Exchange,
+        course: &Course,
     ) -> Settled<O, Incoming>
     where
         O: Outside<P>,

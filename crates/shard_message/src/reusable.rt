@@ -3,7 +3,7 @@
 ghost use Rattle.std.specs.Prelude.{◌≡◌, true};
 ghost use Rattle.exchange_core.specs.Course.{is_ready};
 
-use exchange_core::Exchange;
+use exchange_core::Course;
 
 /// A connection to a service that may carry another request: nothing is under way on it by the course of its exchange, so the exchange
 /// that was on it is whole. Only such a one is put back.
@@ -14,7 +14,7 @@ pub struct Reusable<W> {
 
 impl<W> Reusable<W> {
     /// The connection that is leased at this course.
-    pub fn new(wire: W, course: &Exchange) -> Reusable<W>
+    pub fn new(wire: W, course: &Course) -> Reusable<W>
         requires { is_ready course.now.connection ≡ true }
         ensures { result.wire ≡ wire }
     {

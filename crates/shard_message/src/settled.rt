@@ -22,7 +22,7 @@ use crate::sides::{Answers, Asked, MadeHead, Served};
 use crate::taken::{parts_of, wire_of};
 use adapt_sides::ClientFault;
 use adapt_turn::{EndTypes, Ends, Outcome, ServiceEnd, Tx, TxParts};
-use exchange_core::{Event, Exchange};
+use exchange_core::{Course, Event};
 use icap_client::Found;
 use plan_rules::Limits;
 use shard_exchange::{End, EndedBy, Reason, Report};
@@ -53,7 +53,7 @@ fn may_withdraw<W: Wire>(
     has_answered: bool,
     origin: &W,
     before: u64,
-    course: &Exchange,
+    course: &Course,
 ) -> bool
     ensures may { result ≡ true → IsWithdrawable by has_answered (HasGiven W.past origin.now before) (may_come course.now Withdrawn) }
     ensures bars { result ≡ false → is_by_itself by ≡ true → IsBarred has_answered (HasGivenSince W.past origin.now before) (may_come course.now Withdrawn) }
@@ -226,7 +226,7 @@ pub(crate) fn settle_request<
     tx: Tx<O::Ledgers, E>,
     by: EndedBy,
     before: (u64, u64),
-    course: &Exchange,
+    course: &Course,
 ) -> Settled<O, <E::Reader as Asked>::Message>
 where
     E::Reader: Asked,

@@ -11,7 +11,7 @@ use crate::planning::Planned;
 use crate::room::{Room, room_of};
 use crate::taken::left_of;
 use adapt_turn::Tx;
-use exchange_core::Course;
+use exchange_core::CourseState;
 use http_side::{NextServer, OriginUse, OriginWay};
 use plan_rules::Pace;
 use proxy_rules::{Accounting, Beginning, Incoming, OwnEnds, Route, Running, Way, Wires, begin};
@@ -21,13 +21,13 @@ use std::boxed::Box;
 use std::sync::Wait;
 use wire_kit::Wire;
 
-/// The pace of a transaction that begins at this course. Its deadline is a second later than the configured one, since moments are whole
+/// The pace of a transaction that begins in this state of its course. Its deadline is a second later than the configured one, since moments are whole
 /// seconds: so it never comes early.
-fn pace_of<P, O: Outside<P>>(at: &P, out: &O, course: Course) -> Pace
-    ensures { IsPaceOf (O.now_is out.now at.now) (O.config_is out.now) course result }
+fn pace_of<P, O: Outside<P>>(at: &P, out: &O, state: CourseState) -> Pace
+    ensures { IsPaceOf (O.now_is out.now at.now) (O.config_is out.now) state result }
 {
     let deadline = out.config().deadline.saturating_add(1);
-    Pace::new(deadline, out.now(at), course.connection.is_reused())
+    Pace::new(deadline, out.now(at), state.connection.is_reused())
 }
 
 /// The use of an origin's connection: of one that was kept, or of a fresh one where none is kept, or where users are let go.
@@ -45,13 +45,13 @@ fn use_of(kept: bool, keeps_none: bool, draining: bool) -> OriginUse
     }
 }
 
-/// The use of the origin's connection that a request goes out on at this course. Where none is kept, or the proxy lets its users go, each is
+/// The use of the origin's connection that a request goes out on in this state of its course. Where none is kept, or the proxy lets its users go, each is
 /// closed after its answer.
-fn origin_use<P, O: Outside<P>>(out: &O, course: Course) -> OriginUse
-    ensures { IsUseOf (O.config_is out.now) course result }
+fn origin_use<P, O: Outside<P>>(out: &O, state: CourseState) -> OriginUse
+    ensures { IsUseOf (O.config_is out.now) state result }
 {
     let keeps_none = out.config().keep_origins == 0;
-    use_of(course.kept, keeps_none, course.draining)
+    use_of(state.kept, keeps_none, state.draining)
 }
 
 /// How a transaction moves.
@@ -64,14 +64,14 @@ pub struct Manner {
     pub origin: OriginUse,
 }
 
-/// How a transaction moves that begins at this course.
-pub fn manner_of<P, O: Outside<P>>(at: &P, out: &O, course: Course) -> Manner
-    ensures { IsMannerOf (O.now_is out.now at.now) (O.config_is out.now) course result }
+/// How a transaction moves that begins in this state of its course.
+pub fn manner_of<P, O: Outside<P>>(at: &P, out: &O, state: CourseState) -> Manner
+    ensures { IsMannerOf (O.now_is out.now at.now) (O.config_is out.now) state result }
 {
     Manner {
-        pace: pace_of(at, out, course),
-        last: course.draining,
-        origin: origin_use(out, course),
+        pace: pace_of(at, out, state),
+        last: state.draining,
+        origin: origin_use(out, state),
     }
 }
 

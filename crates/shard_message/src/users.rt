@@ -7,7 +7,7 @@ ghost use Rattle.shard_exchange.specs.Saying.{past_of};
 ghost use Rattle.shard_message.specs.Waits.{GivesNone};
 
 use crate::outside::Outside;
-use exchange_core::{Exchange, Phase};
+use exchange_core::{Course, Phase};
 use proxy_rules::Incoming;
 use shard_exchange::{Lingered, Reason};
 use std::boxed::Box;
@@ -16,12 +16,12 @@ use std::boxed::Box;
 pub fn note_refused<P, O: Outside<P>>(
     at: &P,
     out: &mut O,
-    course: &Exchange,
+    course: &Course,
     user: &Option<O::User>,
     message: &Option<Box<Incoming>>,
     reason: Reason,
 ) {
-    if course.course().is_mid_text() {
+    if course.state().is_mid_text() {
         return;
     }
     let message: Option<&Incoming> = match message {
@@ -52,17 +52,17 @@ pub fn linger_on<P, O: Outside<P>>(user: &mut Option<O::User>, out: &mut O) -> L
 }
 
 /// Has a message that waits for a connection of its service wait no more.
-pub fn leave_queue<P, O: Outside<P>>(at: &P, out: &mut O, course: &Exchange)
+pub fn leave_queue<P, O: Outside<P>>(at: &P, out: &mut O, course: &Course)
     ensures { (point : AnyPoint) → course.now.phase ≡ InQueue point → O.leaves out.new at.now point }
 {
-    if let Phase::InQueue { point } = course.course().phase {
+    if let Phase::InQueue { point } = course.state().phase {
         out.leave_queue(at, point);
     }
 }
 
 /// Takes note that an answer ends unfinished, where it does.
-pub fn note_stopped<P, O: Outside<P>>(at: &P, out: &mut O, course: &Exchange) {
-    if course.course().phase == Phase::Gone {
+pub fn note_stopped<P, O: Outside<P>>(at: &P, out: &mut O, course: &Course) {
+    if course.state().phase == Phase::Gone {
         out.note_stop(at);
     }
 }

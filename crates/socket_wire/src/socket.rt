@@ -318,6 +318,7 @@ impl<S: Calls> Wire for StreamWire<S> {
     }
 
     fn may_give(&mut self) -> bool {
+        // For the proof alone: its number has 64 bits.
         let _read = self.tally.read;
         if self.ready.can_read() {
             return true;

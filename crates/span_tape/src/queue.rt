@@ -76,7 +76,7 @@ impl Queue {
     {
         let before = PAGE_BYTES * self.front.count();
         append_last(&mut self.back, at - before, bytes, pages);
-        // Shows how many bytes the pages have.
+        // For the proof alone: how many bytes the pages have.
         let _back = self.back.count();
     }
 
@@ -89,7 +89,7 @@ impl Queue {
         ensures none { IfNone result (self.old.count ≡ 0) }
     {
         let page = first_of(&mut self.front, &mut self.back);
-        // Shows how many bytes the pages have.
+        // For the proof alone: how many bytes the pages have.
         let _front = self.front.count();
         let _back = self.back.count();
         page
@@ -121,7 +121,7 @@ impl Queue {
         ensures { out.new ≡ take (length out.old) (drop at self.now.text) }
     {
         let before = PAGE_BYTES * self.front.count();
-        // Shows how many bytes the pages have.
+        // For the proof alone: how many bytes the pages have.
         let _back = self.back.count();
         if at < before {
             let some = (before - at).min(out.len() as u64) as usize;
@@ -140,6 +140,7 @@ fn turned(chain: Chain) -> Chain
     ensures down { down_of result ≡ text_of chain }
     ensures count { length result ≡ length chain }
 {
+    // For the proof alone: how many pages the chain has.
     let _whole = chain.count();
     let mut chain = chain;
     let mut turned = Chain::none();
@@ -157,6 +158,7 @@ fn turn(front: &mut Chain, back: &mut Chain)
     ensures last { length back.new ≤ 1 }
     ensures some { length back.new ≡ 0 → length front.new ≡ 0 }
 {
+    // For the proof alone: how many bytes the pages have.
     let _whole = back.count();
     if let Some(last) = back.pop() {
         *front = turned(mem::replace(back, Chain::none()));
@@ -214,7 +216,7 @@ fn fill_last(back: &mut Chain, at: u64, bytes: &[u8]) -> usize
     match back.pop() {
         None => unreachable!(),
         Some(page) => {
-            // Shows how many bytes the pages have.
+            // For the proof alone: how many bytes the pages have.
             let _whole = back.count();
             let done = bytes.len().min(PAGE_BYTES as usize - used);
             put_last(back, page, used, &bytes[..done]);
@@ -234,7 +236,7 @@ fn append_last(back: &mut Chain, at: u64, bytes: &[u8], pages: &mut Pages)
 {
     let mut done = fill_last(back, at, bytes);
     while done < bytes.len() {
-        // Shows how many bytes the pages have.
+        // For the proof alone: how many bytes the pages have.
         let _whole = back.count();
         match pages.pop() {
             None => unreachable!(),
@@ -267,6 +269,7 @@ fn copy_first(front: &Chain, at: u64, out: &mut [u8])
     requires { at + length out.old ≤ PAGE_BYTES * length front.now }
     ensures { out.new ≡ take (length out.old) (drop at (text_of front.now)) }
 {
+    // For the proof alone: how many bytes the pages have.
     let _whole = front.count();
     let mut rest = front;
     for _i in 0..at / PAGE_BYTES {
@@ -315,7 +318,7 @@ fn copy_last(back: &Chain, at: u64, out: &mut [u8])
     for _i in 0..whole - (at + left as u64).div_ceil(PAGE_BYTES) {
         match rest.first() {
             Some((_page, next)) => {
-                // Shows how many bytes the pages have.
+                // For the proof alone: how many bytes the pages have.
                 let _next = next.count();
                 rest = next;
             }

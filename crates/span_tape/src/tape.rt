@@ -104,7 +104,7 @@ impl SpanTape {
     {
         self.pages.append(self.start + self.len, bytes, pages);
         self.len += bytes.len() as u64;
-        // Shows how many bytes the pages have.
+        // For the proof alone: how many bytes the pages have.
         let _count = self.pages.count();
     }
 

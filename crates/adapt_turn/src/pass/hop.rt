@@ -45,6 +45,7 @@ pub(crate) fn next_pass<B: Ledgers, E: EndTypes>(
         (writers hold.old next.old next_wire.old back.old back_wire.old) (writers hold.new next.new next_wire.new back.new back_wire.new) result }
     ensures roomy { IsRoomy hold.new }
 {
+    // For the proof alone: a state is that of its history.
     let _state = hold.state();
     if !is_chosen(hold) {
         return idle();

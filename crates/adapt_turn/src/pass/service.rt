@@ -56,6 +56,7 @@ fn held_pass<B: Ledgers, V: Service, W: Wire>(
     ensures passes { ServicePasses V.Service W.Wire reused (lending hold.old service.old wire.old) (lending hold.new service.new wire.new) result }
     ensures roomy { IsRoomy hold.new }
 {
+    // For the proof alone: a state is that of its history.
     let _state = hold.state();
     let sent = send(rt, bank, hold, service, wire, &mut scratch.wire, reused);
     if sent.broken {
@@ -113,6 +114,7 @@ fn hear<B: Ledgers, V: Service, W: Wire>(
     ensures unbroken { (cause : Cause) → result.failed ≡ Some cause → Breaks hold.old.history reused (V.fault service.new) → ⊥ }
     ensures breaks { result.broken ≡ true → Breaks hold.new.history reused (V.fault service.new) }
 {
+    // For the proof alone: a state is that of its history.
     let _state = hold.state();
     let room = hold.adapted_room() as usize;
     take_service(

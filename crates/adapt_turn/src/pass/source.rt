@@ -63,6 +63,7 @@ fn read_source<B: Ledgers, S: Source, A: Wire>(
     ensures whole { result.broken ≡ false }
     ensures roomy { IsRoomy hold.new }
 {
+    // For the proof alone: a state is that of its history.
     let _state = hold.state();
     let room = hold.original_room() as usize;
     take_source(rt, bank, hold, source, wire, &mut body[..room], buffer)
@@ -88,6 +89,7 @@ pub(crate) fn take_source<B: Ledgers, S: Source, A: Wire>(
     ensures whole { result.broken ≡ false }
     ensures roomy { IsRoomy hold.new }
 {
+    // For the proof alone: a state is that of its history.
     let _state = hold.state();
     match source.read_turn(wire, out, buffer) {
         Ok(turn) => {

@@ -163,6 +163,7 @@ impl<B: Ledgers, E: EndTypes> Tx<B, E> {
         ensures kept { (self.new.ends.source_wire ≡ self.old.ends.source_wire) × (self.new.ends.service ≡ self.old.ends.service) × (self.new.ends.next_wire ≡ self.old.ends.next_wire) × (self.new.ends.source ≡ self.old.ends.source) }
         ensures maker { self.new.ends.maker ≡ self.old.ends.maker }
     {
+        // For the proof alone: a state is that of its history.
         let _state = self.hold.state();
         fail(rt, bank, &mut self.hold, cause);
         self.outcome = Outcome::Fail(cause);

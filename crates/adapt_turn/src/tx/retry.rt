@@ -39,6 +39,7 @@ impl<B: Ledgers, E: EndTypes> Tx<B, E> {
         ensures unused { (self.new.pace.broken ≡ false) × (self.new.pace.reused ≡ false) }
         ensures timed { (self.new.pace.last_moved ≡ self.old.pace.last_moved) × (self.new.pace.deadline ≡ self.old.pace.deadline) }
     {
+        // For the proof alone: a state is that of its history.
         let _state = self.hold.state();
         go_on(rt, bank, &mut self.hold, Event::Retry);
         self.pace.broken = false;

@@ -1,5 +1,5 @@
 use Rattle.std.proofs.Common.{◌≡◌, Bool, true, false, ap, subst, sym, ◌∙◌}
-use Rattle.exchange_core.specs.declared.course.Course.{Course}
+use Rattle.exchange_core.specs.declared.state.CourseState.{CourseState}
 use Rattle.exchange_core.specs.declared.event.Event.TheVariants.{Failed, Sent}
 use Rattle.exchange_core.specs.declared.event.RefusalCause.TheVariants.{Scarce}
 use Rattle.exchange_core.specs.Course.{after}
@@ -14,9 +14,9 @@ pub returns-then-may-clause-goes : goal.returns-then-may-clause-goes
 returns-then-may-clause-goes c = goes_on _ _ _ c.take_or_fail.ensures.goes c.take.ensures.goes
 
 -- all was sent, and memory was wanting for the response
-wants : (memory : Bool) (old mid new : Course) → memory ≡ false → (may_come old Sent ≡ true → mid ≡ after old Sent)
+wants : (memory : Bool) (old mid new : CourseState) → memory ≡ false → (may_come old Sent ≡ true → mid ≡ after old Sent)
     → new ≡ after mid (Failed Scarce) → IsTold old new (ends.Sent memory)
-wants false old mid new wanting sent fails = λ may. fails ∙ ap (λ (c : Course). after c (Failed Scarce)) (sent may)
+wants false old mid new wanting sent fails = λ may. fails ∙ ap (λ (c : CourseState). after c (Failed Scarce)) (sent may)
 wants true old mid new wanting sent fails = absurd cc
 
 pub returns-then-may-clause-succeeds : goal.returns-then-may-clause-succeeds

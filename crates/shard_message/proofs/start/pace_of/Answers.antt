@@ -5,7 +5,7 @@ use Rattle.shard_message.proofs.start.pace_of.Goals as goal
 
 pub returns : goal.returns
 returns g c = subst (λ (pace : Pace). IsPaceOf (g.O.Clocked.now_is c.args.out.now c.args.at.now) (g.O.Settings.config_is c.args.out.now)
-    c.args.course pace) (sym c.new.ensures) (record {
+    c.args.state pace) (sym c.new.ensures) (record {
       config = c.config.result.now;
       config_is_so = c.config.ensures;
       moment = c.now.ensures;

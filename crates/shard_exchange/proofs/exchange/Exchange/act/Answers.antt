@@ -1,6 +1,6 @@
 use Rattle.std.proofs.Common.{◌≡◌, ◌∙◌, inl, inr, Bool, true, false, Option, not, ◌&&◌, ◌||◌, if◌then◌else◌, sym}
 use Rattle.std.proofs.lemmas.Bool.{false≢true}
-use Rattle.exchange_core.specs.declared.course.Course.{Course}
+use Rattle.exchange_core.specs.declared.state.CourseState.{CourseState}
 use Rattle.exchange_core.specs.declared.due.Due.TheVariants.{GiveBack, Turn}
 use Rattle.exchange_core.specs.declared.phase.Phase.{Phase}
 use Rattle.exchange_core.specs.declared.phase.Phase.TheVariants.{AtGate, Moving}
@@ -15,7 +15,7 @@ use Rattle.shard_exchange.proofs.exchange.Exchange.act.Goals as goal
 
 -- the gate let the message pass
 passed : {H O : Type 0} (passes : O → Bool → Type 0) (ends : End → Type 0) (follows : O → End → Type 0) (answered reusable : Bool)
-    (held holds : H) (old new : Course)
+    (held holds : H) (old new : CourseState)
     → IsGated passes ends follows answered reusable held holds old new → moves new ≡ true → holds ≡ held
 passed passes ends follows answered reusable held holds old new gated moving = elim gated [
   | inl through ↦ through.3
@@ -23,12 +23,13 @@ passed passes ends follows answered reusable held holds old new gated moving = e
 ]
 
 -- a connection went back
-went_back : (puts gives_up stays : Type 0) (there : Bool) (old new : Course) → IsGivenBack puts gives_up stays there old new → stays
+went_back : (puts gives_up stays : Type 0) (there : Bool) (old new : CourseState) → IsGivenBack puts gives_up stays there old new → stays
 went_back puts gives_up stays there old new given = given.2
 
 -- a round of turns was taken
 took_turns : {H O : Type 0} (rounds : H → H → O → Round → Type 0) (frees : H → Option Bool → Type 0) (answered reusable : H → Bool)
-    (ends : H → Bool → End → Type 0) (follows : H → O → End → Type 0) (repeats : H → Type 0) (late : O → Bool) (held : H) (old new : Course)
+    (ends : H → Bool → End → Type 0) (follows : H → O → End → Type 0) (repeats : H → Type 0) (late : O → Bool)
+    (held : H) (old new : CourseState)
     → IsTurned rounds frees answered reusable ends follows repeats late held old new → moves new ≡ true
     → (turned : H) × (later : O) × (round : Round) × rounds held turned later round × ((usable : Option Bool) × frees turned usable)
 took_turns rounds frees answered reusable ends follows repeats late held old new turn moving =
@@ -46,7 +47,7 @@ by_due stays rounds frees held holds deeds false gives takes h = inr (inr (takes
 
 -- What is due of a message that moves is to ask the gate, to give a connection back, or a round of turns.
 moving_on : {H O : Type 0} (stays : H → H → Type 0) (rounds : H → H → O → Round → Type 0) (frees : H → Option Bool → Type 0)
-    (held holds : H) (deeds : Deeds) (phase : Phase) (old : Course) → (is_at_gate phase || is_moving phase) ≡ true
+    (held holds : H) (deeds : Deeds) (phase : Phase) (old : CourseState) → (is_at_gate phase || is_moving phase) ≡ true
     → (deeds.gated → holds ≡ held)
     → (deeds.given → stays held holds)
     → (deeds.turned → (turned : H) × (later : O) × (round : Round) × rounds held turned later round

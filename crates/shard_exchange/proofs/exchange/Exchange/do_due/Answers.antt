@@ -1,4 +1,4 @@
-use Rattle.std.proofs.Common.{◌≡◌, ◌∙◌, sym}
+use Rattle.std.proofs.Common.{◌∙◌, sym}
 use Rattle.shard_exchange.proofs.exchange.Exchange.do_due.Goals as goal
 
 -- a connection goes back, since that is due

@@ -1,6 +1,6 @@
 use Rattle.std.proofs.Common.{◌≡◌, inl, inr, Bool, true, false, if◌then◌else◌, refl}
 use Rattle.trace_core.specs.declared.history.Point.{Point}
-use Rattle.exchange_core.specs.declared.course.Course.{Course}
+use Rattle.exchange_core.specs.declared.state.CourseState.{CourseState}
 use Rattle.exchange_core.specs.declared.event.Event.TheVariants.{Failed}
 use Rattle.exchange_core.specs.declared.event.RefusalCause.TheVariants.{Deadline}
 use Rattle.exchange_core.specs.Course.{after}
@@ -10,7 +10,7 @@ use Rattle.shard_exchange.proofs.exchange.Exchange.hear.Goals as goal
 
 -- nothing was heard: the message waits on, or fails of its deadline
 silent : {H : Type 0} (learns : Point → Response → Type 0) (usable : H → Response → Bool) (keeps : H → Type 0) (asks : Point → Type 0)
-    (renews : H → Type 0) (late : Bool) (old new : Course) → new ≡ (if late then after old (Failed Deadline) else old)
+    (renews : H → Type 0) (late : Bool) (old new : CourseState) → new ≡ (if late then after old (Failed Deadline) else old)
     → IsHeard learns usable keeps asks renews old new
 silent learns usable keeps asks renews true old new e = inr (inr (inr (Deadline, refl, e)))
 silent learns usable keeps asks renews false old new e = inl e

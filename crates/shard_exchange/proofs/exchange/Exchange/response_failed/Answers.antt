@@ -1,8 +1,8 @@
 use Rattle.std.proofs.Common.{◌≡◌, inr, Bool, true, false, ◌&&◌, Option, refl, ap, sym, subst, ◌∙◌}
 use Rattle.std.proofs.lemmas.Bool.{false≢true}
 use Rattle.adapt_sides.specs.declared.fault.RelayFault.{RelayFault}
-use Rattle.exchange_core.specs.declared.course.Course.{Course}
-use Rattle.exchange_core.specs.declared.event.Event.TheVariants.{Failed, Withdrawn}
+use Rattle.exchange_core.specs.declared.state.CourseState.{CourseState}
+use Rattle.exchange_core.specs.declared.event.Event.TheVariants.{Failed}
 use Rattle.exchange_core.specs.Course.{after}
 use Rattle.http_side.specs.declared.fault.HttpFault.{HttpFault}
 use Rattle.shard_exchange.specs.declared.answers.Withdrawal.{Withdrawal}
@@ -25,7 +25,7 @@ second_holds true b h = h
 second_holds false b h = absurd cc
 
 -- the message fails by what the head's turn found, where the request isn't the message again
-fails_so : (repeats : Type 0) (asked : Withdrawal → Type 0) (head : Option HttpFault) (fault : RelayFault) (old mid new : Course)
+fails_so : (repeats : Type 0) (asked : Withdrawal → Type 0) (head : Option HttpFault) (fault : RelayFault) (old mid new : CourseState)
     (reason : Reason)
     → mid ≡ old → reason ≡ origin_head_reason fault head → new ≡ after mid (Failed (cause_of reason))
     → (may_go_back fault old ≡ true → (came : Withdrawal) × (came ≡ Again → ⊥) × asked came)
@@ -33,7 +33,7 @@ fails_so : (repeats : Type 0) (asked : Withdrawal → Type 0) (head : Option Htt
 fails_so repeats asked head fault old mid new reason same why fails why_not =
     inr (
       why_not,
-      fails ∙ (ap (λ (c : Course). after c (Failed (cause_of reason))) same
+      fails ∙ (ap (λ (c : CourseState). after c (Failed (cause_of reason))) same
           ∙ ap (λ (r : Reason). after old (Failed (cause_of r))) why),
     )
 

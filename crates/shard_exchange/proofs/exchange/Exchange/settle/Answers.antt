@@ -2,7 +2,7 @@ use Rattle.std.proofs.Common.{◌≡◌, ◌∙◌, Bool, true, false, Option, N
 use Rattle.std.proofs.Math.Bool.{or-true}
 use Rattle.exchange_core.specs.declared.connection.Connection.{Connection}
 use Rattle.exchange_core.specs.declared.connection.Connection.TheVariants.{Absent, Ready, InUse, Spent}
-use Rattle.exchange_core.specs.declared.course.Course.{Course}
+use Rattle.exchange_core.specs.declared.state.CourseState.{CourseState}
 use Rattle.shard_exchange.specs.declared.ends.End.{End}
 use Rattle.shard_exchange.specs.declared.ends.End.TheVariants as ends
 use Rattle.shard_exchange.specs.EndedBy.{is_good, served_as}
@@ -48,7 +48,8 @@ returns-clause-served g c =
     c.tell.ensures.served)
 
 -- a good end cuts no connection, so it is told as one
-succeeding : (told answered : Bool) (served : Option Bool) (usable : Bool) (old new : Course) (cuts : Bool) (end : End) → told ≡ answered
+succeeding : (told answered : Bool) (served : Option Bool) (usable : Bool) (old new : CourseState) (cuts : Bool) (end : End)
+    → told ≡ answered
     → served ≡ served_as usable end → (is_good end ≡ true → cuts ≡ false) → (cuts ≡ false → Succeeds told served old new end)
     → Succeeds answered (served_as usable end) old new end
 succeeding told answered served usable old new cuts (ends.Sent has_memory) some is whole tells =

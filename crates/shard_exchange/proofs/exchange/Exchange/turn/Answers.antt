@@ -2,7 +2,7 @@ use Rattle.std.proofs.Common.{◌≡◌, ◌⊎◌, inl, inr, Bool, Option, true
 use Rattle.std.proofs.lemmas.Bool.{false≢true}
 use Rattle.exchange_core.specs.declared.connection.Connection.{Connection}
 use Rattle.exchange_core.specs.declared.connection.Connection.TheVariants.{Absent, Ready, InUse, Spent}
-use Rattle.exchange_core.specs.declared.course.Course.{Course}
+use Rattle.exchange_core.specs.declared.state.CourseState.{CourseState}
 use Rattle.exchange_core.specs.declared.event.Event.TheVariants.{Renewed, Withdrawn}
 use Rattle.exchange_core.specs.declared.phase.Phase.{Phase}
 use Rattle.exchange_core.specs.declared.phase.Phase.TheVariants.{Moving}
@@ -48,13 +48,14 @@ still_moves true moving h k = sym k
 still_moves false moving h k = sym k ∙ h
 
 -- what a round came to that isn't over
-record Noted (answered usable : Bool) (mid new : Course) : Type 0 where
+record Noted (answered usable : Bool) (mid new : CourseState) : Type 0 where
   moves : is_moving mid.phase ≡ true
   phase : new.phase ≡ mid.phase
   begun : new.begun ≡ (mid.begun || (answered && has_answer mid.phase))
   served : IsServedBy usable mid.connection new.connection
 
-noted_anew : (answered usable : Bool) (old new : Course) → Noted answered usable (after old Renewed) new → Noted answered usable old new
+noted_anew : (answered usable : Bool) (old new : CourseState) → Noted answered usable (after old Renewed) new
+    → Noted answered usable old new
 noted_anew answered usable old new n = record {
   moves = n.moves;
   phase = n.phase;
@@ -62,7 +63,7 @@ noted_anew answered usable old new n = record {
   served = served_anew usable old.connection new.connection n.served;
 }
 
-from_round : (answered usable : Bool) (round : Round) (old new : Course) → Noted answered usable (anew_with round old) new
+from_round : (answered usable : Bool) (round : Round) (old new : CourseState) → Noted answered usable (anew_with round old) new
     → Noted answered usable old new
 from_round answered usable came.Broken old new n = noted_anew answered usable old new n
 from_round answered usable (came.Moved framing) old new n = n
@@ -70,7 +71,7 @@ from_round answered usable came.Waiting old new n = n
 from_round answered usable came.Over old new n = n
 
 -- where the connection broke the course is told so, and else it is as before
-anew_is : (round : Round) (old mid : Course) → (round ≡ came.Broken → mid ≡ after old Renewed)
+anew_is : (round : Round) (old mid : CourseState) → (round ≡ came.Broken → mid ≡ after old Renewed)
     → ((round ≡ came.Broken → ⊥) → mid ≡ old) → mid ≡ anew_with round old
 anew_is came.Broken old mid anew still = anew refl
 anew_is (came.Moved framing) old mid anew still = still (λ e. cc)
@@ -80,21 +81,21 @@ anew_is came.Over old mid anew still = still (λ e. cc)
 moving_on : {H O : Type 0} (rounds : H → H → O → Round → Type 0) (frees : H → Option Bool → Type 0) (answered reusable : H → Bool)
     (ends : H → Bool → End → Type 0) (follows : H → O → End → Type 0) (repeats : H → Type 0) (late : O → Bool) (held turned : H) (later : O)
     (round : Round)
-    (old mid new : Course)
+    (old mid new : CourseState)
     → rounds held turned later round → (is_last (late later) round ≡ true → ⊥) → mid ≡ anew_with round old
     → (usable : Option Bool) × frees turned usable × (new ≡ served_with usable (begun_with (answered turned) mid))
     → Noted (answered turned) (reusable turned) mid new
     → IsTurned rounds frees answered reusable ends follows repeats late held old new
 moving_on rounds frees answered reusable ends follows repeats late held turned later round old mid new r on same f here =
     let n = from_round (answered turned) (reusable turned) round old new
-    (subst (λ (c : Course). Noted (answered turned) (reusable turned) c new) same here) in
+    (subst (λ (c : CourseState). Noted (answered turned) (reusable turned) c new) same here) in
     let moves = ap (λ (p : Phase). is_moving p) n.phase ∙ n.moves in
     record {
       turned = turned;
       later = later;
       round = round;
       taken = r;
-      freed = λ m. subst (λ (c : Course). (usable : Option Bool) × frees turned usable
+      freed = λ m. subst (λ (c : CourseState). (usable : Option Bool) × frees turned usable
           × (new ≡ served_with usable (begun_with (answered turned) c))) same f;
       begun = λ m. n.begun;
       alone = λ a. not_refusing new.phase moves;
@@ -134,7 +135,7 @@ returns-else-not-note_round-clause-turned g c =
 -- what a message came to that is over: the course is as before where it is told
 ended_there : {H O : Type 0} (rounds : H → H → O → Round → Type 0) (frees : H → Option Bool → Type 0) (answered reusable : H → Bool)
     (ends : H → Bool → End → Type 0) (follows : H → O → End → Type 0) (repeats : H → Type 0) (late : O → Bool) (held turned : H) (later : O)
-    (round : Round) (old mid new : Course)
+    (round : Round) (old mid new : CourseState)
     → mid ≡ old → rounds held turned later round → moves new ≡ false → IsServedBy (reusable turned) mid.connection new.connection
     → (answered turned ≡ true → is_refusing new.phase ≡ false)
     → (is_withdrawing new.phase ≡ true → repeats turned × (answered turned ≡ false) × (may_come mid Withdrawn ≡ true))
@@ -142,7 +143,7 @@ ended_there : {H O : Type 0} (rounds : H → H → O → Round → Type 0) (free
     ⊎ IsOverdue late (follows turned later) (answered turned) (reusable turned) round mid new
     → IsTurned rounds frees answered reusable ends follows repeats late held old new
 ended_there rounds frees answered reusable ends follows repeats late held turned later round old mid new same r over s a w e =
-    subst (λ (c : Course). IsTurned rounds frees answered reusable ends follows repeats late held c new) same
+    subst (λ (c : CourseState). IsTurned rounds frees answered reusable ends follows repeats late held c new) same
     (record {
       turned = turned;
       later = later;

@@ -1,23 +1,23 @@
 use Rattle.std.proofs.Common.{◌≡◌, true, sym, subst}
-use Rattle.exchange_core.specs.declared.course.Course.{Course}
+use Rattle.exchange_core.specs.declared.state.CourseState.{CourseState}
 use Rattle.exchange_core.specs.declared.event.Event.TheVariants.{Dropped}
 use Rattle.exchange_core.specs.Dues.{due_of, is_between}
 use Rattle.exchange_core.specs.Log.{IsReached}
 use Rattle.exchange_core.proofs.Reached.{reached_after}
 use Rattle.exchange_core.proofs.Stepping.{goes_seen}
 use Rattle.exchange_core.proofs.Doing.{drops_there}
-use Rattle.exchange_core.proofs.exchange.Exchange.dropped.Goals as goal
+use Rattle.exchange_core.proofs.course.Course.dropped.Goals as goal
 
 pub invariant_of-self : goal.invariant_of-self
 invariant_of-self c =
     subst IsReached (sym c.after-self-inside.ensures)
-    (reached_after c.self.inside.course Dropped c.self.invariant
-    (drops_there c.self.inside.course c.self.invariant
-    (subst (λ (d : Course). is_between (due_of d) ≡ true) (sym c.self.view_is) c.requires)))
+    (reached_after c.self.inside.state Dropped c.self.invariant
+    (drops_there c.self.inside.state c.self.invariant
+    (subst (λ (d : CourseState). is_between (due_of d) ≡ true) (sym c.self.view_is) c.requires)))
 
 pub returns-clause-goes : goal.returns-clause-goes
 returns-clause-goes c =
-    goes_seen c.args.self.now c.self.inside.course c.after-self-inside.result Dropped c.self.view_is
-    (drops_there c.self.inside.course c.self.invariant
-    (subst (λ (d : Course). is_between (due_of d) ≡ true) (sym c.self.view_is) c.requires))
+    goes_seen c.args.self.now c.self.inside.state c.after-self-inside.result Dropped c.self.view_is
+    (drops_there c.self.inside.state c.self.invariant
+    (subst (λ (d : CourseState). is_between (due_of d) ≡ true) (sym c.self.view_is) c.requires))
     c.after-self-inside.ensures

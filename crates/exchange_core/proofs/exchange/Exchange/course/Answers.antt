@@ -1,5 +1,0 @@
-use Rattle.exchange_core.proofs.Doing.{stops_there}
-use Rattle.exchange_core.proofs.exchange.Exchange.course.Goals as goal
-
-pub returns-clause-stops : goal.returns-clause-stops
-returns-clause-stops c = stops_there c.self.inside.course c.self.invariant
