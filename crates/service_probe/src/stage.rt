@@ -150,10 +150,7 @@ where
 {
     let mut tx = tx;
     tx.halt(rt, bank);
-    match tx.into_parts() {
-        Ok(parts) => take_apart(rt, bank, parts),
-        Err(_) => unreachable!(),
-    }
+    take_apart(rt, bank, tx.into_parts())
 }
 
 /// Closes the reservation of a transaction that ended.

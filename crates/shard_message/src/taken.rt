@@ -27,10 +27,7 @@ pub(crate) fn parts_of<B: Ledgers, E: EndTypes, R: Wait>(
 {
     let mut tx = tx;
     tx.halt(rt, bank);
-    match tx.into_parts() {
-        Ok(parts) => parts,
-        Err(_) => unreachable!(),
-    }
+    tx.into_parts()
 }
 
 /// The connection of a service's side that has ended. None where it was given up before.

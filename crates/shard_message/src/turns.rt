@@ -69,7 +69,7 @@ fn body_bytes(seen: &Seen) -> u64 {
     offered.saturating_add(delivered)
 }
 
-/// A turn of one side.
+/// A turn of one side. `bodies` is what `body_bytes` says before it, and says after it where bytes moved.
 fn turn_side<B: Ledgers, W: Wires, R: Wait>(
     rt: &R,
     bank: &Bank<B>,
@@ -77,19 +77,21 @@ fn turn_side<B: Ledgers, W: Wires, R: Wait>(
     scratch: &mut Scratch,
     side: Side,
     now: u64,
+    bodies: &mut u64,
 ) -> Round
     ensures turned { (answer : AnyAnswer) × ⟦<Running<B, W> as Turning>⟧.turned now tx.old side answer tx.new × IsTurned (⟦<Running<B, W> as Turning>⟧.is_over tx.new) answer result }
     ensures broken { result ≡ Round.Broken → MayRenew tx.new.tx.pace tx.new.tx.hold }
     ensures lasts { ⟦<Tx<B, OwnEnds<W>> as Lasting<W>>⟧.lasts (λ s. s) tx.old.tx tx.new.tx }
 {
-    let before = body_bytes(&tx.seen());
     let turned = tx.turn(rt, bank, scratch, side, now);
     if tx.outcome().is_some() {
         return Round::Over;
     }
     match turned {
         TurnAnswer::Moved(count) => {
-            let of_bodies = body_bytes(&tx.seen()).saturating_sub(before);
+            let before = *bodies;
+            *bodies = body_bytes(&tx.seen());
+            let of_bodies = bodies.saturating_sub(before);
             Round::Moved {
                 framing: count.saturating_sub(of_bodies),
             }
@@ -122,7 +124,8 @@ fn ends(turned: Round) -> bool
     matches!(turned, Round::Over | Round::Broken)
 }
 
-/// A turn of each of these sides, up to the first one with which the transaction is over or broken: nothing more is written then.
+/// A turn of each of these sides, up to the first one with which the transaction is over or broken: nothing more is written then. `bodies`
+/// goes from turn to turn.
 fn turn_each<B: Ledgers, W: Wires, R: Wait>(
     rt: &R,
     bank: &Bank<B>,
@@ -130,6 +133,7 @@ fn turn_each<B: Ledgers, W: Wires, R: Wait>(
     scratch: &mut Scratch,
     sides: &[Side],
     now: u64,
+    bodies: &mut u64,
 ) -> Round
     ensures turns { IsRound (⟦<Running<B, W> as Turning>⟧.turned now) ⟦<Running<B, W> as Turning>⟧.is_over sides.now tx.old tx.new result }
     ensures broken { result ≡ Round.Broken → MayRenew tx.new.tx.pace tx.new.tx.hold }
@@ -138,11 +142,11 @@ fn turn_each<B: Ledgers, W: Wires, R: Wait>(
     match sides {
         [] => Round::Waiting,
         [side, later @ ..] => {
-            let turned = turn_side(rt, bank, tx, scratch, *side, now);
+            let turned = turn_side(rt, bank, tx, scratch, *side, now, bodies);
             if ends(turned) {
                 return turned;
             }
-            let rest = turn_each(rt, bank, tx, scratch, later, now);
+            let rest = turn_each(rt, bank, tx, scratch, later, now, bodies);
             joined(turned, rest)
         }
     }
@@ -213,7 +217,8 @@ pub(crate) fn round_of<P, O: Outside<P>, W: Wires<ServiceWire = O::Service>, R: 
 {
     let now = out.now(at);
     let sides = [Side::Source, Side::Service, Side::NextHop];
-    match turn_each(rt, out.bank(), tx, scratch, &sides, now) {
+    let mut bodies = body_bytes(&tx.seen());
+    match turn_each(rt, out.bank(), tx, scratch, &sides, now, &mut bodies) {
         Round::Broken => renew(rt, at, out, tx, connection, may_renew),
         round => round,
     }

@@ -185,18 +185,14 @@ fn end<B: Ledgers, A: Wire + Drop, C: Wire + Drop, R: Wait>(
 ) -> Ended<A, C> {
     let mut running = running;
     running.halt(rt, bank);
-    match running.into_tx().into_parts() {
-        Ok(parts) => {
-            let (outcome, source, service, next_hop) = take_apart(rt, bank, parts);
-            Ended {
-                outcome,
-                source,
-                service,
-                next_hop,
-                lines,
-            }
-        }
-        Err(_) => unreachable!(),
+    let parts = running.into_tx().into_parts();
+    let (outcome, source, service, next_hop) = take_apart(rt, bank, parts);
+    Ended {
+        outcome,
+        source,
+        service,
+        next_hop,
+        lines,
     }
 }
 

@@ -1,0 +1,28 @@
+use Rattle.std.proofs.Common.{◌≡◌, ◌∙◌, ap, refl, Bool, true, false, []}
+use Rattle.trace_core.specs.declared.history.Cause.TheVariants.{Stopping}
+use Rattle.trace_core.specs.declared.history.Event.TheVariants as event
+use Rattle.adapt_hold.specs.Holding.{Holding, shows, moved}
+use Rattle.adapt_turn.specs.declared.turn.Outcome.{Outcome}
+use Rattle.adapt_turn.specs.declared.turn.Outcome.TheVariants.{Fail}
+use Rattle.shard_message.specs.Ended.{ended_as}
+use Rattle.shard_message.proofs.taken.parts_of.Goals as goal
+
+-- a transaction that is halted has the outcome that it had, or fails for the stop
+halted_as : (closed : Bool) (old new : Outcome) → (closed ≡ true → new ≡ old) → (closed ≡ false → new ≡ Fail Stopping)
+    → new ≡ ended_as closed old
+halted_as true old new same fails = same refl
+halted_as false old new same fails = fails refl
+
+-- and it keeps its plan
+keeps_plan : (closed : Bool) (old new : Holding) → (closed ≡ true → new ≡ old) → (closed ≡ false → new ≡ moved old (event.Fail Stopping) [])
+    → (shows new.history).plan ≡ old.history.plan
+keeps_plan true old new same fails = ap (λ (h : Holding). (shows h.history).plan) (same refl)
+keeps_plan false old new same fails = ap (λ (h : Holding). (shows h.history).plan) (fails refl)
+
+pub returns-clause-outcome : goal.returns-clause-outcome
+returns-clause-outcome g c = c.into_parts.ensures.outcome
+    ∙ halted_as _ c.args.tx.outcome c.halt.new.self.outcome (λ e. (c.halt.ensures.closed e).1) (λ e. (c.halt.ensures.halted e).1)
+
+pub returns-clause-plan : goal.returns-clause-plan
+returns-clause-plan g c = ap (λ s. s.plan) c.into_parts.ensures.seen
+    ∙ keeps_plan _ c.args.tx.hold c.halt.new.self.hold (λ e. (c.halt.ensures.closed e).0) (λ e. (c.halt.ensures.halted e).0)
