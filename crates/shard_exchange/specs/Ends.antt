@@ -101,15 +101,17 @@ Succeeds answered served old new end = (answered ≡ true → (begun_with answer
     → IsTold (served_with served (begun_with answered old)) new end
 
 -- A message is over, to whose user a byte of an answer went or not, with one of these ends, and what is held follows from it. A user that
--- got such a byte isn't refused; another one is, where the message failed, with the status of just that cause. A further request is read
--- only after an answer that keeps the connection, and a response is waited for only where its request was sent; and each of them is, where
--- the course may go there. The origin's connection lasts only where that end says so. A request goes back to its plan exactly where it was
--- withdrawn, and there was memory for it; without that it failed as its origin did.
+-- got such a byte isn't refused; another one is, where the message failed, with the status of just that cause. The service's connection is
+-- ready for others exactly where its exchange was whole. A further request is read only after an answer that keeps the connection, and a
+-- response is waited for only where its request was sent; and each of them is, where the course may go there. The origin's connection lasts
+-- only where that end says so. A request goes back to its plan exactly where it was withdrawn, and there was memory for it; without that it
+-- failed as its origin did.
 pub record IsEnded (may follows : End → Type 0) (answered reusable : Bool) (old new : CourseState) : Type 0 where
   pub end : End
   pub is_so : may end
   pub next : follows end
   pub over : moves new ≡ false
+  pub served : IsServedBy reusable old.connection new.connection
   pub alone : answered ≡ true → is_refusing new.phase ≡ false
   pub owed : (why : RefusalCause) → end ≡ ends.Failed why → answered ≡ false → IsOwed old new (status_of why)
   pub lost : end ≡ ends.Lost → is_gone new.phase ≡ true

@@ -11,6 +11,7 @@ ghost use Rattle.exchange_core.specs.declared.event.RefusalCause.TheVariants.{El
 ghost use Rattle.exchange_core.specs.May.{may_come, is_answer, is_gone, is_head, is_idle, is_refusing, is_withdrawing};
 ghost use Rattle.exchange_core.specs.Log.{Goes};
 ghost use Rattle.shard_exchange.specs.Ends.{moves, ends_message, keeps_origin, Stays, Leaves, IsOwed, Halts, IsToldServed, IsTold, Succeeds, begun_with, served_with};
+ghost use Rattle.shard_exchange.specs.Leaving.{stopped_of};
 ghost use Rattle.shard_exchange.specs.Outcomes.{begun_of};
 
 use crate::ends::{End, Report};
@@ -186,6 +187,7 @@ pub(crate) fn take_stop(course: &mut Course, is_in_head: bool)
     ensures goes { Goes course.old course.new }
     ensures leaves { Leaves course.old course.new }
     ensures stops { Halts course.old course.new is_in_head }
+    ensures led { course.new ≡ stopped_of is_in_head course.old }
 {
     if is_in_head && course.may(Event::Failed(RefusalCause::Stopping)) {
         course.take(Event::Failed(RefusalCause::Stopping));

@@ -1,31 +1,42 @@
-//! What a step does where something is due, and what one that waits rests on.
+//! What a step does where something is due, what one that waits rests on, and what comes of an end from outside.
 
+ghost use Rattle.exchange_core.specs.declared.state.CourseState.{CourseState as AnyState};
+ghost use Rattle.shard_exchange.specs.declared.ends.EndedBy.{EndedBy as AnyEnder};
 ghost use Rattle.shard_exchange.specs.Outcomes.{Deeds};
 ghost use Rattle.shard_exchange.specs.Resting.{Tried};
 
 use crate::effects::Effects;
 use crate::exchange::Exchange;
 
-/// What a step does, at a place, with the surroundings of an exchange.
+/// What a step does, at a place, with the surroundings of an exchange; and what comes of its end.
 pub trait Stepping<P, O> {
     // from an exchange and surroundings to those after the step: what comes of each thing where it is due
     ghost does: { Self → O → Self → O → P → Deeds };
 
     // and what was tried of each thing where it is due, and came to nothing now
     ghost tried: { Self → O → Self → O → P → Tried };
+
+    // the message of an exchange ended by this, in these surroundings: its course before that and after it
+    ghost ends_by: { AnyEnder → Self → O → AnyState → AnyState → Type 0 };
+
+    // all that was held went back: the course before that and after it
+    ghost gives_back: { P → AnyState → AnyState → Type 0 };
 }
 
 impl<P, H: Effects<P>> Stepping<P, H::Outside> for Exchange<H> {
-    ghost use Rattle.std.specs.Prelude.{if◌then◌else◌, Some, None, true};
+    ghost use Rattle.std.specs.Prelude.{◌≡◌, if◌then◌else◌, Some, None, true, false};
     ghost use Rattle.adapt_sides.specs.declared.saying.Said.TheVariants.{Nothing};
     ghost use Rattle.exchange_core.specs.Course.{after};
-    ghost use Rattle.exchange_core.specs.May.{may_come};
+    ghost use Rattle.exchange_core.specs.May.{may_come, is_gone};
     ghost use Rattle.exchange_core.specs.declared.event.Event.TheVariants.{Failed, Stuck, Withdrawn};
     ghost use Rattle.exchange_core.specs.declared.event.RefusalCause.TheVariants.{Deadline};
     ghost use Rattle.service_lines.specs.declared.connector.LendFault.TheVariants.{Busy};
     ghost use Rattle.shard_exchange.specs.declared.answers.HeadTurn.TheVariants as head_turns;
     ghost use Rattle.shard_exchange.specs.declared.answers.Round.TheVariants.{Waiting};
     ghost use Rattle.shard_exchange.specs.Outcomes.{Bears, Deeds, IsAsked, IsAwaited, IsClosed, IsDialed, IsGated, IsGivenBack, IsHeard, IsHungUp, IsLent, IsPlanned, IsRead, IsReleased, IsRequested, IsReserved, IsStarted, IsTurned, LeavesQueue, Refuses, SaysInterim, SaysLast};
+    ghost use Rattle.shard_exchange.specs.EndedBy.{MayEnd};
+    ghost use Rattle.shard_exchange.specs.Ends.{IsEnded};
+    ghost use Rattle.shard_exchange.specs.Leaving.{GivesBack};
     ghost use Rattle.shard_exchange.specs.Resting.{Tried};
     ghost use Rattle.shard_exchange.specs.Saying.{SaysOn, interim_text, refusal_by};
 
@@ -44,9 +55,11 @@ impl<P, H: Effects<P>> Stepping<P, H::Outside> for Exchange<H> {
               (λ it. H.renews it holds out later at × H.may_retry out at true) old.course new.course × Bears H.bears held holds;
           reserved = IsReserved (H.reserves holds out) old.course new.course × Bears H.bears held holds × H.keeps_line held holds;
           tried = SaysInterim (H.user_past held) (H.user_past holds) (H.hand held) (H.hand holds) (after old.course Stuck) old.course new.course
-              × Bears H.bears_message held holds;
+              × Bears H.bears_message held holds
+              × (is_gone new.course.phase ≡ false → H.keeps_line held holds × H.keeps_origin held holds);
           told = SaysInterim (H.user_past held) (H.user_past holds) (H.hand held) (H.hand holds)
-              (if H.is_late out at then after old.course (Failed Deadline) else old.course) old.course new.course × Bears H.bears_message held holds;
+              (if H.is_late out at then after old.course (Failed Deadline) else old.course) old.course new.course × Bears H.bears_message held holds
+              × (is_gone new.course.phase ≡ false → H.keeps_line held holds × H.keeps_origin held holds);
           dialed = IsDialed (H.dials held holds out later at) old.course new.course × Bears H.bears_but_origin held holds × H.keeps_line held holds;
           started = IsStarted (H.starts held holds out at old.course) (H.keeps_user held holds) (H.user_past held) old.course new.course;
           gated = IsGated (λ met passes. H.lets_pass out met at passes) (H.ends held (may_come old.course Withdrawn))
@@ -77,4 +90,13 @@ impl<P, H: Effects<P>> Stepping<P, H::Outside> for Exchange<H> {
           turns = (turned : H) × (met : H.Outside) × H.rounds held turned out met at Waiting × H.frees turned holds None;
           rest = H.sends_nothing held holds;
         } };
+
+    ghost ends_by = { λ by exchange out old new. (holds : H)
+        × IsEnded (MayEnd by (H.ends exchange.holdings (may_come exchange.course Withdrawn))) (λ end. H.follows exchange.holdings out end holds)
+        (H.answered exchange.holdings) (H.reusable exchange.holdings) old new };
+
+    ghost gives_back = { λ at. GivesBack
+        (λ old new. (held holds : H) × (out later : H.Outside)
+        × IsGivenBack (H.puts held out later at) (H.gives_up held out later at) (H.stays held holds) (H.has_line held) old new)
+        (λ old new. (held : H) × (out later : H.Outside) × IsHungUp (H.lays held out later at) (H.closes held out later at) old new) };
 }

@@ -89,9 +89,7 @@ pub trait Effects<P>: Holder {
     // read since
     ghost bears_but_origin: { (first : Self) → Self → Type 0 };
 
-    // the origin's connection stays as it is, with how much it had given when it was dialed; or the user's does
-    ghost keeps_origin: { Self → Self → Type 0 };
-
+    // the user's connection stays as it is
     ghost keeps_user: { Self → Self → Type 0 };
 
     // what is reserved is reserved by the limits of these surroundings
@@ -330,7 +328,7 @@ pub trait Effects<P>: Holder {
         requires { (Self.hand self.old).room ≡ true }
         ensures released { (Self.hand self.new).room ≡ false }
         ensures message { Self.keeps_message self.old self.new }
-        ensures origin { keeps_origin self.old self.new }
+        ensures origin { Self.keeps_origin self.old self.new }
         ensures kept { KeepsButRoom (Self.hand self.old) (Self.hand self.new) };
 
     /// Says the refusal of this status to the user, as far as it takes it, from where the last call ended. At this course it is due, so

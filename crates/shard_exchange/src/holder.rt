@@ -53,6 +53,9 @@ pub trait Holder: InHand {
     // the service's connection stays as it is, beside its lease
     ghost keeps_line: { Self → Self → Type 0 };
 
+    // the origin's connection stays as it is, with how much it had given when it was dialed
+    ghost keeps_origin: { Self → Self → Type 0 };
+
     // the message that is held stays as it is, and so does the user's connection
     ghost keeps_message: { Self → Self → Type 0 };
 
@@ -124,6 +127,8 @@ pub trait Holder: InHand {
         requires due { is_for_telling (due_of course.now) ≡ true }
         ensures says { SaysOn (user_past self.old) (user_past self.new) interim_text (Self.hand self.old).told (Self.hand self.new).told result }
         ensures bears { (first : Self) → bears_message first self.old → bears_message first self.new }
+        ensures line { keeps_line self.old self.new }
+        ensures origin { keeps_origin self.old self.new }
         ensures kept { KeepsButTold (Self.hand self.old) (Self.hand self.new) };
 
     /// Whether the user was told that nothing more comes.

@@ -1,9 +1,11 @@
 //! Exchanges that end from outside: the user is gone, or the loop.
 
 ghost use Rattle.std.specs.Prelude.{◌≡◌, true, false};
+ghost use Rattle.exchange_core.specs.declared.due.Due.TheVariants.{GiveBack, HangUp};
 ghost use Rattle.exchange_core.specs.declared.phase.Phase.TheVariants.{InQueue};
 ghost use Rattle.trace_core.specs.declared.history.Point.{Point as AnyPoint};
 
+use crate::deeds::Stepping;
 use crate::effects::Effects;
 use crate::ends::EndedBy;
 use crate::exchange::Exchange;
@@ -12,14 +14,16 @@ use exchange_core::{Due, Event};
 use std::sync::Wait;
 
 impl<H: Holder> Exchange<H> {
-    ghost use Rattle.exchange_core.specs.Course.{is_leased};
+    ghost use Rattle.std.specs.Prelude.{if◌then◌else◌};
+    ghost use Rattle.exchange_core.specs.Course.{after, is_leased};
     ghost use Rattle.exchange_core.specs.May.{is_free, is_gone, may_come};
-    ghost use Rattle.exchange_core.specs.declared.event.Event.TheVariants.{Withdrawn};
+    ghost use Rattle.exchange_core.specs.declared.event.Event.TheVariants.{Released, Withdrawn};
     ghost use Rattle.exchange_core.specs.Dues.{is_over};
     ghost use Rattle.exchange_core.specs.Log.{Goes};
     ghost use Rattle.shard_exchange.specs.EndedBy.{MayEnd};
     ghost use Rattle.shard_exchange.specs.Ends.{moves, Frees, IsEnded};
-    ghost use Rattle.shard_exchange.specs.Outcomes.{LeavesQueue};
+    ghost use Rattle.shard_exchange.specs.Leaving.{lost_of, IfDue, IsLost};
+    ghost use Rattle.shard_exchange.specs.Outcomes.{IsGivenBack, IsHungUp, LeavesQueue};
 
     /// Puts the service's connection back of a user's connection that is over.
     fn free_connection<P>(&mut self, at: &P, out: &mut H::Outside)
@@ -29,6 +33,8 @@ impl<H: Holder> Exchange<H> {
         ensures goes { Goes self.old.course self.new.course }
         ensures frees { Frees self.old.course self.new.course }
         ensures free { is_leased self.new.course.connection ≡ false }
+        ensures line { IfDue GiveBack (IsGivenBack (H.puts self.old.holdings out.old out.new at.now) (H.gives_up self.old.holdings out.old out.new at.now)
+            (H.stays self.old.holdings self.new.holdings) (H.has_line self.old.holdings)) self.old.course self.new.course }
     {
         if self.course.due() == Due::GiveBack {
             self.give_back(at, out);
@@ -44,6 +50,7 @@ impl<H: Holder> Exchange<H> {
         ensures goes { Goes self.old.course self.new.course }
         ensures frees { Frees self.old.course self.new.course }
         ensures free { is_free self.new.course ≡ true }
+        ensures room { self.new.course ≡ (if self.old.course.stake then after self.old.course Released else self.old.course) }
     {
         if self.course.state().stake {
             self.release(rt, at, out);
@@ -59,6 +66,8 @@ impl<H: Holder> Exchange<H> {
         ensures goes { Goes self.old.course self.new.course }
         ensures frees { Frees self.old.course self.new.course }
         ensures over { is_over self.new.course ≡ true }
+        ensures origin { IfDue HangUp (IsHungUp (H.lays self.old.holdings out.old out.new at.now) (H.closes self.old.holdings out.old out.new at.now))
+            self.old.course self.new.course }
     {
         if self.course.due() == Due::HangUp {
             self.hang_up(at, out);
@@ -73,6 +82,7 @@ impl<H: Holder> Exchange<H> {
         ensures goes { Goes self.old.course self.new.course }
         ensures frees { Frees self.old.course self.new.course }
         ensures over { is_over self.new.course ≡ true }
+        ensures back { ⟦<Self as Stepping<P, H::Outside>>⟧.gives_back at.now self.old.course self.new.course }
     {
         self.free_connection(at, out);
         self.free_room(rt, at, out);
@@ -89,6 +99,7 @@ impl<H: Holder> Exchange<H> {
         ensures ended { moves self.old.course ≡ true
             → IsEnded (MayEnd EndedBy.User (H.ends self.old.holdings (may_come self.old.course Withdrawn))) (λ end. H.follows self.old.holdings out.old end self.new.holdings)
             (H.answered self.old.holdings) (H.reusable self.old.holdings) self.old.course self.new.course }
+        ensures unmoved { moves self.old.course ≡ false → self.new.course ≡ lost_of self.old.course }
     {
         // For the proof alone: this course is one that can be reached.
         let _ = self.course.state();
@@ -112,6 +123,8 @@ impl<H: Holder> Exchange<H> {
         ensures gone { is_gone self.new.course.phase ≡ true }
         ensures left { LeavesQueue (λ later. H.leaves later at.now) self.old.course self.new.course }
         ensures over { is_over self.new.course ≡ true }
+        ensures lost { IsLost (⟦<Self as Stepping<P, H::Outside>>⟧.ends_by EndedBy.User self.old out.old) (⟦<Self as Stepping<P, H::Outside>>⟧.gives_back at.now)
+            self.old.course self.new.course }
     {
         self.lose_message(rt, at, out);
         self.holdings.lose_user(&self.course);

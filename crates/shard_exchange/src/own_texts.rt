@@ -193,6 +193,7 @@ impl<H: Holder> Exchange<H> {
         ensures says { SaysInterim (H.user_past self.old.holdings) (H.user_past self.new.holdings) (H.hand self.old.holdings) (H.hand self.new.holdings)
             (after self.old.course Stuck) self.old.course self.new.course }
         ensures bears { Bears H.bears_message self.old.holdings self.new.holdings }
+        ensures keeps { is_gone self.new.course.phase ≡ false → H.keeps_line self.old.holdings self.new.holdings × H.keeps_origin self.old.holdings self.new.holdings }
         ensures goes { Goes self.old.course self.new.course }
     {
         match self.holdings.tell(&self.course) {
@@ -211,6 +212,7 @@ impl<H: Holder> Exchange<H> {
         ensures says { SaysInterim (H.user_past self.old.holdings) (H.user_past self.new.holdings) (H.hand self.old.holdings) (H.hand self.new.holdings)
             (if H.is_late out.old at.now then after self.old.course (Failed causes.Deadline) else self.old.course) self.old.course self.new.course }
         ensures bears { Bears H.bears_message self.old.holdings self.new.holdings }
+        ensures keeps { is_gone self.new.course.phase ≡ false → H.keeps_line self.old.holdings self.new.holdings × H.keeps_origin self.old.holdings self.new.holdings }
         ensures goes { Goes self.old.course self.new.course }
         ensures heeds { Heeds (H.is_late out.new at.now) self.new.course result }
         ensures rests { result ≡ Step.Waits → SaysOn (H.user_past self.old.holdings) (H.user_past self.new.holdings) interim_text

@@ -3,10 +3,12 @@
 ghost use Rattle.std.specs.Prelude.{◌≡◌, ◌↔◌, ◌⊎◌, ℕ, true, false};
 ghost use Rattle.shard_exchange.specs.Resting.{RestsOn};
 ghost use Rattle.exchange_core.specs.declared.due.Due.TheVariants as dues;
-ghost use Rattle.shard_exchange.specs.Ends.{is_closing, is_stopped, moves, Halts};
+ghost use Rattle.shard_exchange.specs.Ends.{is_closing, is_stopped, moves};
+ghost use Rattle.shard_exchange.specs.Leaving.{IsHalted, IsLeaving, IsLost};
 
 use crate::deeds::Stepping;
 use crate::effects::Effects;
+use crate::ends::EndedBy;
 use crate::exchange::Exchange;
 use crate::holder::Holder;
 use crate::tasks::{Step, Task};
@@ -17,7 +19,6 @@ use std::sync::Wait;
 impl<H: Holder> Exchange<H> {
     ghost use Rattle.exchange_core.specs.Dues.{due_of, is_over, is_wait};
     ghost use Rattle.exchange_core.specs.Log.{Goes};
-    ghost use Rattle.exchange_core.specs.May.{is_refusing};
     ghost use Rattle.shard_exchange.specs.Outcomes.{Does, LeavesQueue, MovesOn, SaysLast};
     ghost use Rattle.shard_exchange.specs.Steps.{Heeds, IsDone, GoesOn, is_end, is_step};
 
@@ -35,16 +36,19 @@ impl<H: Holder> Exchange<H> {
         // Each task takes the course along events that may come.
         ensures goes { Goes self.old.course self.new.course }
         ensures done { is_step task self.old.course ≡ true → IsDone self.old.course self.new.course }
-        ensures late { is_step task self.old.course ≡ true → result ≡ Step.Waits → H.is_late out.new at.now ≡ false }
-        ensures waits { is_step task self.old.course ≡ true → result ≡ Step.Waits → is_wait (due_of self.new.course) ≡ true }
+        ensures waits { is_step task self.old.course ≡ true → result ≡ Step.Waits → (H.is_late out.new at.now ≡ false) × (is_wait (due_of self.new.course) ≡ true) }
         // Who waits has tried what is due, and that came to nothing now; at its leave, to read what its user still sends.
         ensures rests { result ≡ Step.Waits → RestsOn (⟦<Self as Stepping<P, H::Outside>>⟧.tried self.old out.old self.new out.new at.now) (due_of self.old.course)
             ⊎ ((task ≡ Task.TakeLeave) × (held : H) × H.sends_nothing held self.new.holdings) }
         ensures over { (result ≡ Step.Over → is_over self.new.course ≡ true) × (task ≡ Task.Lose → is_over self.new.course ≡ true) }
         ensures left { is_end task ≡ true → LeavesQueue (λ later. H.leaves later at.now) self.old.course self.new.course }
         ensures does { is_step task self.old.course ≡ true → Does (⟦<Self as Stepping<P, H::Outside>>⟧.does self.old out.old self.new out.new at.now) (due_of self.old.course) }
-        ensures stops { task ≡ Task.Halt → is_closing self.old.course.phase ≡ false → Halts self.old.course self.new.course (H.has_begun self.old.holdings) }
-        ensures alone { task ≡ Task.Halt → moves self.old.course ≡ true → H.answered self.old.holdings ≡ true → is_refusing self.new.course.phase ≡ false }
+        ensures lost { task ≡ Task.Lose → IsLost (⟦<Self as Stepping<P, H::Outside>>⟧.ends_by EndedBy.User self.old out.old) (⟦<Self as Stepping<P, H::Outside>>⟧.gives_back at.now)
+            self.old.course self.new.course }
+        ensures halts { task ≡ Task.Halt → is_closing self.old.course.phase ≡ false
+            → IsHalted (⟦<Self as Stepping<P, H::Outside>>⟧.ends_by EndedBy.Stop self.old out.old) (⟦<Self as Stepping<P, H::Outside>>⟧.gives_back at.now)
+            (H.answered self.old.holdings) (H.has_begun self.old.holdings) self.old.course self.new.course }
+        ensures leaves { task ≡ Task.TakeLeave → is_stopped self.old.course ≡ true → IsLeaving (⟦<Self as Stepping<P, H::Outside>>⟧.gives_back at.now) self.old.course self.new.course }
         // Who takes its leave gets what is left of the refusal that it is owed.
         ensures last { task ≡ Task.TakeLeave → is_stopped self.old.course ≡ true → (status : ℕ) → due_of self.old.course ≡ dues.TryRefusal status
             → SaysLast H.user_past H.hand (H.has_page out.old at.now status) self.old.holdings self.new.holdings status self.old.course self.new.course }

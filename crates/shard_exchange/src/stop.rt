@@ -2,20 +2,22 @@
 
 ghost use Rattle.std.specs.Prelude.{◌≡◌, ◌⊎◌, ◌&&◌, ◌||◌, ℕ, Some, None, true, false};
 ghost use Rattle.exchange_core.specs.declared.state.CourseState.{CourseState};
-ghost use Rattle.exchange_core.specs.declared.event.Event.TheVariants.{Stop, Withdrawn};
+ghost use Rattle.exchange_core.specs.declared.event.Event.TheVariants.{Stop, Tried};
 ghost use Rattle.exchange_core.specs.declared.due.Due.TheVariants as dues;
-ghost use Rattle.exchange_core.specs.May.{may_come, is_gone, is_head, is_idle, is_in_queue, is_refusing};
+ghost use Rattle.exchange_core.specs.Course.{after};
+ghost use Rattle.exchange_core.specs.May.{may_come, is_gone, is_in_queue, is_refusing};
 ghost use Rattle.exchange_core.specs.declared.phase.Phase.TheVariants.{InQueue};
 ghost use Rattle.trace_core.specs.declared.history.Point.{Point as AnyPoint};
 ghost use Rattle.exchange_core.specs.Dues.{due_of, is_over};
 ghost use Rattle.exchange_core.specs.Log.{Goes};
-ghost use Rattle.shard_exchange.specs.EndedBy.{MayEnd};
-ghost use Rattle.shard_exchange.specs.Ends.{moves, Frees, Halts, IsEnded, is_stopped};
+ghost use Rattle.shard_exchange.specs.Ends.{moves, Frees, Halts, is_stopped};
+ghost use Rattle.shard_exchange.specs.Leaving.{is_in_head, left_of, lost_of, stopped_of, IsHalted, IsLeaving, IsStopped, LastWord};
 ghost use Rattle.shard_exchange.specs.Outcomes.{LeavesQueue, SaysLast};
 ghost use Rattle.shard_exchange.specs.Saying.{SaysOn, refusal_by};
 
 use crate::answers::Lingered;
 use crate::course::take_stop;
+use crate::deeds::Stepping;
 use crate::effects::Effects;
 use crate::ends::EndedBy;
 use crate::exchange::Exchange;
@@ -41,6 +43,7 @@ impl<H: Holder> Exchange<H> {
         ensures goes { Goes self.old.course self.new.course }
         ensures frees { Frees self.old.course self.new.course }
         ensures line { self.new.course.connection ≡ self.old.course.connection }
+        ensures left { self.new.course ≡ left_of self.old.course }
     {
         if self.course.may(Event::HungUp { kept: false }) {
             self.holdings.hang_up();
@@ -57,9 +60,8 @@ impl<H: Holder> Exchange<H> {
         ensures goes { Goes self.old.course self.new.course }
         ensures still { moves self.new.course ≡ false }
         ensures stops { Halts self.old.course self.new.course false }
-        ensures ended { (mid : CourseState) × (held : H) × (self.new.course.phase ≡ mid.phase) × (self.new.course.connection ≡ mid.connection)
-            × IsEnded (MayEnd EndedBy.Stop (H.ends self.old.holdings (may_come self.old.course Withdrawn))) (λ end. H.follows self.old.holdings out.old end held)
-            (H.answered self.old.holdings) (H.reusable self.old.holdings) self.old.course mid }
+        ensures ended { (mid : CourseState) × ⟦<Self as Stepping<P, H::Outside>>⟧.ends_by EndedBy.Stop self.old out.old self.old.course mid
+            × (self.new.course ≡ left_of mid) }
         ensures alone { H.answered self.old.holdings ≡ true → is_refusing self.new.course.phase ≡ false }
     {
         self.settle(rt, at, out, EndedBy::Stop);
@@ -69,7 +71,7 @@ impl<H: Holder> Exchange<H> {
 
     /// Whether a part of a request's head came, and not all of it.
     fn is_in_head(&self) -> bool
-        ensures { result ≡ ((is_idle self.now.course.phase || is_head self.now.course.phase) && H.has_begun self.now.holdings) }
+        ensures { result ≡ is_in_head self.now.course.phase (H.has_begun self.now.holdings) }
     {
         matches!(self.course.state().phase, Phase::Idle | Phase::Head) && self.holdings.has_begun()
     }
@@ -95,6 +97,7 @@ impl<H: Holder> Exchange<H> {
         ensures still { moves self.new.course ≡ false }
         ensures stops { Halts self.old.course self.new.course (H.has_begun self.old.holdings) }
         ensures left { (point : AnyPoint) → self.old.course.phase ≡ InQueue point → is_in_queue self.new.course.phase ≡ false → (later : H.Outside) × H.leaves later at.now point }
+        ensures led { self.new.course ≡ left_of (stopped_of (is_in_head self.old.course.phase (H.has_begun self.old.holdings)) self.old.course) }
     {
         let is_in_head = self.is_in_head();
         self.note_refusal(at, out, is_in_head);
@@ -113,6 +116,7 @@ impl<H: Holder> Exchange<H> {
         ensures stops { Halts self.old.course self.new.course (H.has_begun self.old.holdings) }
         ensures left { (point : AnyPoint) → self.old.course.phase ≡ InQueue point → is_in_queue self.new.course.phase ≡ false → (later : H.Outside) × H.leaves later at.now point }
         ensures alone { moves self.old.course ≡ true → H.answered self.old.holdings ≡ true → is_refusing self.new.course.phase ≡ false }
+        ensures stopped { IsStopped (⟦<Self as Stepping<P, H::Outside>>⟧.ends_by EndedBy.Stop self.old out.old) (H.has_begun self.old.holdings) self.old.course self.new.course }
     {
         // For the proof alone: this course is one that can be reached.
         let _ = self.course.state();
@@ -133,6 +137,8 @@ impl<H: Holder> Exchange<H> {
         ensures goes { Goes self.old.course self.new.course }
         ensures frees { Frees self.old.course self.new.course }
         ensures over { is_gone self.new.course.phase ≡ true → is_over self.new.course ≡ true }
+        ensures back { is_gone self.old.course.phase ≡ true → ⟦<Self as Stepping<P, H::Outside>>⟧.gives_back at.now self.old.course self.new.course }
+        ensures kept { is_gone self.old.course.phase ≡ false → self.new.course ≡ self.old.course }
     {
         if self.course.state().phase == Phase::Gone {
             self.free(rt, at, out);
@@ -145,9 +151,9 @@ impl<H: Holder> Exchange<H> {
         H: Effects<P>,
         ensures goes { Goes self.old.course self.new.course }
         ensures still { moves self.new.course ≡ false }
-        ensures stops { Halts self.old.course self.new.course (H.has_begun self.old.holdings) }
+        ensures halts { IsHalted (⟦<Self as Stepping<P, H::Outside>>⟧.ends_by EndedBy.Stop self.old out.old) (⟦<Self as Stepping<P, H::Outside>>⟧.gives_back at.now)
+            (H.answered self.old.holdings) (H.has_begun self.old.holdings) self.old.course self.new.course }
         ensures left { LeavesQueue (λ later. H.leaves later at.now) self.old.course self.new.course }
-        ensures alone { moves self.old.course ≡ true → H.answered self.old.holdings ≡ true → is_refusing self.new.course.phase ≡ false }
         ensures gone { is_gone self.new.course.phase ≡ true → is_over self.new.course ≡ true }
         ensures over { result ≡ Step.Over → is_over self.new.course ≡ true }
         ensures no_wait { result ≡ Step.Waits → ⊥ }
@@ -159,6 +165,20 @@ impl<H: Holder> Exchange<H> {
         } else {
             Step::On
         }
+    }
+
+    /// The last refusal was tried: its user is told that nothing more comes, and all that is held goes back.
+    fn end_refusal<P, R: Wait>(&mut self, rt: &R, at: &P, out: &mut H::Outside)
+    where
+        H: Effects<P>,
+        requires { (status : ℕ) × (due_of self.old.course ≡ dues.TryRefusal status) }
+        ensures goes { Goes self.old.course self.new.course }
+        ensures over { is_over self.new.course ≡ true }
+        ensures back { ⟦<Self as Stepping<P, H::Outside>>⟧.gives_back at.now (after self.old.course Tried) self.new.course }
+    {
+        self.course.done(Event::Tried);
+        self.holdings.close(at, &self.course);
+        self.free(rt, at, out);
     }
 
     /// Has the user of a stopped exchange take what is left of its refusal. Once there is no more to say, all that is held goes back.
@@ -173,18 +193,15 @@ impl<H: Holder> Exchange<H> {
         H: Effects<P>,
         requires { due_of self.old.course ≡ dues.TryRefusal status }
         ensures goes { Goes self.old.course self.new.course }
-        ensures leads { (self.new.course ≡ self.old.course) ⊎ (is_over self.new.course ≡ true) }
+        ensures leads { LastWord (⟦<Self as Stepping<P, H::Outside>>⟧.gives_back at.now) result self.old.course self.new.course }
         ensures last { SaysLast H.user_past H.hand (H.has_page out.old at.now status) self.old.holdings self.new.holdings status self.old.course self.new.course }
-        ensures over { result ≡ Said.Whole → is_over self.new.course ≡ true }
-        ensures broken { result ≡ Said.Broken → is_over self.new.course ≡ true }
         ensures nothing { result ≡ Said.Nothing → SaysOn (H.user_past self.old.holdings) (H.user_past self.new.holdings)
             (refusal_by status (H.hand self.new.holdings).refused.page) (H.hand self.old.holdings).refused.out (H.hand self.new.holdings).refused.out Said.Nothing }
     {
         let said = self.holdings.refuse(at, out, &self.course, status);
-        if matches!(said, Said::Whole | Said::Broken) {
-            self.course.done(Event::Tried);
-            self.holdings.close(at, &self.course);
-            self.free(rt, at, out);
+        match said {
+            Said::Whole | Said::Broken => self.end_refusal(rt, at, out),
+            Said::Part(_) | Said::Nothing => {}
         }
         said
     }
@@ -197,6 +214,7 @@ impl<H: Holder> Exchange<H> {
         ensures goes { Goes self.old.course self.new.course }
         ensures still { moves self.new.course ≡ false }
         ensures on { result ≡ Some Step.Over → ⊥ }
+        ensures back { (self.new.course ≡ self.old.course) ⊎ (⟦<Self as Stepping<P, H::Outside>>⟧.gives_back at.now (after self.old.course Tried) self.new.course) }
         ensures gone { result ≡ None → is_gone self.new.course.phase ≡ true }
         ensures last { (status : ℕ) → due_of self.old.course ≡ dues.TryRefusal status
             → SaysLast H.user_past H.hand (H.has_page out.old at.now status) self.old.holdings self.new.holdings status self.old.course self.new.course }
@@ -216,6 +234,18 @@ impl<H: Holder> Exchange<H> {
         }
     }
 
+    /// Tells a user that nothing more comes, unless it was told.
+    fn finish_once<P>(&mut self, at: &P)
+    where
+        H: Effects<P>,
+        requires { is_gone self.old.course.phase ≡ true }
+        ensures { self.new.course ≡ self.old.course }
+    {
+        if !self.holdings.is_finished() {
+            self.holdings.close(at, &self.course);
+        }
+    }
+
     /// Drops what the user of a stopped exchange still sends. Once it sends no more all that is held goes back.
     fn linger_on<P, R: Wait>(&mut self, rt: &R, at: &P, out: &mut H::Outside) -> Step
     where
@@ -224,12 +254,11 @@ impl<H: Holder> Exchange<H> {
         ensures goes { Goes self.old.course self.new.course }
         ensures gone { is_gone self.new.course.phase ≡ true }
         ensures over { result ≡ Step.Over → is_over self.new.course ≡ true }
+        ensures back { (self.new.course ≡ self.old.course) ⊎ (⟦<Self as Stepping<P, H::Outside>>⟧.gives_back at.now (lost_of self.old.course) self.new.course) }
         ensures ended { result ≡ Step.Over → (held : H) × (dropped : H) × H.lingers held dropped Lingered.Over }
         ensures rests { result ≡ Step.Waits → (held : H) × H.sends_nothing held self.new.holdings }
     {
-        if !self.holdings.is_finished() {
-            self.holdings.close(at, &self.course);
-        }
+        self.finish_once(at);
         match self.holdings.linger(at, out, &self.course) {
             Lingered::Waiting => Step::Waits,
             Lingered::CutShort => Step::On,
@@ -247,6 +276,7 @@ impl<H: Holder> Exchange<H> {
         requires stopped { is_stopped self.old.course ≡ true }
         ensures goes { Goes self.old.course self.new.course }
         ensures still { moves self.new.course ≡ false }
+        ensures leaves { IsLeaving (⟦<Self as Stepping<P, H::Outside>>⟧.gives_back at.now) self.old.course self.new.course }
         ensures last { (status : ℕ) → due_of self.old.course ≡ dues.TryRefusal status
             → SaysLast H.user_past H.hand (H.has_page out.old at.now status) self.old.holdings self.new.holdings status self.old.course self.new.course }
         ensures over { result ≡ Step.Over → is_over self.new.course ≡ true }

@@ -89,8 +89,6 @@ impl<P, O: Outside<P>> Effects<P> for Holdings<O> {
     ghost bears_but_origin = { λ first held. (held.user ≡ first.user) × (held.message ≡ first.message)
         × (plan_of (λ room. room.planned) held.planned held.room ≡ plan_of (λ room. room.planned) first.planned first.room) };
 
-    ghost keeps_origin = { λ old new. (new.origin ≡ old.origin) × (new.before ≡ old.before) };
-
     ghost keeps_user = { λ old new. new.user ≡ old.user };
 
     ghost reserves = { λ held out. IfSome held.room (λ room. O.limits_are out room.limits) };

@@ -69,6 +69,8 @@ impl<O: Kinds> Holder for Holdings<O> {
 
     ghost keeps_line = { λ old new. new.connection ≡ old.connection };
 
+    ghost keeps_origin = { λ old new. (new.origin ≡ old.origin) × (new.before ≡ old.before) };
+
     ghost keeps_message = { λ old new. (new.message ≡ old.message) × (new.user ≡ old.user) };
 
     ghost frees = { λ held later usable. (later.before ≡ held.before) × IsSomeAnd held.tx (λ tx. IsFreed (⟦<Moving<O> as OnItsWay>⟧.heard tx) (⟦<Moving<O> as Accounted<O>>⟧.service tx) (λ leased. leased.wire) later.connection usable

@@ -6,3 +6,12 @@ returns-clause-goes g c = goes_on _ _ _ c.lose_message.ensures.goes c.free.ensur
 
 pub returns-clause-left : goal.returns-clause-left
 returns-clause-left g c = λ point queued out none. c.lose_message.ensures.left point queued
+
+-- the message ended before what is held went back
+pub returns-clause-lost : goal.returns-clause-lost
+returns-clause-lost g c = record {
+  mid = c.lose_message.new.self.course;
+  moved = λ moving. (c.lose_message.new.self.holdings, c.lose_message.ensures.ended moving);
+  unmoved = c.lose_message.ensures.unmoved;
+  back = c.free.ensures.back;
+}

@@ -38,6 +38,7 @@ served_where : (told usable : Bool) (old new : Connection) → IsToldServed (if 
 served_where true usable old new h = h
 served_where false usable old new h = untold usable old new h
 
+-- the service's connection is ready for others exactly where its exchange was whole
 pub returns-clause-served : goal.returns-clause-served
 returns-clause-served g c =
     let report = c.settle-report in
@@ -72,6 +73,7 @@ returns-clause-ended g c =
       is_so = report.ensures.told;
       next = report.ensures.followed;
       over = tells.leaves.1;
+      served = returns-clause-served g c;
       alone = λ some. tells.alone (report.ensures.answered ∙ some);
       owed = λ why e none. let unanswered = report.ensures.answered ∙ none in tells.owed why e unanswered (report.ensures.cuts unanswered);
       lost = tells.lost;

@@ -7,8 +7,6 @@ returns-clause-goes g c = goes_on _ _ _ c.settle.ensures.goes c.leave_origin.ens
 pub returns-clause-ended : goal.returns-clause-ended
 returns-clause-ended g c = (
   c.settle.new.self.course,
-  c.settle.new.self.holdings,
-  c.leave_origin.ensures.frees.0,
-  c.leave_origin.ensures.line,
-  c.settle.ensures.ended,
+  (c.settle.new.self.holdings, c.settle.ensures.ended),
+  c.leave_origin.ensures.left,
 )
