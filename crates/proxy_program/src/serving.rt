@@ -98,11 +98,11 @@ fn log_fault(alloc: Global) -> ServeError {
 
 /// Says what was still out. `Err` where the proxy wasn't stopped, but failed.
 fn say_end<O: Write>(alloc: Global, output: &mut O, stopped: Stopped) -> Result<(), ServeError> {
-    let Ok(line) = audit_line(alloc, stopped.audit) else {
+    let Ok(line) = audit_line(alloc, stopped.audit()) else {
         return Err(ServeError::Ended(Error::NoMemory));
     };
     say(output, line.as_slice())?;
-    match stopped.fault {
+    match stopped.fault() {
         Some(fault) => Err(error_of(fault)),
         None => Ok(()),
     }

@@ -1,18 +1,21 @@
 //! The exchanges of a thread, at its desk: what becomes of each is done with the desk as its surroundings.
 
-ghost use Rattle.std.specs.Prelude.{◌≡◌, is_some, None, Some, true};
+ghost use Rattle.std.specs.Prelude.{◌≡◌, ◌⊎◌, is_some, None, Some, true};
 ghost use Rattle.exchange_core.specs.Course.{start, after};
 ghost use Rattle.exchange_core.specs.declared.event.Event.TheVariants.{Failed};
 ghost use Rattle.exchange_core.specs.declared.event.RefusalCause.TheVariants.{Scarce};
-ghost use Rattle.exchange_core.specs.Dues.{is_over};
+ghost use Rattle.exchange_core.specs.Dues.{due_of, is_over};
 ghost use Rattle.shard_exchange.specs.Hand.{IsEmpty};
+ghost use Rattle.shard_exchange.specs.Outcomes.{Does};
+ghost use Rattle.shard_exchange.specs.Resting.{RestsOn};
+ghost use Rattle.shard_exchange.specs.Steps.{is_step};
 
 use crate::showing::show;
 use adapt_sides::Scratch;
 use event_loop::{Question, Sheet};
 use proxy_rules::Incoming;
 use shard_desk::{Desk, Exchanges, Purpose, Shares, Spot, turn_away};
-use shard_exchange::{Exchange, Holder, InHand, Step, Task};
+use shard_exchange::{Exchange, Holder, InHand, Step, Stepping, Task};
 use shard_holdings::Holdings;
 use shard_message::{Kinds, Outside};
 use socket_wire::{Dial, Unread, UserWire};
@@ -71,6 +74,11 @@ fn act_on<P, O: Outside<P>, R: Wait>(
 ) -> Step
     ensures over { result ≡ Step.Over → is_over exchange.new.course ≡ true }
     ensures lost { task ≡ Task.Lose → is_over exchange.new.course ≡ true }
+    ensures does { is_step task exchange.old.course ≡ true
+        → Does (⟦<Exchange<Holdings<O>> as Stepping<P, O>>⟧.does exchange.old outside.old exchange.new outside.new at.now) (due_of exchange.old.course) }
+    ensures rests { is_step task exchange.old.course ≡ true → result ≡ Step.Waits
+        → RestsOn (⟦<Exchange<Holdings<O>> as Stepping<P, O>>⟧.tried exchange.old outside.old exchange.new outside.new at.now) (due_of exchange.old.course)
+        ⊎ (task ≡ Task.TakeLeave) }
 {
     exchange.act(rt, at, outside, scratch, task)
 }

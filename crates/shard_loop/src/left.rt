@@ -13,7 +13,7 @@ use shard_desk::{SharedPools, Spare};
 use shard_exchange::Exchange;
 use shard_holdings::{Held, Holdings};
 use shard_message::Kinds;
-use shard_report::{ProxyFault, StopAudit, Stopped};
+use shard_report::{ProxyFault, StopAudit};
 use span_bank::{Audit, Bank, Ledgers, Pages, Stake};
 use std::alloc::Global;
 use std::boxed::Box;
@@ -42,6 +42,29 @@ impl<B: Ledgers, Q: Ledger, A: Ledger> Unaudited for Left<B, Q, A> {
     ghost kept = { λ left. counts (vec_len left.stakes) (vec_len left.requests) (vec_len left.responses) };
 
     ghost room = { λ left. counts (vec_capacity left.stakes) (vec_capacity left.requests) (vec_capacity left.responses) };
+}
+
+/// How the proxy stopped. Only an audit makes one.
+#[derive(Clone, Copy, PartialEq, Eq)]
+pub struct Stopped {
+    audit: StopAudit,
+    fault: Option<ProxyFault>,
+}
+
+impl Stopped {
+    /// What was still out.
+    pub fn audit(&self) -> StopAudit
+        ensures { result ≡ self.now.audit }
+    {
+        self.audit
+    }
+
+    /// What stopped it, if that wasn't the administrator: a loop failed, and all others had to stop.
+    pub fn fault(&self) -> Option<ProxyFault>
+        ensures { result ≡ self.now.fault }
+    {
+        self.fault
+    }
 }
 
 /// What is still out of an exchange that has ended.

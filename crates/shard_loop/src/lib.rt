@@ -21,6 +21,7 @@ mod showing;
 
 pub use board::Rules;
 pub use event_loop::{AdminPorts, listen_beside};
+pub use left::Stopped;
 pub use reloading::Reloads;
 pub use running::serve;
-pub use shard_report::{Append, ProxyFault, StopAudit, Stopped};
+pub use shard_report::{Append, ProxyFault, StopAudit};

@@ -7,14 +7,14 @@ ghost use Rattle.service_pool.specs.declared.step.TheConstants.{LEDGER_PARTS};
 use crate::bases::Ports;
 use crate::board::Rules;
 use crate::crew::run_crew;
-use crate::left::Left;
+use crate::left::{Left, Stopped};
 use crate::reloading::Reloads;
 use event_loop::AdminPorts;
 use mio::net::TcpListener;
 use proxy_config::{Config, ServicePoint};
 use service_pool::{LEDGER_PARTS, Pool};
 use shard_desk::Spare;
-use shard_report::{Append, ProxyFault, Stopped};
+use shard_report::{Append, ProxyFault};
 use socket_wire::Dial;
 use span_bank::{Bank, Blanks, Ledgers};
 use std::alloc::Global;
@@ -74,7 +74,7 @@ fn say_listening<O: Write>(output: &mut O) -> Result<(), ProxyFault> {
 /// // No log is kept. It returns once the administrator has said `stop`.
 /// let rules = Rules { config: Arc::new(alloc, config)?, source: Source::Path(path) };
 /// let stopped = serve(rt, alloc, rules, users, admin, None, &OpenGate, &mut output)?;
-/// assert_eq!(rt; stopped.fault, None);
+/// assert_eq!(rt; stopped.fault(), None);
 /// ```
 pub fn serve<
     G: Gate + Sync,

@@ -14,15 +14,6 @@ pub struct StopAudit {
     pub leased: u64,
 }
 
-/// How the proxy stopped.
-#[derive(Clone, Copy, PartialEq, Eq)]
-pub struct Stopped {
-    /// What was still out.
-    pub audit: StopAudit,
-    /// What stopped it, if that wasn't the administrator: a loop failed, and all others had to stop.
-    pub fault: Option<ProxyFault>,
-}
-
 /// Why the proxy can't serve, or not go on.
 #[derive(Clone, Copy, Debug, PartialEq, Eq)]
 pub enum ProxyFault {

@@ -22,7 +22,7 @@ mod tally;
 
 pub use address::address_of;
 pub use append::Append;
-pub use audit::{ProxyFault, StopAudit, Stopped};
+pub use audit::{ProxyFault, StopAudit};
 pub use capacity::change_capacity;
 pub use clock::moment;
 pub use heads::{kind_in, kind_of, request_line, status_in, what_was_found, without_query};
