@@ -4,7 +4,7 @@ ghost use Rattle.std.specs.Prelude.{◌≡◌};
 
 use proxy_commands::{Error, ServeError, read_configuration};
 use proxy_config::Config;
-use service_probe::{Bench, Choice, probe, read_choice};
+use service_probe::{Bench, SampleChoice, probe, read_choice};
 use socket_wire::Dial;
 use span_bank::{Bank, Blanks};
 use std::alloc::Global;
@@ -19,7 +19,7 @@ use std::time::Clock;
 const CAPACITY: u64 = 2 * 1024 * 1024;
 
 /// The choice that the arguments say, of which the first is `probe`.
-fn choice_of(args: &[String]) -> Result<Choice, ServeError> {
+fn choice_of(args: &[String]) -> Result<SampleChoice, ServeError> {
     match args {
         [_probe, words @ ..] => match read_choice(words) {
             Some(choice) => Ok(choice),
@@ -35,7 +35,7 @@ fn probe_on<H: Ledger, F: Ledger, S: Ledger, P: Ledger, O: Write, R: Wait + Net 
     alloc: Global,
     blanks: Blanks,
     config: &Config,
-    choice: Choice,
+    choice: SampleChoice,
     output: &mut O,
 ) -> io::Result<bool>
     requires held { (blanks.held.name ≡ H.name) × (blanks.held.parts ≡ H.parts) × (blanks.held.parts ≡ 2) }

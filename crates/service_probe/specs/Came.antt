@@ -5,9 +5,9 @@ use Rattle.service_probe.specs.Text.{escaped_text}
 use Rattle.service_probe.specs.declared.finding.Came.{Came}
 use Rattle.service_probe.specs.declared.finding.Came.TheVariants as came
 use Rattle.service_probe.specs.declared.finding.Finding.{Finding}
-use Rattle.service_probe.specs.declared.attempt.Attempt.{Attempt}
-use Rattle.service_probe.specs.declared.report.Way.{Way}
-use Rattle.service_probe.specs.declared.report.Way.TheVariants as ways
+use Rattle.service_probe.specs.declared.attempt.ProbeAttempt.{ProbeAttempt}
+use Rattle.service_probe.specs.declared.report.ConnectionUse.{ConnectionUse}
+use Rattle.service_probe.specs.declared.report.ConnectionUse.TheVariants as ways
 use Rattle.adapt_sides.specs.declared.fault.ClientFault.{ClientFault}
 use Rattle.adapt_sides.specs.declared.fault.ClientFault.TheVariants as sides
 use Rattle.service_probe.specs.declared.finding.Fault.{Fault}
@@ -78,7 +78,7 @@ came_text (came.Broken finding) = finding_text finding
 abbrev pub time_text : ℕ → List ℕ
 time_text micros = ((numeral 10 (micros / 1000) ++ codes ".") ++ three_digits (micros % 1000)) ++ codes " ms"
 
-abbrev pub way_text : Way → List ℕ
+abbrev pub way_text : ConnectionUse → List ℕ
 way_text ways.Kept = codes "kept"
 way_text ways.Fresh = codes "fresh"
 
@@ -91,15 +91,15 @@ serves_text true = codes "; serves again\n"
 serves_text false = codes "; doesn't serve again\n"
 
 -- over which connection a message went, the case's name, and the size of its body
-unfoldable pub trial_text : Way → List ℕ → Option ℕ → List ℕ
+unfoldable pub trial_text : ConnectionUse → List ℕ → Option ℕ → List ℕ
 trial_text way name size = (((codes "  " ++ way_text way) ++ codes " ") ++ name) ++ body_text size
 
 -- what came of it, how long that took, and whether the connection serves again
-unfoldable pub answer_text : Attempt → List ℕ
+unfoldable pub answer_text : ProbeAttempt → List ℕ
 answer_text a = (((codes ": " ++ came_text a.came) ++ codes "; ") ++ time_text a.micros) ++ serves_text a.serves
 
 -- the line of an attempt
-abbrev pub attempt_text : Way → List ℕ → Option ℕ → Attempt → List ℕ
+abbrev pub attempt_text : ConnectionUse → List ℕ → Option ℕ → ProbeAttempt → List ℕ
 attempt_text way name size a = trial_text way name size ++ answer_text a
 
 -- a number, and words

@@ -3,10 +3,10 @@
 use crate::bench::Bench;
 use crate::finding::{Came, Fault, Finding};
 use crate::lane::{Lane, connection_of};
-use crate::line::{Connection, Line};
+use crate::line::{ProbeLine, ProbedConnection};
 use crate::prepared::{Prepared, prepare};
 use crate::samples::Trial;
-use crate::stage::{Left, end, judged, move_on, set_out};
+use crate::stage::{TransactionRemains, end, judged, move_on, set_out};
 use crate::tap::Tap;
 use crate::text_stream::{TextWire, wire_of};
 use crate::verdict::left_over;
@@ -28,7 +28,7 @@ type Ways = (TextWire, Tap<ServiceWire>, TextWire);
 
 /// How a service answered once.
 #[derive(Drop)]
-pub struct Attempt {
+pub struct ProbeAttempt {
     pub came: Came,
     /// The microseconds from the first byte of the request to the last one of the answer.
     pub micros: u64,
@@ -37,8 +37,8 @@ pub struct Attempt {
 }
 
 /// An attempt for which no connection was had, or that this machine failed.
-pub fn failed(alloc: Global, fault: Fault) -> Attempt {
-    Attempt {
+pub fn failed(alloc: Global, fault: Fault) -> ProbeAttempt {
+    ProbeAttempt {
         came: Came::Broken(Finding {
             fault,
             at: 0,
@@ -65,7 +65,7 @@ fn play<B: Ledgers, R: Wait + Clock, W: Wires>(
     bench: &Bench<'_, B, R>,
     running: &mut Running<B, W>,
     scratch: &mut Scratch,
-    line: &mut Line,
+    line: &mut ProbeLine,
     start: Instant,
 ) -> io::Result<()> {
     for _ in 0..u64::MAX {
@@ -85,8 +85,8 @@ fn run<B: Ledgers, R: Wait + Clock, W: Wires<ServiceWire = Tap<ServiceWire>>>(
     message: Box<Incoming>,
     way: Way<W>,
     scratch: &mut Scratch,
-    line: &mut Line,
-) -> io::Result<Option<(Left<ServiceWire>, u64)>> {
+    line: &mut ProbeLine,
+) -> io::Result<Option<(TransactionRemains<ServiceWire>, u64)>> {
     let (rt, alloc, bank) = (bench.rt, bench.alloc, bench.bank);
     let start = Instant::now(rt)?;
     let pace = Pace::new(bench.config.deadline.saturating_add(1), 0, false);
@@ -106,11 +106,11 @@ fn run<B: Ledgers, R: Wait + Clock, W: Wires<ServiceWire = Tap<ServiceWire>>>(
 /// What came of a message whose transaction took so many microseconds. The connection has its wire again.
 fn conclude(
     alloc: Global,
-    left: Left<ServiceWire>,
+    left: TransactionRemains<ServiceWire>,
     micros: u64,
-    connection: &mut Connection,
-) -> Attempt {
-    let Left {
+    connection: &mut ProbedConnection,
+) -> ProbeAttempt {
+    let TransactionRemains {
         came,
         is_reusable,
         tap,
@@ -122,7 +122,7 @@ fn conclude(
         came
     };
     connection.wire = Some(tap);
-    Attempt {
+    ProbeAttempt {
         serves: came.is_good() && is_reusable,
         came,
         micros,
@@ -143,8 +143,8 @@ fn send<B: Ledgers, R: Wait + Clock>(
     bench: &Bench<'_, B, R>,
     prepared: Prepared,
     scratch: &mut Scratch,
-    connection: &mut Connection,
-) -> io::Result<Attempt> {
+    connection: &mut ProbedConnection,
+) -> io::Result<ProbeAttempt> {
     let alloc = bench.alloc;
     let Some(mut tap) = connection.wire.take() else {
         return Ok(failed(alloc, Fault::System));
@@ -168,7 +168,7 @@ pub fn try_sample<B: Ledgers, R: Wait + Net + Dial + Clock>(
     service: &ServicePoint,
     trial: &Trial,
     lane: &mut Lane,
-) -> io::Result<Attempt> {
+) -> io::Result<ProbeAttempt> {
     let alloc = bench.alloc;
     let mut scratch = Scratch::new(alloc)?;
     let Some(prepared) = prepare(alloc, service, trial, &mut scratch.wire)? else {

@@ -5,11 +5,11 @@ ghost use Rattle.std.specs.Option.{ForSome};
 ghost use Rattle.adapt_bytes.specs.declared.limits.TheConstants.{MAX_PREVIEW};
 ghost use Rattle.service_probe.specs.Came.{counted_text, tally_text};
 
-use crate::attempt::{Attempt, try_sample};
-use crate::choice::Choice;
+use crate::attempt::{ProbeAttempt, try_sample};
+use crate::choice::SampleChoice;
 use crate::lane::Lane;
-use crate::options::{Told, ask};
-use crate::report::{Way, put_attempt, put_spread};
+use crate::options::{OptionsAnswer, ask};
+use crate::report::{ConnectionUse, put_attempt, put_spread};
 use crate::samples::{SAMPLES, Sample, Trial};
 use crate::text::put_number;
 use plan_rules::Limits;
@@ -36,7 +36,7 @@ pub struct Bench<'a, B: Ledgers, R> {
     pub bank: &'a Bank<B>,
     pub config: &'a Config,
     /// Which samples, and how often.
-    pub choice: Choice,
+    pub choice: SampleChoice,
 }
 
 /// How many answers came, and how many of them broke a rule.
@@ -48,7 +48,7 @@ struct Tally {
 
 impl Tally {
     /// Counts an attempt.
-    fn count(&mut self, attempt: &Attempt) {
+    fn count(&mut self, attempt: &ProbeAttempt) {
         self.all = self.all.saturating_add(1);
         if !attempt.came.is_good() {
             self.broken = self.broken.saturating_add(1);
@@ -118,9 +118,9 @@ fn preview_of(wanted: Option<u64>, limits: &Limits) -> Option<u64>
 /// Prints the line of an attempt.
 fn print_attempt<O: Write>(
     alloc: Global,
-    way: Way,
+    way: ConnectionUse,
     trial: &Trial,
-    attempt: &Attempt,
+    attempt: &ProbeAttempt,
     output: &mut O,
 ) -> io::Result<()> {
     let mut line = Vec::new(alloc);
@@ -202,13 +202,19 @@ fn print_told<O: Write>(
     alloc: Global,
     service: &ServicePoint,
     point: Point,
-    told: &Told,
+    told: &OptionsAnswer,
     output: &mut O,
 ) -> io::Result<()> {
     let mut text = Vec::new(alloc);
     let place = format!(in alloc; "{}", service.address)?;
     put_service(&mut text, point, place.as_str(), service.path.as_str())?;
-    put_attempt(&mut text, Way::Fresh, b"options", None, &told.attempt)?;
+    put_attempt(
+        &mut text,
+        ConnectionUse::Fresh,
+        b"options",
+        None,
+        &told.attempt,
+    )?;
     output.write_all(&text)?;
     if let Some(said) = &told.said {
         output.write_all(&said.words)?;
@@ -224,7 +230,7 @@ fn try_service<B: Ledgers, R: Wait + Net + Dial + Clock, O: Write>(
     tally: &mut Tally,
     output: &mut O,
 ) -> io::Result<()> {
-    let mut lane = Lane::new(Way::Kept);
+    let mut lane = Lane::new(ConnectionUse::Kept);
     let told = ask(bench, service, point, &mut lane)?;
     tally.count(&told.attempt);
     print_told(bench.alloc, service, point, &told, output)?;
@@ -237,7 +243,13 @@ fn try_service<B: Ledgers, R: Wait + Net + Dial + Clock, O: Write>(
         preview: preview_of(said.preview, &limits_of(bench.config)),
     };
     try_samples(bench, &target, &mut lane, tally, output)?;
-    try_samples(bench, &target, &mut Lane::new(Way::Fresh), tally, output)
+    try_samples(
+        bench,
+        &target,
+        &mut Lane::new(ConnectionUse::Fresh),
+        tally,
+        output,
+    )
 }
 
 /// Tries the service of a point, if there is one.

@@ -11,7 +11,7 @@ pub const MAX_COUNT: u64 = 100_000;
 
 /// Which samples are tried, and how often.
 #[derive(Clone, Copy, Debug)]
-pub struct Choice {
+pub struct SampleChoice {
     /// The only one; all where there is none.
     pub only: Option<Sample>,
     /// How often each is tried: on one connection, and on fresh ones.
@@ -20,7 +20,7 @@ pub struct Choice {
     pub ghost few: { count ≤ MAX_COUNT },
 }
 
-impl Choice {
+impl SampleChoice {
     /// Whether a sample is tried.
     pub fn has(&self, sample: Sample) -> bool {
         match self.only {
@@ -41,14 +41,14 @@ fn sample_of(name: &[u8]) -> Option<Sample> {
 }
 
 /// A choice with one more word and its value.
-fn with(choice: Choice, word: &str, value: &[u8]) -> Option<Choice> {
+fn with(choice: SampleChoice, word: &str, value: &[u8]) -> Option<SampleChoice> {
     match word {
-        "--only" => Some(Choice {
+        "--only" => Some(SampleChoice {
             only: Some(sample_of(value)?),
             count: choice.count,
         }),
         "--count" => match read_decimal(value) {
-            Some(count) if count >= 1 && count <= MAX_COUNT => Some(Choice {
+            Some(count) if count >= 1 && count <= MAX_COUNT => Some(SampleChoice {
                 only: choice.only,
                 count,
             }),
@@ -60,8 +60,8 @@ fn with(choice: Choice, word: &str, value: &[u8]) -> Option<Choice> {
 
 /// The choice that the words after `probe` say: `--only NAME` and `--count N`, each of which may be missing. `None` for other words, for a
 /// name that no sample has, and for a number below 1 or above [`MAX_COUNT`].
-pub fn read_choice(words: &[String]) -> Option<Choice> {
-    let all = Choice {
+pub fn read_choice(words: &[String]) -> Option<SampleChoice> {
+    let all = SampleChoice {
         only: None,
         count: 1,
     };

@@ -22,9 +22,9 @@ mod text;
 mod text_stream;
 mod verdict;
 
-pub use attempt::Attempt;
+pub use attempt::ProbeAttempt;
 pub use bench::{Bench, probe};
-pub use choice::{Choice, MAX_COUNT, read_choice};
+pub use choice::{MAX_COUNT, SampleChoice, read_choice};
 pub use finding::{Came, Fault, Finding};
-pub use report::{Way, put_attempt};
+pub use report::{ConnectionUse, put_attempt};
 pub use samples::{SAMPLES, Sample};

@@ -15,17 +15,17 @@ const PAUSE: u64 = 200;
 
 /// What reports a connection.
 #[derive(Drop)]
-pub struct Line {
+pub struct ProbeLine {
     poll: Poll,
     events: Events,
     ready: Arc<Readiness>,
 }
 
-impl Line {
+impl ProbeLine {
     /// What reports a connection that is dialled now.
-    fn new<R: Net>(rt: &R, alloc: Global) -> io::Result<Line> {
+    fn new<R: Net>(rt: &R, alloc: Global) -> io::Result<ProbeLine> {
         let ready = Arc::new(alloc, Readiness::dialled())?;
-        Ok(Line {
+        Ok(ProbeLine {
             poll: Poll::new(rt)?,
             events: Events::with_capacity(alloc, 4)?,
             ready,
@@ -91,13 +91,13 @@ impl Line {
 
 /// A connection that may carry a request.
 #[derive(Drop)]
-pub struct Connection {
-    pub line: Line,
+pub struct ProbedConnection {
+    pub line: ProbeLine,
     /// None while a transaction has it.
     pub wire: Option<Tap<ServiceWire>>,
 }
 
-impl Connection {
+impl ProbedConnection {
     /// Whether it may carry a request: nothing came on it since its last answer.
     pub fn is_quiet(&mut self) -> bool {
         match &self.wire {
@@ -113,12 +113,12 @@ fn open<R: Net + Dial + Clock>(
     alloc: Global,
     address: SocketAddrV4,
     seconds: u64,
-) -> io::Result<Connection> {
+) -> io::Result<ProbedConnection> {
     let start = Instant::now(rt)?;
-    let mut line = Line::new(rt, alloc)?;
+    let mut line = ProbeLine::new(rt, alloc)?;
     let wire = line.dial(rt, address)?;
     line.arrive(rt, start, seconds)?;
-    Ok(Connection {
+    Ok(ProbedConnection {
         line,
         wire: Some(Tap::new(alloc, wire)),
     })
@@ -130,7 +130,7 @@ pub fn connect<R: Net + Dial + Clock>(
     alloc: Global,
     address: SocketAddrV4,
     seconds: u64,
-) -> Option<Box<Connection>> {
+) -> Option<Box<ProbedConnection>> {
     match open(rt, alloc, address, seconds) {
         Ok(connection) => Box::new(alloc, connection).ok(),
         Err(_) => None,

@@ -1,11 +1,11 @@
 //! A service's options: asked for, and said in words (RFC 3507, section 4.10).
 
-use crate::attempt::{Attempt, failed, micros_since};
+use crate::attempt::{ProbeAttempt, failed, micros_since};
 use crate::bench::Bench;
 use crate::excerpt::{find, find_in_options};
 use crate::finding::{Came, Fault, Finding};
 use crate::lane::{Lane, connection_of};
-use crate::line::{Connection, Line};
+use crate::line::{ProbeLine, ProbedConnection};
 use crate::tap::Tap;
 use crate::text::put_value;
 use adapt_bytes::has_item;
@@ -26,15 +26,15 @@ use wire_kit::Wire;
 
 /// What a service said of its options.
 #[derive(Drop)]
-pub struct Told {
-    pub attempt: Attempt,
+pub struct OptionsAnswer {
+    pub attempt: ProbeAttempt,
     /// Its options, where it serves.
-    pub said: Option<Said>,
+    pub said: Option<ProbedOptions>,
 }
 
 /// The options of a service.
 #[derive(Drop)]
-pub struct Said {
+pub struct ProbedOptions {
     /// In words, a line for each.
     pub words: Vec<u8>,
     /// The size of the previews that it wants, if it wants some.
@@ -43,7 +43,7 @@ pub struct Said {
 
 /// What came of a request for options.
 #[derive(Drop)]
-enum Heard {
+enum OptionsReply {
     /// An answer.
     Answer(IcapResponse),
     /// What broke a rule, or kept the answer away.
@@ -54,14 +54,14 @@ enum Heard {
 #[derive(Drop)]
 enum Judged {
     /// The options, and whether the connection may carry another request.
-    Serves(Said, bool),
+    Serves(ProbedOptions, bool),
     /// A fault.
     Broken(Finding),
 }
 
 /// What no answer was had to.
-fn untold(attempt: Attempt) -> Told {
-    Told {
+fn untold(attempt: ProbeAttempt) -> OptionsAnswer {
+    OptionsAnswer {
         attempt,
         said: None,
     }
@@ -73,15 +73,15 @@ fn hear<R: Clock>(
     side: &mut OptionsSide,
     tap: &mut Tap<ServiceWire>,
     buffer: &mut [u8; WIRE_ROOM],
-    line: &mut Line,
+    line: &mut ProbeLine,
     seconds: u64,
-) -> io::Result<Heard> {
+) -> io::Result<OptionsReply> {
     let mut moved = Instant::now(rt)?;
     for _ in 0..u64::MAX {
         let before = tap.counts();
         match side.turn(tap, &mut buffer[..]) {
-            Ok(Some(answer)) => return Ok(Heard::Answer(answer)),
-            Err(fault) => return Ok(Heard::Fault(Fault::of_side(fault))),
+            Ok(Some(answer)) => return Ok(OptionsReply::Answer(answer)),
+            Err(fault) => return Ok(OptionsReply::Fault(Fault::of_side(fault))),
             Ok(None) if tap.counts() != before => moved = Instant::now(rt)?,
             Ok(None) => {
                 if moved.elapsed(rt)?.as_secs() >= seconds {
@@ -91,7 +91,7 @@ fn hear<R: Clock>(
             }
         }
     }
-    Ok(Heard::Fault(Fault::Deadline))
+    Ok(OptionsReply::Fault(Fault::Deadline))
 }
 
 /// Judges an answer by the options that it says for a point, and by the bytes that were left over.
@@ -113,7 +113,7 @@ fn judge_answer<W>(
         let found = find(alloc, tap, Fault::LeftOver, side.raw_left())?;
         return Ok(Judged::Broken(found));
     }
-    let said = Said {
+    let said = ProbedOptions {
         words: words_of(alloc, answer, &record)?,
         preview: record.preview(),
     };
@@ -123,14 +123,14 @@ fn judge_answer<W>(
 /// Judges what came.
 fn judge<W>(
     alloc: Global,
-    heard: Heard,
+    heard: OptionsReply,
     point: Point,
     side: &OptionsSide,
     tap: &Tap<W>,
 ) -> Result<Judged, AllocError> {
     match heard {
-        Heard::Answer(answer) => judge_answer(alloc, &answer, point, side, tap),
-        Heard::Fault(fault) => {
+        OptionsReply::Answer(answer) => judge_answer(alloc, &answer, point, side, tap),
+        OptionsReply::Fault(fault) => {
             let found = find(alloc, tap, fault, side.raw_left())?;
             Ok(Judged::Broken(found))
         }
@@ -138,13 +138,13 @@ fn judge<W>(
 }
 
 /// What is told by what was made of an answer that came after so many microseconds.
-fn told_of(judged: Judged, micros: u64) -> Told {
+fn told_of(judged: Judged, micros: u64) -> OptionsAnswer {
     let (came, serves, said) = match judged {
         Judged::Serves(said, serves) => (Came::Options, serves, Some(said)),
         Judged::Broken(found) => (Came::Broken(found), false, None),
     };
-    Told {
-        attempt: Attempt {
+    OptionsAnswer {
+        attempt: ProbeAttempt {
             came,
             micros,
             serves,
@@ -158,8 +158,8 @@ fn ask_over<B: Ledgers, R: Clock>(
     bench: &Bench<'_, B, R>,
     service: &ServicePoint,
     point: Point,
-    connection: &mut Connection,
-) -> io::Result<Told> {
+    connection: &mut ProbedConnection,
+) -> io::Result<OptionsAnswer> {
     let (rt, alloc) = (bench.rt, bench.alloc);
     let mut side = ask_options(alloc, service)?;
     let mut scratch = Scratch::new(alloc)?;
@@ -188,7 +188,7 @@ pub fn ask<B: Ledgers, R: Net + Dial + Clock>(
     service: &ServicePoint,
     point: Point,
     lane: &mut Lane,
-) -> io::Result<Told> {
+) -> io::Result<OptionsAnswer> {
     let Some(connection) = connection_of(bench, service, None) else {
         return Ok(untold(failed(bench.alloc, Fault::Refused)));
     };

@@ -3,7 +3,7 @@
 ghost use Rattle.std.specs.Prelude.{◌≡◌, ◌++◌, OnOk};
 ghost use Rattle.service_probe.specs.Came.{after_text, size_text, finding_text, came_text, page_words, time_text, way_text, body_text, trial_text, answer_text, attempt_text, octets_text, serves_text};
 
-use crate::attempt::Attempt;
+use crate::attempt::ProbeAttempt;
 use crate::finding::{Came, Finding};
 use crate::text::{put_bytes, put_number};
 use adapt_bytes::three_digits;
@@ -11,21 +11,21 @@ use std::alloc::AllocError;
 
 /// Over which connection a message went.
 #[derive(Clone, Copy)]
-pub enum Way {
+pub enum ConnectionUse {
     /// Over the one that is kept.
     Kept,
     /// Over a fresh one.
     Fresh,
 }
 
-impl Way {
+impl ConnectionUse {
     /// The word for it.
     fn word(self) -> &'static [u8]
         ensures { result.now ≡ way_text self }
     {
         match self {
-            Way::Kept => b"kept",
-            Way::Fresh => b"fresh",
+            ConnectionUse::Kept => b"kept",
+            ConnectionUse::Fresh => b"fresh",
         }
     }
 }
@@ -146,7 +146,12 @@ fn serving(serves: bool) -> &'static [u8]
 
 /// Adds over which connection a message went, the case's name, and the size of its body.
 #[tactic(auto, unfolding(crate::specs::Came::trial_text))]
-fn put_trial(out: &mut Vec<u8>, way: Way, name: &[u8], size: Option<u64>) -> Result<(), AllocError>
+fn put_trial(
+    out: &mut Vec<u8>,
+    way: ConnectionUse,
+    name: &[u8],
+    size: Option<u64>,
+) -> Result<(), AllocError>
     ensures { OnOk result (out.new.items ≡ out.old.items ++ trial_text way name.now size) }
 {
     out.extend_from_slice(b"  ")?;
@@ -158,7 +163,7 @@ fn put_trial(out: &mut Vec<u8>, way: Way, name: &[u8], size: Option<u64>) -> Res
 
 /// Adds what came, how long it took, and whether the connection may serve again.
 #[tactic(auto, unfolding(crate::specs::Came::answer_text))]
-fn put_answer(out: &mut Vec<u8>, attempt: &Attempt) -> Result<(), AllocError>
+fn put_answer(out: &mut Vec<u8>, attempt: &ProbeAttempt) -> Result<(), AllocError>
     ensures { OnOk result (out.new.items ≡ out.old.items ++ answer_text attempt.now) }
 {
     out.extend_from_slice(b": ")?;
@@ -172,10 +177,10 @@ fn put_answer(out: &mut Vec<u8>, attempt: &Attempt) -> Result<(), AllocError>
 /// and whether the connection may serve again.
 pub fn put_attempt(
     out: &mut Vec<u8>,
-    way: Way,
+    way: ConnectionUse,
     name: &[u8],
     size: Option<u64>,
-    attempt: &Attempt,
+    attempt: &ProbeAttempt,
 ) -> Result<(), AllocError>
     ensures { OnOk result (out.new.items ≡ out.old.items ++ attempt_text way name.now size attempt.now) }
 {

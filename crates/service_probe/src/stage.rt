@@ -7,7 +7,7 @@ ghost use Rattle.plan_rules.specs.Claims.{claim_of};
 
 use crate::finding::Came;
 use crate::tap::Tap;
-use crate::verdict::{Heard, judge};
+use crate::verdict::{HeardService, judge};
 use adapt_sides::Scratch;
 use adapt_turn::{EndTypes, Ends, Outcome, ServiceEnd, Side, TurnAnswer, Tx, TxParts};
 use http_side::{OriginUse, OriginWay};
@@ -22,7 +22,7 @@ use wire_kit::Wire;
 
 /// What is left of a transaction.
 #[derive(Drop)]
-pub struct Left<W> {
+pub struct TransactionRemains<W> {
     /// What came of its message.
     pub came: Came,
     /// Whether the connection to the service may carry another request.
@@ -33,7 +33,7 @@ pub struct Left<W> {
 
 /// How a transaction ended, and the service's side with its connection.
 #[derive(Drop)]
-pub struct Ended<V, W> {
+pub struct EndedTransaction<V, W> {
     outcome: Outcome,
     seen: Seen,
     service: Option<(V, W)>,
@@ -138,7 +138,7 @@ fn close<B: Ledgers, E: EndTypes>(
     rt: &impl Wait,
     bank: &Bank<B>,
     tx: Tx<B, E>,
-) -> Ended<E::Client, E::ServiceWire>
+) -> EndedTransaction<E::Client, E::ServiceWire>
 where
     E::Reader: Drop,
     E::Client: Drop,
@@ -158,7 +158,7 @@ fn take_apart<B: Ledgers, E: EndTypes>(
     rt: &impl Wait,
     bank: &Bank<B>,
     parts: TxParts<B, E>,
-) -> Ended<E::Client, E::ServiceWire>
+) -> EndedTransaction<E::Client, E::ServiceWire>
 where
     E::Reader: Drop,
     E::Client: Drop,
@@ -185,7 +185,7 @@ where
         back: _,
         maker: _,
     } = ends;
-    Ended {
+    EndedTransaction {
         outcome,
         seen,
         service: line_of(service),
@@ -199,11 +199,11 @@ fn line_of<V: Drop, W: Drop>(service: Option<ServiceEnd<V, W>>) -> Option<(V, W)
 }
 
 /// Judges what came of a message. `None` where its connection was given up.
-pub fn judged<V: Heard + Drop, W: Drop>(
+pub fn judged<V: HeardService + Drop, W: Drop>(
     alloc: Global,
-    ended: Ended<V, Tap<W>>,
-) -> Result<Option<Left<W>>, AllocError> {
-    let Ended {
+    ended: EndedTransaction<V, Tap<W>>,
+) -> Result<Option<TransactionRemains<W>>, AllocError> {
+    let EndedTransaction {
         outcome,
         seen,
         service,
@@ -212,7 +212,7 @@ pub fn judged<V: Heard + Drop, W: Drop>(
         return Ok(None);
     };
     let came = judge(alloc, outcome, &seen, &side, &tap)?;
-    Ok(Some(Left {
+    Ok(Some(TransactionRemains {
         came,
         is_reusable: side.is_reusable(),
         tap,
@@ -224,7 +224,7 @@ pub fn end<B: Ledgers, W: Wires>(
     rt: &impl Wait,
     bank: &Bank<B>,
     running: Box<Running<B, W>>,
-) -> Ended<icap_client::ServiceSide, W::ServiceWire>
+) -> EndedTransaction<icap_client::ServiceSide, W::ServiceWire>
 where
     W::ServiceWire: Drop,
 {

@@ -10,7 +10,7 @@ use std::alloc::{AllocError, Global};
 use trace_core::{Cause, Point, Seen};
 
 /// A service's side whose transaction is over.
-pub trait Heard: Service {
+pub trait HeardService: Service {
     /// Why it failed.
     fn fault(&self) -> Option<ClientFault>;
 
@@ -18,7 +18,7 @@ pub trait Heard: Service {
     fn raw_left(&self) -> usize;
 }
 
-impl Heard for ServiceSide {
+impl HeardService for ServiceSide {
     fn fault(&self) -> Option<ClientFault> {
         ServiceSide::fault(self)
     }
@@ -67,7 +67,7 @@ fn fault_of(cause: Cause, fault: Option<ClientFault>) -> Fault {
 }
 
 /// What came of a message, by how its transaction ended, and by the service's side and what it read.
-pub fn judge<V: Heard, W>(
+pub fn judge<V: HeardService, W>(
     alloc: Global,
     outcome: Outcome,
     seen: &Seen,

@@ -1,6 +1,8 @@
 //! What a probe is asked to do, and the lines that it says of what came.
 use crate::commands::arguments::arguments_of;
-use service_probe::{Attempt, Came, Fault, Finding, SAMPLES, Way, put_attempt, read_choice};
+use service_probe::{
+    Came, ConnectionUse, Fault, Finding, ProbeAttempt, SAMPLES, put_attempt, read_choice,
+};
 use std::alloc::Global;
 use test_rows::{NoMemory, Row, put_line, put_shown, says};
 
@@ -48,15 +50,15 @@ fn came_of(alloc: Global, row: &Row<'_>) -> Result<Came, NoMemory> {
 
 /// Adds the line of a row's attempt.
 fn put_line_of(alloc: Global, row: &Row<'_>, out: &mut Vec<u8>) -> Result<(), NoMemory> {
-    let attempt = Attempt {
+    let attempt = ProbeAttempt {
         came: came_of(alloc, row)?,
         micros: number_of(row, b"micros"),
         serves: row.has(b"serves"),
     };
     let way = if row.has(b"fresh") {
-        Way::Fresh
+        ConnectionUse::Fresh
     } else {
-        Way::Kept
+        ConnectionUse::Kept
     };
     put_attempt(out, way, row.get(b"sample"), row.number(b"size"), &attempt)
 }
