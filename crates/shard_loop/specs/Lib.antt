@@ -1,3 +1,4 @@
 pub mod Admission
 pub mod Left
 pub mod Showing
+pub mod Stepped

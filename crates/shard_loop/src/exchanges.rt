@@ -9,6 +9,7 @@ ghost use Rattle.shard_exchange.specs.Hand.{IsEmpty};
 ghost use Rattle.shard_exchange.specs.Outcomes.{Does};
 ghost use Rattle.shard_exchange.specs.Resting.{RestsOn};
 ghost use Rattle.shard_exchange.specs.Steps.{is_step};
+ghost use Rattle.shard_loop.specs.Stepped.{IsDoneAt, IsRestedAt};
 
 use crate::showing::show;
 use adapt_sides::Scratch;
@@ -140,12 +141,21 @@ impl<S: Shares> Exchanges for DeskExchanges<S> {
         }
     }
 
-    fn act<R: Wait + Dial + Clock, G: Gate>(
+    fn act<'r, R: Wait + Dial + Clock, G: Gate>(
         &mut self,
-        at: &Spot<'_, R, G>,
+        at: &Spot<'r, R, G>,
         exchange: &mut Exchange<Holdings<Desk<S>>>,
         task: Task,
-    ) -> Step {
+    ) -> Step
+        ensures over { result ≡ Step.Over → is_over exchange.new.course ≡ true }
+        ensures lost { task ≡ Task.Lose → is_over exchange.new.course ≡ true }
+        ensures does { is_step task exchange.old.course ≡ true
+            → IsDoneAt (λ before. ⟦<Exchange<Holdings<Desk<S>>> as Stepping<Spot<'r, R, G>, Desk<S>>>⟧.does exchange.old before exchange.new self.new.desk at.entry.now)
+            (due_of exchange.old.course) }
+        ensures rests { is_step task exchange.old.course ≡ true → result ≡ Step.Waits
+            → IsRestedAt (λ before. ⟦<Exchange<Holdings<Desk<S>>> as Stepping<Spot<'r, R, G>, Desk<S>>>⟧.tried exchange.old before exchange.new self.new.desk at.entry.now)
+            (due_of exchange.old.course) task }
+    {
         self.desk.take_up(at.rt, at.key);
         act_on(at.rt, at, &mut self.desk, &mut self.scratch, exchange, task)
     }
