@@ -26,8 +26,8 @@ abbrev pub stopped_of : (in_head : Bool) → CourseState → CourseState
 stopped_of in_head c = if in_head && may_come c (Failed Stopping) then after (after c (Failed Stopping)) Stop else after c Stop
 
 -- the connection of an origin whose message goes no further is closed
-abbrev pub left_of : CourseState → CourseState
-left_of c = if may_come c (HungUp false) then after c (HungUp false) else c
+abbrev pub hung_up_of : CourseState → CourseState
+hung_up_of c = if may_come c (HungUp false) then after c (HungUp false) else c
 
 -- what is due is done so; where another thing is, the course stays as it is
 abbrev pub IfDue : Due → (does : CourseState → CourseState → Type 0) → (old new : CourseState) → Type 0
@@ -35,7 +35,7 @@ IfDue due does old new = (due_of old ≡ due → does old new) × ((due_of old �
 
 -- What is held goes back, each thing where it is due, and nothing else becomes of the course: first a service's connection, then the
 -- reservation, then an origin's connection.
-pub record GivesBack (returns hangs_up : CourseState → CourseState → Type 0) (old new : CourseState) : Type 0 where
+pub record ReturnsAll (returns hangs_up : CourseState → CourseState → Type 0) (old new : CourseState) : Type 0 where
   pub unleased : CourseState
   pub free : CourseState
   pub line : IfDue GiveBack returns old unleased
@@ -54,8 +54,8 @@ pub record IsLost (ends gives_back : CourseState → CourseState → Type 0) (ol
 -- course is told just that. begun: a byte of the head came that is read.
 pub record IsStopped (ends : CourseState → CourseState → Type 0) (begun : Bool) (old new : CourseState) : Type 0 where
   pub none : may_come old Stop ≡ false → new ≡ old
-  pub moved : may_come old Stop ≡ true → moves old ≡ true → (mid : CourseState) × ends old mid × (new ≡ left_of mid)
-  pub unmoved : may_come old Stop ≡ true → moves old ≡ false → new ≡ left_of (stopped_of (is_in_head old.phase begun) old)
+  pub moved : may_come old Stop ≡ true → moves old ≡ true → (mid : CourseState) × ends old mid × (new ≡ hung_up_of mid)
+  pub unmoved : may_come old Stop ≡ true → moves old ≡ false → new ≡ hung_up_of (stopped_of (is_in_head old.phase begun) old)
 
 -- The exchange stops so, and its user is owed what it is owed then. Where the user is gone, what was held went back.
 pub record IsHalted (ends gives_back : CourseState → CourseState → Type 0) (answered begun : Bool) (old new : CourseState) : Type 0 where

@@ -10,14 +10,14 @@ use Rattle.exchange_core.specs.declared.due.Due.TheVariants.{AskGate, Turn, Read
 use Rattle.exchange_core.specs.declared.due.Due.TheVariants.{TryRefusal}
 use Rattle.exchange_core.specs.declared.event.Event.TheVariants.{HeadBegun, RequestRead, ResponseRead, Planned, Stale, Queued, Lent}
 use Rattle.exchange_core.specs.declared.event.Event.TheVariants.{Asked, Learned, Reserved, HalfTold, Told, LetPass, Renewed}
-use Rattle.exchange_core.specs.declared.event.Event.TheVariants.{Heard, Withdrawn, Failed, Dialed, Started}
+use Rattle.exchange_core.specs.declared.event.Event.TheVariants.{Heard, Withdrawn, Failed, Refused, Dialed, Started}
 use Rattle.exchange_core.specs.declared.event.Event.TheVariants.{UserClosed, UserLost, Dropped, Late, Returned, Released, HungUp}
 use Rattle.exchange_core.specs.declared.event.RefusalCause.TheVariants.{Scarce, Deadline}
 use Rattle.exchange_core.specs.declared.phase.Phase.{Phase}
 use Rattle.exchange_core.specs.declared.phase.Phase.TheVariants.{InQueue}
 use Rattle.exchange_core.specs.Course.{after, point_of, is_leased, is_offered, is_ready}
 use Rattle.exchange_core.specs.May.{dialing_of, may_come, may_keep_origin, may_take_kept, is_request, is_idle, is_in_queue, is_withdrawing}
-use Rattle.exchange_core.specs.May.{is_refusing, is_closing, is_gone}
+use Rattle.exchange_core.specs.May.{is_refusing, is_gone}
 use Rattle.exchange_core.specs.Dues.{fails_of}
 use Rattle.adapt_sides.specs.declared.fault.RelayFault.{RelayFault}
 use Rattle.http_side.specs.declared.fault.HttpFault.{HttpFault}
@@ -67,12 +67,12 @@ pub record IsPlanned (plans : Bool → Result Marks Unplanned → Type 0) (old n
   pub plan : plans old.asked answer
   pub leads : Leads old new answer
 
--- where a refusal leads of which so much was said: on to the end once all of it is out; or the user is gone
-abbrev pub SaidLeads : Said → Phase → Type 0
-SaidLeads Whole phase = is_closing phase ≡ true
-SaidLeads (Part out) phase = is_refusing phase ≡ true
-SaidLeads Nothing phase = (is_refusing phase || is_gone phase) ≡ true
-SaidLeads Broken phase = is_gone phase ≡ true
+-- where a refusal leads of which so much was said: on to the end once all of it is out; and, where its user takes nothing now, to this
+abbrev pub SaidLeads : (stays : CourseState) → (old new : CourseState) → Said → Type 0
+SaidLeads stays old new Whole = new ≡ after old Refused
+SaidLeads stays old new (Part out) = new ≡ old
+SaidLeads stays old new Nothing = new ≡ stays
+SaidLeads stays old new Broken = is_gone new.phase ≡ true
 
 -- Where the last refusal leads of which so much was said, of a user whose exchange was stopped: it stays due, and what is held stays so; or
 -- the user is gone.
@@ -92,10 +92,10 @@ pub record SaysLast {H : Type 0} (user : H → Past → Type 0) (hand : H → Ha
   pub leads : LastLeads later holds old new said
 
 -- A user gets what is left of the refusal of this status: the plain one, or the one with a page that was laid.
-pub record SaysRefusal (user later : Past → Type 0) (old new : Hand) (status : ℕ) (phase : Phase) : Type 0 where
+pub record SaysRefusal (user later : Past → Type 0) (held holds : Hand) (status : ℕ) (stays old new : CourseState) : Type 0 where
   pub said : Said
-  pub text : SaysOn user later (refusal_by status new.refused.page) old.refused.out new.refused.out said
-  pub leads : SaidLeads said phase
+  pub text : SaysOn user later (refusal_by status holds.refused.page) held.refused.out holds.refused.out said
+  pub leads : SaidLeads stays old new said
 
 -- where the text leads of which so much was said that tells the user to send its body; and, where it takes nothing now, to this
 abbrev pub TellLeads : (stays : CourseState) → (old new : CourseState) → Said → Type 0
@@ -111,9 +111,10 @@ pub record SaysInterim (user later : Past → Type 0) (held holds : Hand) (stays
   pub leads : TellLeads stays old new said
 
 -- a refusal that is due goes on where it stands: with the page that was laid
-pub record Refuses (pages : List ℕ → Type 0) (user later : Past → Type 0) (held holds : Hand) (status : ℕ) (phase : Phase) : Type 0 where
+pub record Refuses (pages : List ℕ → Type 0) (user later : Past → Type 0) (held holds : Hand) (status : ℕ) (stays old new : CourseState)
+    : Type 0 where
   pub lays : LaysPage pages status held.refused holds.refused.page
-  pub says : SaysRefusal user later held holds status phase
+  pub says : SaysRefusal user later held holds status stays old new
 
 -- what a message may need is reserved; or that is wanting, and the message fails of just that
 abbrev pub IsReserved : (reserves : Type 0) → (old new : CourseState) → Type 0

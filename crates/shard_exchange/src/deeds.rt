@@ -28,7 +28,7 @@ impl<P, H: Effects<P>> Stepping<P, H::Outside> for Exchange<H> {
     ghost use Rattle.adapt_sides.specs.declared.saying.Said.TheVariants.{Nothing};
     ghost use Rattle.exchange_core.specs.Course.{after};
     ghost use Rattle.exchange_core.specs.May.{may_come, is_gone};
-    ghost use Rattle.exchange_core.specs.declared.event.Event.TheVariants.{Failed, Stuck, Withdrawn};
+    ghost use Rattle.exchange_core.specs.declared.event.Event.TheVariants.{Failed, Late, Stuck, Withdrawn};
     ghost use Rattle.exchange_core.specs.declared.event.RefusalCause.TheVariants.{Deadline};
     ghost use Rattle.service_lines.specs.declared.connector.LendFault.TheVariants.{Busy};
     ghost use Rattle.shard_exchange.specs.declared.answers.HeadTurn.TheVariants as head_turns;
@@ -36,7 +36,7 @@ impl<P, H: Effects<P>> Stepping<P, H::Outside> for Exchange<H> {
     ghost use Rattle.shard_exchange.specs.Outcomes.{Bears, Deeds, IsAsked, IsAwaited, IsClosed, IsDialed, IsGated, IsGivenBack, IsHeard, IsHungUp, IsLent, IsPlanned, IsRead, IsReleased, IsRequested, IsReserved, IsStarted, IsTurned, LeavesQueue, Refuses, SaysInterim, SaysLast};
     ghost use Rattle.shard_exchange.specs.EndedBy.{MayEnd};
     ghost use Rattle.shard_exchange.specs.Ends.{IsEnded};
-    ghost use Rattle.shard_exchange.specs.Leaving.{GivesBack};
+    ghost use Rattle.shard_exchange.specs.Leaving.{ReturnsAll};
     ghost use Rattle.shard_exchange.specs.Resting.{Tried};
     ghost use Rattle.shard_exchange.specs.Saying.{SaysOn, interim_text, refusal_by};
 
@@ -72,7 +72,8 @@ impl<P, H: Effects<P>> Stepping<P, H::Outside> for Exchange<H> {
           released = IsReleased old.course new.course × H.keeps_message held holds × H.keeps_origin held holds;
           hung = IsHungUp (H.lays held out later at) (H.closes held out later at) old.course new.course × H.keeps_message held holds;
           closed = IsClosed (H.lingers held holds) (H.is_late later at) (H.hand held).finished (H.hand holds).finished old.course new.course;
-          refused = λ status. Refuses (H.has_page out at status) (H.user_past held) (H.user_past holds) (H.hand held) (H.hand holds) status new.course.phase;
+          refused = λ status. Refuses (H.has_page out at status) (H.user_past held) (H.user_past holds) (H.hand held) (H.hand holds) status
+              (if H.is_late later at then after old.course Late else old.course) old.course new.course;
           last = λ status. SaysLast H.user_past H.hand (H.has_page out at status) held holds status old.course new.course;
         } };
 
@@ -95,7 +96,7 @@ impl<P, H: Effects<P>> Stepping<P, H::Outside> for Exchange<H> {
         × IsEnded (MayEnd by (H.ends exchange.holdings (may_come exchange.course Withdrawn))) (λ end. H.follows exchange.holdings out end holds)
         (H.answered exchange.holdings) (H.reusable exchange.holdings) old new };
 
-    ghost gives_back = { λ at. GivesBack
+    ghost gives_back = { λ at. ReturnsAll
         (λ old new. (held holds : H) × (out later : H.Outside)
         × IsGivenBack (H.puts held out later at) (H.gives_up held out later at) (H.stays held holds) (H.has_line held) old new)
         (λ old new. (held : H) × (out later : H.Outside) × IsHungUp (H.lays held out later at) (H.closes held out later at) old new) };

@@ -109,7 +109,8 @@ impl<H: Holder> Exchange<H> {
         H: Effects<P>,
         requires due { due_of self.old.course ≡ dues.Refuse status }
         ensures refused { Refuses (H.has_page out.old at.now status) (H.user_past self.old.holdings) (H.user_past self.new.holdings)
-            (H.hand self.old.holdings) (H.hand self.new.holdings) status self.new.course.phase }
+            (H.hand self.old.holdings) (H.hand self.new.holdings) status
+            (if H.is_late out.new at.now then after self.old.course Late else self.old.course) self.old.course self.new.course }
         ensures goes { Goes self.old.course self.new.course }
         ensures heeds { Heeds (H.is_late out.new at.now) self.new.course result }
         ensures rests { result ≡ Step.Waits → SaysOn (H.user_past self.old.holdings) (H.user_past self.new.holdings)

@@ -45,9 +45,10 @@ impl<H: Holder> Exchange<H> {
         ensures does { is_step task self.old.course ≡ true → Does (⟦<Self as Stepping<P, H::Outside>>⟧.does self.old out.old self.new out.new at.now) (due_of self.old.course) }
         ensures lost { task ≡ Task.Lose → IsLost (⟦<Self as Stepping<P, H::Outside>>⟧.ends_by EndedBy.User self.old out.old) (⟦<Self as Stepping<P, H::Outside>>⟧.gives_back at.now)
             self.old.course self.new.course }
-        ensures halts { task ≡ Task.Halt → is_closing self.old.course.phase ≡ false
+        // At a stop, who only closes goes on with that.
+        ensures halts { task ≡ Task.Halt → (is_closing self.old.course.phase ≡ true → self.new.course ≡ self.old.course) × (is_closing self.old.course.phase ≡ false
             → IsHalted (⟦<Self as Stepping<P, H::Outside>>⟧.ends_by EndedBy.Stop self.old out.old) (⟦<Self as Stepping<P, H::Outside>>⟧.gives_back at.now)
-            (H.answered self.old.holdings) (H.has_begun self.old.holdings) self.old.course self.new.course }
+            (H.answered self.old.holdings) (H.has_begun self.old.holdings) self.old.course self.new.course) }
         ensures leaves { task ≡ Task.TakeLeave → is_stopped self.old.course ≡ true → IsLeaving (⟦<Self as Stepping<P, H::Outside>>⟧.gives_back at.now) self.old.course self.new.course }
         // Who takes its leave gets what is left of the refusal that it is owed.
         ensures last { task ≡ Task.TakeLeave → is_stopped self.old.course ≡ true → (status : ℕ) → due_of self.old.course ≡ dues.TryRefusal status

@@ -11,7 +11,7 @@ ghost use Rattle.trace_core.specs.declared.history.Point.{Point as AnyPoint};
 ghost use Rattle.exchange_core.specs.Dues.{due_of, is_over};
 ghost use Rattle.exchange_core.specs.Log.{Goes};
 ghost use Rattle.shard_exchange.specs.Ends.{moves, Frees, Halts, is_stopped};
-ghost use Rattle.shard_exchange.specs.Leaving.{is_in_head, left_of, lost_of, stopped_of, IsHalted, IsLeaving, IsStopped, LastWord};
+ghost use Rattle.shard_exchange.specs.Leaving.{is_in_head, hung_up_of, lost_of, stopped_of, IsHalted, IsLeaving, IsStopped, LastWord};
 ghost use Rattle.shard_exchange.specs.Outcomes.{LeavesQueue, SaysLast};
 ghost use Rattle.shard_exchange.specs.Saying.{SaysOn, refusal_by};
 
@@ -43,7 +43,7 @@ impl<H: Holder> Exchange<H> {
         ensures goes { Goes self.old.course self.new.course }
         ensures frees { Frees self.old.course self.new.course }
         ensures line { self.new.course.connection ≡ self.old.course.connection }
-        ensures left { self.new.course ≡ left_of self.old.course }
+        ensures left { self.new.course ≡ hung_up_of self.old.course }
     {
         if self.course.may(Event::HungUp { kept: false }) {
             self.holdings.hang_up();
@@ -61,7 +61,7 @@ impl<H: Holder> Exchange<H> {
         ensures still { moves self.new.course ≡ false }
         ensures stops { Halts self.old.course self.new.course false }
         ensures ended { (mid : CourseState) × ⟦<Self as Stepping<P, H::Outside>>⟧.ends_by EndedBy.Stop self.old out.old self.old.course mid
-            × (self.new.course ≡ left_of mid) }
+            × (self.new.course ≡ hung_up_of mid) }
         ensures alone { H.answered self.old.holdings ≡ true → is_refusing self.new.course.phase ≡ false }
     {
         self.settle(rt, at, out, EndedBy::Stop);
@@ -97,7 +97,7 @@ impl<H: Holder> Exchange<H> {
         ensures still { moves self.new.course ≡ false }
         ensures stops { Halts self.old.course self.new.course (H.has_begun self.old.holdings) }
         ensures left { (point : AnyPoint) → self.old.course.phase ≡ InQueue point → is_in_queue self.new.course.phase ≡ false → (later : H.Outside) × H.leaves later at.now point }
-        ensures led { self.new.course ≡ left_of (stopped_of (is_in_head self.old.course.phase (H.has_begun self.old.holdings)) self.old.course) }
+        ensures led { self.new.course ≡ hung_up_of (stopped_of (is_in_head self.old.course.phase (H.has_begun self.old.holdings)) self.old.course) }
     {
         let is_in_head = self.is_in_head();
         self.note_refusal(at, out, is_in_head);

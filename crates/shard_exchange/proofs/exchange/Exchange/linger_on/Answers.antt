@@ -4,7 +4,7 @@ use Rattle.exchange_core.specs.declared.phase.Phase.TheVariants.{Gone}
 use Rattle.exchange_core.specs.declared.state.CourseState.{CourseState}
 use Rattle.exchange_core.specs.May.{is_at_gate, is_gone, is_moving}
 use Rattle.shard_exchange.specs.Ends.{moves}
-use Rattle.shard_exchange.specs.Leaving.{lost_of, GivesBack, IsLost}
+use Rattle.shard_exchange.specs.Leaving.{lost_of, ReturnsAll, IsLost}
 use Rattle.shard_exchange.proofs.exchange.Exchange.linger_on.Goals as goal
 
 -- no message of a user that is gone is on its way
@@ -14,9 +14,9 @@ still _ gone = cc
 
 -- so all that is held goes back as of a user that is lost
 lost_there : (ends returns hangs_up : CourseState → CourseState → Type 0) (old met new : CourseState) → moves old ≡ false → met ≡ old
-    → IsLost ends (GivesBack returns hangs_up) met new → GivesBack returns hangs_up (lost_of old) new
+    → IsLost ends (ReturnsAll returns hangs_up) met new → ReturnsAll returns hangs_up (lost_of old) new
 lost_there ends returns hangs_up old met new quiet same lost =
-    subst (λ (mid : CourseState). GivesBack returns hangs_up mid new)
+    subst (λ (mid : CourseState). ReturnsAll returns hangs_up mid new)
     (lost.unmoved (ap (λ (c : CourseState). moves c) same ∙ quiet) ∙ ap (λ (c : CourseState). lost_of c) same) lost.back
 
 pub returns-in-Over-clause-back : goal.returns-in-Over-clause-back
