@@ -1,7 +1,7 @@
 //! Connections of `icapd` over sockets on the loopback.
 
 use crate::streams::{gets, hears_end, say};
-use icapd_commands::{Settings, Shared, accept_one};
+use icapd_commands::{ServerShared, Settings, accept_one};
 use std::alloc::{AllocError, Global};
 use std::net::{Net, Shutdown, SocketAddr, TcpListener, TcpStream};
 use std::sync::{Arc, Wait};
@@ -22,10 +22,10 @@ const BAD_REQUEST: &[u8] = b"ICAP/1.0 400 Bad Request\r\nISTag: \"adapt-1\"\r\n\
 Encapsulated: null-body=0\r\n\r\n";
 
 /// What a server shares that takes one connection at a time, with this deadline.
-fn one_at_a_time(alloc: Global, deadline: u64) -> Result<Arc<Shared, Global>, AllocError> {
+fn one_at_a_time(alloc: Global, deadline: u64) -> Result<Arc<ServerShared, Global>, AllocError> {
     let tag = b"adapt-1".to_vec(alloc)?;
     match Settings::new(tag, 1, 3600, 1024) {
-        Some(settings) => Shared::new(alloc, settings, deadline),
+        Some(settings) => ServerShared::new(alloc, settings, deadline),
         None => Err(AllocError),
     }
 }
@@ -51,7 +51,7 @@ fn receives(stream: &TcpStream, want: &[u8], end: bool) -> io::Result<bool> {
 struct Server {
     listener: TcpListener,
     address: SocketAddr,
-    shared: Arc<Shared, Global>,
+    shared: Arc<ServerShared, Global>,
 }
 
 /// A server that takes one connection at a time, with this deadline.

@@ -2,7 +2,7 @@
 
 ghost use Rattle.std.specs.Prelude.{⊤};
 
-use crate::ports::{Ports, listeners};
+use crate::ports::{LoopbackPorts, listeners};
 use crate::streams::{gets, say};
 use event_loop::{
     AdminPorts, Admission, Admitted, Base, Driven, Ended, Entrance, Handed, Inbox, Question,
@@ -284,8 +284,8 @@ fn silent(rt: &HostRuntime, admin: SocketAddr) -> io::Result<Vec<Client>> {
 }
 
 /// Users, one after another, and administrators, after others that have taken all seats.
-fn users(rt: &HostRuntime, ports: Ports) -> io::Result<bool> {
-    let Ports { users: port, admin } = ports;
+fn users(rt: &HostRuntime, ports: LoopbackPorts) -> io::Result<bool> {
+    let LoopbackPorts { users: port, admin } = ports;
     let long =
         b"0123456789012345678901234567890123456789012345678901234567890123456789\n".as_slice();
     let hello = b"hello\n".as_slice();

@@ -6,7 +6,7 @@ use std::net::{Ipv4Addr, SocketAddr};
 
 /// Where users and the administrator connect.
 #[derive(Clone, Copy)]
-pub struct Ports {
+pub struct LoopbackPorts {
     pub users: SocketAddr,
     pub admin: SocketAddr,
 }
@@ -17,10 +17,10 @@ pub fn local() -> SocketAddr {
 }
 
 /// A listener for users and one for the administrator, and where they are.
-pub fn listeners(rt: &HostRuntime) -> io::Result<((TcpListener, TcpListener), Ports)> {
+pub fn listeners(rt: &HostRuntime) -> io::Result<((TcpListener, TcpListener), LoopbackPorts)> {
     let users = TcpListener::bind(rt, local())?;
     let admin = TcpListener::bind(rt, local())?;
-    let ports = Ports {
+    let ports = LoopbackPorts {
         users: users.local_addr()?,
         admin: admin.local_addr()?,
     };

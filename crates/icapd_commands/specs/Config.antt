@@ -11,8 +11,8 @@ use Rattle.icap_services.specs.Ranges.{IsTag}
 use Rattle.icap_services.specs.Texts.{Shown}
 use Rattle.adapt_bytes.specs.declared.limits.TheConstants.{MAX_CONNECTIONS, MAX_INPUT, MAX_PREVIEW}
 use Rattle.icapd_commands.specs.declared.config.TheConstants.{DEFAULT_DEADLINE, DEFAULT_MAX, DEFAULT_PREVIEW, DEFAULT_TTL, MAX_DEADLINE}
-use Rattle.icapd_commands.specs.declared.error.Error.{Error}
-use Rattle.icapd_commands.specs.declared.error.Error.TheVariants.{InputTooLong, Config as NoTable, NoMemory, Key as OfKey}
+use Rattle.icapd_commands.specs.declared.error.IcapdError.{IcapdError}
+use Rattle.icapd_commands.specs.declared.error.IcapdError.TheVariants.{InputTooLong, Config as NoTable, NoMemory, Key as OfKey}
 use Rattle.icapd_commands.specs.declared.error.Key.{Key}
 use Rattle.icapd_commands.specs.declared.error.Key.TheVariants.{Listen, Istag, Max, Ttl, Preview, Deadline, Unknown}
 
@@ -103,7 +103,7 @@ IsBad Deadline table = HasPreview table × ((n : ℕ) → DeadlineIs table n →
 IsBad (Unknown key) table = HasDeadline table × (IsKnown (string_bytes key) → ⊥)
 
 -- why a table is refused
-abbrev pub IsTableBad : Members → Error → Type 0
+abbrev pub IsTableBad : Members → IcapdError → Type 0
 IsTableBad table (OfKey key) = IsBad key table
 IsTableBad table NoMemory = Unit {0}
 IsTableBad table other = ⊥
@@ -116,7 +116,7 @@ pub record IsConfig (input : List ℕ) (address : SocketAddrV4) (s : Shown) (sec
   pub values : HasValues table address s seconds
 
 -- why a text is refused, the first that stands
-abbrev pub IsRefused : List ℕ → Error → Type 0
+abbrev pub IsRefused : List ℕ → IcapdError → Type 0
 IsRefused input InputTooLong = MAX_INPUT < length input
 IsRefused input NoTable = (length input ≤ MAX_INPUT) × (IsUtf8 input → parse_document input ≡ None)
 IsRefused input (OfKey key) = (length input ≤ MAX_INPUT) × ((table : Members) × (parse_document input ≡ Some table) × IsBad key table)

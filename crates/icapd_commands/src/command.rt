@@ -1,11 +1,11 @@
 //! The command that the arguments name.
 ghost use Rattle.std.specs.Prelude.{◌≡◌, map, string_bytes, IfSome, IfNone};
-ghost use Rattle.icapd_commands.specs.declared.command.Command.{Command as AnyCommand};
+ghost use Rattle.icapd_commands.specs.declared.command.IcapdCommand.{IcapdCommand as AnyCommand};
 ghost use Rattle.icapd_commands.specs.Command.{word_of, IsCommand};
 
 /// What the program is asked to do.
 #[derive(Clone, Copy, Debug)]
-pub enum Command {
+pub enum IcapdCommand {
     /// `once`: serves standard input as one connection.
     Once,
     /// `serve`: serves connections over sockets.
@@ -20,7 +20,7 @@ pub enum Command {
 
 /// The command that the arguments after the program's name give. `None` for an unknown word, or an argument too many or
 /// too few.
-pub fn read_command(args: &[String]) -> Option<Command>
+pub fn read_command(args: &[String]) -> Option<IcapdCommand>
     ensures found { IfSome result (IsCommand (map string_bytes args.now)) }
     ensures none { IfNone result ((command : AnyCommand) → IsCommand (map string_bytes args.now) command → ⊥) }
 {
@@ -31,20 +31,20 @@ pub fn read_command(args: &[String]) -> Option<Command>
 }
 
 /// The command of a word.
-fn command_of(word: &str) -> Option<Command>
+fn command_of(word: &str) -> Option<IcapdCommand>
     ensures found { IfSome result (λ command. word.now ≡ word_of command) }
     ensures none { IfNone result ((command : AnyCommand) → word.now ≡ word_of command → ⊥) }
 {
     if word == "once" {
-        Some(Command::Once)
+        Some(IcapdCommand::Once)
     } else if word == "serve" {
-        Some(Command::Serve)
+        Some(IcapdCommand::Serve)
     } else if word == "check" {
-        Some(Command::Check)
+        Some(IcapdCommand::Check)
     } else if word == "--help" {
-        Some(Command::Help)
+        Some(IcapdCommand::Help)
     } else if word == "--version" {
-        Some(Command::Version)
+        Some(IcapdCommand::Version)
     } else {
         None
     }

@@ -5,7 +5,7 @@ ghost use Rattle.toml.specs.View.{table_view};
 ghost use Rattle.icap_services.specs.Texts.{shown};
 ghost use Rattle.icapd_commands.specs.Config.{is_at, text_at, integer_at, ListenIs, TagIs, NumberIs, IsKnown, HasValues, IsTableBad, IsConfig, IsRefused};
 
-use crate::error::{Error, Key};
+use crate::error::{IcapdError, Key};
 use adapt_bytes::{MAX_CONNECTIONS, MAX_INPUT, MAX_PREVIEW};
 use icap_services::{MAX_TTL, Settings, is_tag};
 use std::alloc::Global;
@@ -39,7 +39,7 @@ pub(crate) const MAX_DEADLINE: u64 = 3600;
 /// assert_eq!(rt; (config.settings.max, config.deadline), (64, 60));
 /// ```
 #[derive(Drop)]
-pub struct Config {
+pub struct IcapdConfig {
     pub listen: SocketAddrV4,
     pub settings: Settings,
     pub deadline: u64,
@@ -50,58 +50,58 @@ pub struct Config {
 ///
 /// `InputTooLong` for more than [`MAX_INPUT`] bytes; `Config` for a text that is no UTF-8 or no TOML; `Key` with the first
 /// key that is missing and has no default, out of its range, or unknown; `NoMemory` where memory ran out.
-pub fn read_config(alloc: Global, input: &[u8]) -> Result<Config, Error>
+pub fn read_config(alloc: Global, input: &[u8]) -> Result<IcapdConfig, IcapdError>
     ensures ok { IfOk result (λ config. IsConfig input.now config.listen (shown config.settings) config.deadline) }
     ensures refused { IfErr result (IsRefused input.now) }
 {
     if input.len() > MAX_INPUT {
-        return Err(Error::InputTooLong);
+        return Err(IcapdError::InputTooLong);
     }
     match toml::table_from_slice(alloc, input) {
         Ok(table) => read_table(alloc, &table),
         Err(error) => {
             if error.is_memory() {
-                Err(Error::NoMemory)
+                Err(IcapdError::NoMemory)
             } else {
-                Err(Error::Config)
+                Err(IcapdError::Config)
             }
         }
     }
 }
 
 /// Reads the table of a configuration.
-fn read_table(alloc: Global, table: &Table) -> Result<Config, Error>
+fn read_table(alloc: Global, table: &Table) -> Result<IcapdConfig, IcapdError>
     ensures ok { IfOk result (λ config. HasValues (table_view table.now) config.listen (shown config.settings) config.deadline) }
     ensures refused { IfErr result (IsTableBad (table_view table.now)) }
 {
     let Some(listen) = listen_of(table) else {
-        return Err(Error::Key(Key::Listen));
+        return Err(IcapdError::Key(Key::Listen));
     };
     let Some(istag) = tag_of(table) else {
-        return Err(Error::Key(Key::Istag));
+        return Err(IcapdError::Key(Key::Istag));
     };
     let Some(max) = number_of(table, "max", 1, MAX_CONNECTIONS, DEFAULT_MAX) else {
-        return Err(Error::Key(Key::Max));
+        return Err(IcapdError::Key(Key::Max));
     };
     let Some(ttl) = number_of(table, "ttl", 0, MAX_TTL, DEFAULT_TTL) else {
-        return Err(Error::Key(Key::Ttl));
+        return Err(IcapdError::Key(Key::Ttl));
     };
     let Some(preview) = number_of(table, "preview", 0, MAX_PREVIEW, DEFAULT_PREVIEW) else {
-        return Err(Error::Key(Key::Preview));
+        return Err(IcapdError::Key(Key::Preview));
     };
     let Some(deadline) = number_of(table, "deadline", 1, MAX_DEADLINE, DEFAULT_DEADLINE) else {
-        return Err(Error::Key(Key::Deadline));
+        return Err(IcapdError::Key(Key::Deadline));
     };
     if let Some(key) = unknown_of(table) {
         return match String::from_str(alloc, key) {
-            Ok(key) => Err(Error::Key(Key::Unknown(key))),
-            Err(_) => Err(Error::NoMemory),
+            Ok(key) => Err(IcapdError::Key(Key::Unknown(key))),
+            Err(_) => Err(IcapdError::NoMemory),
         };
     }
     let Ok(istag) = istag.to_vec(alloc) else {
-        return Err(Error::NoMemory);
+        return Err(IcapdError::NoMemory);
     };
-    Ok(Config {
+    Ok(IcapdConfig {
         listen,
         settings: Settings {
             istag,

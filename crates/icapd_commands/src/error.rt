@@ -7,7 +7,7 @@ use std::io::{self, Write};
 
 /// Why the program ends without an answer: its line on standard error, and its exit status.
 #[derive(Drop)]
-pub enum Error {
+pub enum IcapdError {
     /// The arguments name no command.
     Usage,
     /// Standard input couldn't be read.
@@ -56,20 +56,20 @@ impl Key {
     }
 }
 
-impl Error {
+impl IcapdError {
     /// The reason, without a key.
     fn reason(&self) -> &'static [u8]
         ensures { result.now ≡ reason_text self.now }
     {
         match self {
-            Error::Usage => b"usage",
-            Error::ReadFailed => b"read failed",
-            Error::WriteFailed => b"write failed",
-            Error::InputTooLong => b"input too long",
-            Error::Config => b"config",
-            Error::Key(_) => b"config ",
-            Error::CannotListen => b"cannot listen",
-            Error::NoMemory => b"out of memory",
+            IcapdError::Usage => b"usage",
+            IcapdError::ReadFailed => b"read failed",
+            IcapdError::WriteFailed => b"write failed",
+            IcapdError::InputTooLong => b"input too long",
+            IcapdError::Config => b"config",
+            IcapdError::Key(_) => b"config ",
+            IcapdError::CannotListen => b"cannot listen",
+            IcapdError::NoMemory => b"out of memory",
         }
     }
 
@@ -78,20 +78,26 @@ impl Error {
         ensures { result ≡ status_of self.now }
     {
         match self {
-            Error::ReadFailed | Error::WriteFailed | Error::NoMemory | Error::CannotListen => 1,
-            Error::Usage | Error::InputTooLong | Error::Config | Error::Key(_) => 2,
+            IcapdError::ReadFailed
+            | IcapdError::WriteFailed
+            | IcapdError::NoMemory
+            | IcapdError::CannotListen => 1,
+            IcapdError::Usage
+            | IcapdError::InputTooLong
+            | IcapdError::Config
+            | IcapdError::Key(_) => 2,
         }
     }
 }
 
 /// Writes the line for standard error: `icapd: `, the reason and LF.
-pub fn put_error<W: Write>(error: &Error, errors: &mut W) -> io::Result<()>
+pub fn put_error<W: Write>(error: &IcapdError, errors: &mut W) -> io::Result<()>
     ensures { OnOk result (Appends (W.contents errors.old) (W.contents errors.new) (error_text error.now)) }
 {
     errors.write_all(b"icapd: ")?;
     errors.write_all(error.reason())?;
     match error {
-        Error::Key(key) => errors.write_all(key.text())?,
+        IcapdError::Key(key) => errors.write_all(key.text())?,
         _ => {}
     }
     errors.write_all(b"\n")?;

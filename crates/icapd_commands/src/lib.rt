@@ -13,10 +13,10 @@ mod seats;
 mod sockets;
 mod standard_input;
 
-pub use command::{Command, read_command};
-pub use config::{Config, read_config};
-pub use error::{Error, Key, put_error};
+pub use command::{IcapdCommand, read_command};
+pub use config::{IcapdConfig, read_config};
+pub use error::{IcapdError, Key, put_error};
 pub use icap_services::Settings;
-pub use places::Shared;
+pub use places::ServerShared;
 pub use sockets::{accept_one, serve_sockets};
 pub use standard_input::{once, read_input};

@@ -1,5 +1,5 @@
 //! What the threads of `icapd serve` share: the seats of the connections, and the connections that wait for a thread.
-use crate::seats::Seats;
+use crate::seats::ConnectionSeats;
 use icap_server::{NoMemory, Settings};
 use std::alloc::Global;
 use std::net::{Shutdown, TcpStream};
@@ -19,7 +19,7 @@ pub struct Seated {
 /// What lies under the lock.
 #[derive(Drop)]
 struct Open {
-    seats: Seats,
+    seats: ConnectionSeats,
     /// The connection of each seat.
     streams: Vec<Option<Arc<TcpStream, Global>>>,
     /// Connections that a waiting thread is to serve.
@@ -44,7 +44,7 @@ impl Open {
 
 /// What the threads of all connections share.
 #[derive(Drop)]
-pub struct Shared {
+pub struct ServerShared {
     pub settings: Settings,
     /// Seconds after which a connection is closed that says nothing, or whose request's heads or last answer take longer.
     pub deadline: u64,
@@ -55,26 +55,26 @@ pub struct Shared {
     came: Condvar,
 }
 
-impl Shared {
+impl ServerShared {
     /// A server with these settings, and no connection. `NoMemory` if it finds no memory.
     pub fn new(
         alloc: Global,
         settings: Settings,
         deadline: u64,
-    ) -> Result<Arc<Shared, Global>, NoMemory> {
+    ) -> Result<Arc<ServerShared, Global>, NoMemory> {
         let max = settings.max as usize;
         let mut streams = Vec::with_capacity(alloc, max)?;
         for _ in 0..max {
             streams.push(None)?;
         }
         let open = Open {
-            seats: Seats::new(alloc, max)?,
+            seats: ConnectionSeats::new(alloc, max)?,
             streams,
             given: Vec::with_capacity(alloc, max)?,
             spare: 0,
             is_full: false,
         };
-        let shared = Shared {
+        let shared = ServerShared {
             settings,
             deadline,
             open: Mutex::new(open),

@@ -21,7 +21,7 @@ pub enum Doing {
 
 /// The seats, and how often one of their connections began to wait.
 #[derive(Drop)]
-pub struct Seats {
+pub struct ConnectionSeats {
     all: Vec<Doing>,
     turn: u64,
 }
@@ -60,13 +60,13 @@ fn longer(found: Option<Waiter>, next: Waiter) -> Waiter
     }
 }
 
-impl Seats {
+impl ConnectionSeats {
     /// `count` free seats. `Err` if no memory was found for them.
-    pub fn new(alloc: Global, count: usize) -> Result<Seats, AllocError>
+    pub fn new(alloc: Global, count: usize) -> Result<ConnectionSeats, AllocError>
         ensures { IfOk result (λ seats. seats.all.items ≡ replicate count Doing.Nothing) }
     {
         let all = Vec::from_elem(alloc, Doing::Nothing, count)?;
-        Ok(Seats { all, turn: 0 })
+        Ok(ConnectionSeats { all, turn: 0 })
     }
 
     /// A free seat.

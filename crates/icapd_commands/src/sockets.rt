@@ -1,7 +1,7 @@
 //! `icapd serve`: connections over sockets, each in a thread that serves one after another, and no more at once than are
 //! configured.
 use crate::patience::{Patience, wait_at_most};
-use crate::places::{Seated, Shared};
+use crate::places::{Seated, ServerShared};
 use icap_server::ServerSide;
 use std::alloc::Global;
 use std::io::{Read, Write};
@@ -41,7 +41,7 @@ pub fn serve_sockets<R: Threads + Wait + Clock + Copy + Send + 'static>(
     rt: R,
     alloc: Global,
     listener: &TcpListener,
-    shared: &Arc<Shared, Global>,
+    shared: &Arc<ServerShared, Global>,
 ) {
     for _ in rt.forever() {
         accept_one(rt, alloc, listener, shared);
@@ -53,7 +53,7 @@ pub fn accept_one<R: Threads + Wait + Clock + Copy + Send + 'static>(
     rt: R,
     alloc: Global,
     listener: &TcpListener,
-    shared: &Arc<Shared, Global>,
+    shared: &Arc<ServerShared, Global>,
 ) {
     match listener.accept() {
         Ok((stream, _)) => start(rt, alloc, shared, stream),
@@ -66,7 +66,7 @@ pub fn accept_one<R: Threads + Wait + Clock + Copy + Send + 'static>(
 fn start<R: Threads + Wait + Clock + Copy + Send + 'static>(
     rt: R,
     alloc: Global,
-    shared: &Arc<Shared, Global>,
+    shared: &Arc<ServerShared, Global>,
     stream: TcpStream,
 ) {
     let Ok(stream) = Arc::new(alloc, stream) else {
@@ -91,7 +91,7 @@ fn start<R: Threads + Wait + Clock + Copy + Send + 'static>(
 }
 
 /// A thread: serves a connection, and those that it is given after it.
-fn serve_all<R: Wait + Clock>(rt: &R, alloc: Global, shared: &Shared, first: Seated) {
+fn serve_all<R: Wait + Clock>(rt: &R, alloc: Global, shared: &ServerShared, first: Seated) {
     let mut seated = first;
     for _ in rt.forever() {
         let Seated { key, stream } = seated;
@@ -106,7 +106,7 @@ fn serve_all<R: Wait + Clock>(rt: &R, alloc: Global, shared: &Shared, first: Sea
 fn serve_stream<R: Wait + Clock>(
     rt: &R,
     alloc: Global,
-    shared: &Shared,
+    shared: &ServerShared,
     key: usize,
     stream: &TcpStream,
 ) {

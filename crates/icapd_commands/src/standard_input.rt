@@ -6,27 +6,27 @@ ghost use Rattle.icapd_commands.specs.Once.{default_shown};
 ghost use Rattle.icap_services.specs.Texts.{shown};
 
 use crate::config::{DEFAULT_MAX, DEFAULT_PREVIEW, DEFAULT_TAG, DEFAULT_TTL};
-use crate::error::Error;
+use crate::error::IcapdError;
 use adapt_bytes::MAX_INPUT;
 use icap_server::{NoMemory, ServeFault, Settings, serve};
 use std::alloc::Global;
 use std::io::{self, ErrorKind, Read, Write};
 
 /// The error that a failed read ends the program with: want of memory, or a failed read.
-fn read_error(error: &io::Error) -> Error
-    ensures { (result ≡ Error.NoMemory) ⊎ (result ≡ Error.ReadFailed) }
+fn read_error(error: &io::Error) -> IcapdError
+    ensures { (result ≡ IcapdError.NoMemory) ⊎ (result ≡ IcapdError.ReadFailed) }
 {
     if error.kind() == ErrorKind::OutOfMemory {
-        Error::NoMemory
+        IcapdError::NoMemory
     } else {
-        Error::ReadFailed
+        IcapdError::ReadFailed
     }
 }
 
 /// Reads to the end, but no more than one byte past [`MAX_INPUT`].
-pub fn read_input<R: Read + Drop>(alloc: Global, reader: R) -> Result<Vec<u8>, Error>
+pub fn read_input<R: Read + Drop>(alloc: Global, reader: R) -> Result<Vec<u8>, IcapdError>
     ensures read { IfOk result (λ input. IfSome (R.remaining reader) (λ bytes. input.items ≡ take (MAX_INPUT + 1) bytes)) }
-    ensures failed { IfErr result (λ error. (error ≡ Error.NoMemory) ⊎ (error ≡ Error.ReadFailed)) }
+    ensures failed { IfErr result (λ error. (error ≡ IcapdError.NoMemory) ⊎ (error ≡ IcapdError.ReadFailed)) }
 {
     let mut input = Vec::new(alloc);
     match reader.take(MAX_INPUT as u64 + 1).read_to_end(&mut input) {
@@ -55,17 +55,17 @@ pub fn once<R: Read + Drop, W: Write>(
     alloc: Global,
     mut reader: R,
     writer: &mut W,
-) -> Result<(), Error>
+) -> Result<(), IcapdError>
     ensures all { OnOk result (AnswersAll default_shown (R.remaining reader) (W.contents writer.old) (W.contents writer.new)) }
-    ensures failed { IfErr result (λ error. (error ≡ Error.NoMemory) ⊎ (error ≡ Error.ReadFailed) ⊎ (error ≡ Error.WriteFailed)) }
+    ensures failed { IfErr result (λ error. (error ≡ IcapdError.NoMemory) ⊎ (error ≡ IcapdError.ReadFailed) ⊎ (error ≡ IcapdError.WriteFailed)) }
 {
     let Ok(settings) = default_settings(alloc) else {
-        return Err(Error::NoMemory);
+        return Err(IcapdError::NoMemory);
     };
     match serve(alloc, settings, &mut reader, writer) {
         Ok(()) => Ok(()),
-        Err(ServeFault::Read) => Err(Error::ReadFailed),
-        Err(ServeFault::Write) => Err(Error::WriteFailed),
-        Err(ServeFault::NoMemory) => Err(Error::NoMemory),
+        Err(ServeFault::Read) => Err(IcapdError::ReadFailed),
+        Err(ServeFault::Write) => Err(IcapdError::WriteFailed),
+        Err(ServeFault::NoMemory) => Err(IcapdError::NoMemory),
     }
 }

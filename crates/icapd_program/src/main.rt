@@ -6,8 +6,8 @@
 mod texts;
 
 use icapd_commands::{
-    Command, Config, Error, Shared, once, put_error, read_command, read_config, read_input,
-    serve_sockets,
+    IcapdCommand, IcapdConfig, IcapdError, ServerShared, once, put_error, read_command,
+    read_config, read_input, serve_sockets,
 };
 use std::alloc::Global;
 use std::env;
@@ -18,74 +18,74 @@ use std::sync::Arc;
 use texts::{HELP, VERSION};
 
 /// The arguments after the program's name.
-fn arguments(rt: &HostRuntime) -> Result<Vec<String>, Error> {
+fn arguments(rt: &HostRuntime) -> Result<Vec<String>, IcapdError> {
     let mut args = Vec::new(rt.alloc());
     let all = match env::args(rt) {
         Ok(all) => all,
-        Err(error) if error.kind() == ErrorKind::OutOfMemory => return Err(Error::NoMemory),
-        Err(_) => return Err(Error::Usage),
+        Err(error) if error.kind() == ErrorKind::OutOfMemory => return Err(IcapdError::NoMemory),
+        Err(_) => return Err(IcapdError::Usage),
     };
     for arg in all.skip(1) {
         if args.push(arg).is_err() {
-            return Err(Error::NoMemory);
+            return Err(IcapdError::NoMemory);
         }
     }
     Ok(args)
 }
 
 /// Reads the configuration.
-fn configuration(rt: &HostRuntime) -> Result<Config, Error> {
+fn configuration(rt: &HostRuntime) -> Result<IcapdConfig, IcapdError> {
     let input = read_input(rt.alloc(), rt.stdin())?;
     read_config(rt.alloc(), input.as_slice())
 }
 
 /// Writes all of a text.
-fn say(rt: &HostRuntime, text: &[u8]) -> Result<(), Error> {
+fn say(rt: &HostRuntime, text: &[u8]) -> Result<(), IcapdError> {
     let mut output = rt.stdout();
     if output.write_all(text).is_err() || output.flush().is_err() {
-        return Err(Error::WriteFailed);
+        return Err(IcapdError::WriteFailed);
     }
     Ok(())
 }
 
 /// Reads the configuration, and says that it is one.
-fn check(rt: &HostRuntime) -> Result<(), Error> {
+fn check(rt: &HostRuntime) -> Result<(), IcapdError> {
     configuration(rt)?;
     say(rt, b"ok\n")
 }
 
 /// Reads the configuration, listens, and says so.
-fn listen(rt: &HostRuntime) -> Result<(TcpListener, Arc<Shared, Global>), Error> {
-    let Config {
+fn listen(rt: &HostRuntime) -> Result<(TcpListener, Arc<ServerShared, Global>), IcapdError> {
+    let IcapdConfig {
         listen,
         settings,
         deadline,
     } = configuration(rt)?;
     let Ok(listener) = TcpListener::bind(rt, SocketAddr::V4(listen)) else {
-        return Err(Error::CannotListen);
+        return Err(IcapdError::CannotListen);
     };
-    let Ok(shared) = Shared::new(rt.alloc(), settings, deadline) else {
-        return Err(Error::NoMemory);
+    let Ok(shared) = ServerShared::new(rt.alloc(), settings, deadline) else {
+        return Err(IcapdError::NoMemory);
     };
     say(rt, b"listening\n")?;
     Ok((listener, shared))
 }
 
 /// What a command asks for, but for `serve`.
-fn perform(rt: &HostRuntime, command: Command) -> Result<(), Error> {
+fn perform(rt: &HostRuntime, command: IcapdCommand) -> Result<(), IcapdError> {
     match command {
-        Command::Once => once(rt.alloc(), rt.stdin(), &mut rt.stdout()),
-        Command::Check => check(rt),
-        Command::Help => say(rt, HELP),
-        Command::Version => say(rt, VERSION),
-        Command::Serve => Ok(()),
+        IcapdCommand::Once => once(rt.alloc(), rt.stdin(), &mut rt.stdout()),
+        IcapdCommand::Check => check(rt),
+        IcapdCommand::Help => say(rt, HELP),
+        IcapdCommand::Version => say(rt, VERSION),
+        IcapdCommand::Serve => Ok(()),
     }
 }
 
 fn main(rt: HostRuntime) -> ExitCode {
     let ended = match arguments(&rt) {
         Ok(args) => match read_command(args.as_slice()) {
-            Some(Command::Serve) => match listen(&rt) {
+            Some(IcapdCommand::Serve) => match listen(&rt) {
                 Ok((listener, shared)) => {
                     serve_sockets(rt, rt.alloc(), &listener, &shared);
                     Ok(())
@@ -93,7 +93,7 @@ fn main(rt: HostRuntime) -> ExitCode {
                 Err(error) => Err(error),
             },
             Some(command) => perform(&rt, command),
-            None => Err(Error::Usage),
+            None => Err(IcapdError::Usage),
         },
         Err(error) => Err(error),
     };

@@ -23,12 +23,12 @@ pub trait BenchBudget {
 
 /// A bank as such a budget.
 #[derive(Drop)]
-pub struct OnBank<'a, B: Ledgers, R> {
+pub struct BenchBank<'a, B: Ledgers, R> {
     pub rt: &'a R,
     pub bank: &'a Bank<B>,
 }
 
-impl<'a, B: Ledgers, R: Wait + Clock> BenchBudget for OnBank<'a, B, R> {
+impl<'a, B: Ledgers, R: Wait + Clock> BenchBudget for BenchBank<'a, B, R> {
     fn time_pairs(&self, rounds: u32) -> Result<Duration> {
         time_pairs(self.rt, self.bank, rounds)
     }

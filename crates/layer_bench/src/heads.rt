@@ -3,35 +3,35 @@
 use crate::answers::{TEN_FIELDS, THIRTY_FIELDS, as_http};
 use crate::nanos_each;
 use crate::requests::{REQUEST, hostile_request};
-use crate::work::{Work, Written};
+use crate::work::{HeadWork, Written};
 use anyhow::{Result, bail};
 use std::alloc::Global;
 use std::time::{Clock, Instant};
 
 /// What is done with a request's head, in words.
-const OF_A_REQUEST: [(Work, &str); 3] = [
-    (Work::ParseRequest, "a request's head by httparse alone"),
-    (Work::ReadRequest(Written::None), "a request's head"),
+const OF_A_REQUEST: [(HeadWork, &str); 3] = [
+    (HeadWork::ParseRequest, "a request's head by httparse alone"),
+    (HeadWork::ReadRequest(Written::None), "a request's head"),
     (
-        Work::ReadRequest(Written::Both),
+        HeadWork::ReadRequest(Written::Both),
         "a request's head, and both written",
     ),
 ];
 
 /// What is done with that of a request whose Connection has as many items as fit, in words.
-const OF_MANY_ITEMS: [(Work, &str); 2] = [
+const OF_MANY_ITEMS: [(HeadWork, &str); 2] = [
     (
-        Work::ReadRequest(Written::None),
+        HeadWork::ReadRequest(Written::None),
         "a request's head of 7,974 items",
     ),
     (
-        Work::ReadRequest(Written::One),
+        HeadWork::ReadRequest(Written::One),
         "a request's head of 7,974 items, and one written",
     ),
 ];
 
 /// Does a work on a text again and again, and sums the bytes.
-fn repeat(alloc: Global, work: Work, text: &[u8], times: u32) -> u64 {
+fn repeat(alloc: Global, work: HeadWork, text: &[u8], times: u32) -> u64 {
     let mut bytes: u64 = 0;
     for _ in 0..times {
         bytes = bytes.saturating_add(work.once(alloc, text) as u64);
@@ -43,7 +43,7 @@ fn repeat(alloc: Global, work: Work, text: &[u8], times: u32) -> u64 {
 fn time_work<R: Clock + Eprint>(
     rt: &R,
     alloc: Global,
-    work: Work,
+    work: HeadWork,
     words: &str,
     text: &[u8],
     times: u32,
@@ -63,7 +63,7 @@ fn time_work<R: Clock + Eprint>(
 fn time_all<R: Clock + Eprint>(
     rt: &R,
     alloc: Global,
-    works: &[(Work, &str)],
+    works: &[(HeadWork, &str)],
     text: &[u8],
     times: u32,
 ) -> Result<()> {
@@ -80,8 +80,8 @@ fn time_answer<R: Clock + Eprint>(rt: &R, alloc: Global, text: &[u8], times: u32
         "a response's head by httparse alone",
         "a service's response's head",
     );
-    time_work(rt, alloc, Work::ParseResponse, alone, &http, times)?;
-    time_work(rt, alloc, Work::ReadResponse, read, text, times)
+    time_work(rt, alloc, HeadWork::ParseResponse, alone, &http, times)?;
+    time_work(rt, alloc, HeadWork::ReadResponse, read, text, times)
 }
 
 /// Prints how long each head takes. The one with thousands of items is read a thousandth as often.

@@ -16,11 +16,11 @@ mod task;
 mod threads;
 mod work;
 
-use crate::bench_budget::{BenchBudget, OnBank};
+use crate::bench_budget::{BenchBank, BenchBudget};
 use crate::budget::time_budget;
 use crate::chunks::time_chunks;
 use crate::heads::time_heads;
-use crate::task::{Layer, Task, read_tasks};
+use crate::task::{Layer, Measurement, read_tasks};
 use anyhow::{Result, bail};
 use span_bank::{Bank, Blanks, Ledgers};
 use std::alloc::Global;
@@ -44,7 +44,7 @@ fn measure<P: BenchBudget + Sync, R: Threads + Clock + Print + Eprint + Sync>(
     rt: &R,
     alloc: Global,
     budget: &P,
-    task: Task,
+    task: Measurement,
 ) -> Result<()> {
     match task.layer {
         Layer::Chunks => time_chunks(rt, alloc, task.times),
@@ -58,7 +58,7 @@ fn measure_all<'a, B: Ledgers + Send + Sync, R: Threads + Wait + Clock + Print +
     rt: &'a R,
     alloc: Global,
     bank: &'a Bank<B>,
-    tasks: &[Task],
+    tasks: &[Measurement],
 ) -> Result<()>
 where
     B::Held: Send + Sync,
@@ -67,7 +67,7 @@ where
     B::Pages: Send + Sync,
 {
     for task in tasks {
-        measure(rt, alloc, &OnBank { rt, bank }, *task)?;
+        measure(rt, alloc, &BenchBank { rt, bank }, *task)?;
     }
     Ok(())
 }
@@ -90,7 +90,7 @@ fn run<
     S: Ledger + Send + Sync,
     P: Ledger + Send + Sync,
     R: Threads + Wait + Clock + Print + Eprint + Sync,
->(rt: &R, alloc: Global, blanks: Blanks, tasks: &[Task]) -> Result<()>
+>(rt: &R, alloc: Global, blanks: Blanks, tasks: &[Measurement]) -> Result<()>
     requires held { (blanks.held.name ≡ H.name) × (blanks.held.parts ≡ H.parts) × (blanks.held.parts ≡ 5) }
     requires free { (blanks.free.name ≡ F.name) × (blanks.free.parts ≡ F.parts) × (blanks.free.parts ≡ 5) }
     requires slack { (blanks.slack.name ≡ S.name) × (blanks.slack.parts ≡ S.parts) × (blanks.slack.parts ≡ 5) }

@@ -19,7 +19,7 @@ pub enum Layer {
 
 /// What is measured, and how often.
 #[derive(Clone, Copy)]
-pub struct Task {
+pub struct Measurement {
     pub layer: Layer,
     /// At least 1.
     pub times: u32,
@@ -50,7 +50,7 @@ fn times_of(word: &str) -> Option<u32> {
 
 /// The tasks that the arguments name, each by two words. `None` if there is no word or another one. An error if no memory is
 /// found.
-pub fn read_tasks(rt: &(impl Env + Alloc), alloc: Global) -> Result<Option<Vec<Task>>> {
+pub fn read_tasks(rt: &(impl Env + Alloc), alloc: Global) -> Result<Option<Vec<Measurement>>> {
     let args = match env::args(rt) {
         Ok(args) => args,
         Err(error) if error.kind() == ErrorKind::OutOfMemory => return Err(error.into()),
@@ -70,7 +70,7 @@ pub fn read_tasks(rt: &(impl Env + Alloc), alloc: Global) -> Result<Option<Vec<T
                 let Some(times) = times_of(word.as_str()) else {
                     return Ok(None);
                 };
-                tasks.push(Task { layer, times })?;
+                tasks.push(Measurement { layer, times })?;
                 begun = None;
             }
         }

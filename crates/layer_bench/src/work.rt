@@ -11,7 +11,7 @@ use std::alloc::Global;
 
 /// What is done with a head.
 #[derive(Clone, Copy)]
-pub enum Work {
+pub enum HeadWork {
     /// `httparse` alone parses a request's.
     ParseRequest,
     /// A request's is read, and these heads are written of it.
@@ -96,19 +96,19 @@ fn read_answer(alloc: Global, text: &[u8]) -> usize {
     }
 }
 
-impl Work {
+impl HeadWork {
     /// Does it once. How many bytes the heads have that were read, or written.
     pub fn once(self, alloc: Global, text: &[u8]) -> usize {
         match self {
-            Work::ParseRequest => parsed_request(text),
-            Work::ReadRequest(written) => read_or_written(alloc, text, written),
-            Work::ParseResponse => parsed_response(text),
-            Work::ReadResponse => read_answer(alloc, text),
+            HeadWork::ParseRequest => parsed_request(text),
+            HeadWork::ReadRequest(written) => read_or_written(alloc, text, written),
+            HeadWork::ParseResponse => parsed_response(text),
+            HeadWork::ReadResponse => read_answer(alloc, text),
         }
     }
 
     /// Whether it only reads, so that the bytes are those of the text.
     pub fn only_reads(self) -> bool {
-        !matches!(self, Work::ReadRequest(Written::One | Written::Both))
+        !matches!(self, HeadWork::ReadRequest(Written::One | Written::Both))
     }
 }

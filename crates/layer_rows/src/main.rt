@@ -14,6 +14,7 @@ mod grammars;
 mod listed;
 mod questions;
 mod resources;
+mod row_bank;
 mod stage;
 mod tasks;
 mod told;

@@ -7,6 +7,6 @@ mod sides;
 mod told;
 
 pub use beginning::{BEGIN, begin, game_size};
-pub use game::{Game, Played, Remains};
-pub use sides::{Subject, Wires};
-pub use told::{Counted, Recorded, Told, WireRecord};
+pub use game::{Game, GameOnBank, GameRemains};
+pub use sides::{GameWires, Subject};
+pub use told::{CountedMemoryWire, GameReport, Recorded, WireRecord};

@@ -3,7 +3,7 @@ use std::thread;
 use std::thread::Threads;
 
 /// What a thread does with what it shares with others.
-pub trait Task {
+pub trait ThreadTask {
     /// What it has at the end.
     type Kept;
 
@@ -15,7 +15,7 @@ pub trait Task {
 pub type Four<K> = ((K, K), (K, K));
 
 /// What two threads have.
-pub fn two<S: Task + Sync, T: Task + Sync, R: Threads + Sync>(
+pub fn two<S: ThreadTask + Sync, T: ThreadTask + Sync, R: Threads + Sync>(
     rt: &R,
     first: &S,
     second: &T,
@@ -28,7 +28,7 @@ where
 }
 
 /// What four threads have that do the same.
-pub fn four<T: Task + Sync, R: Threads + Sync>(rt: &R, task: &T) -> Four<T::Kept>
+pub fn four<T: ThreadTask + Sync, R: Threads + Sync>(rt: &R, task: &T) -> Four<T::Kept>
 where
     T::Kept: Send,
 {

@@ -1,4 +1,4 @@
-pub mod Came
+pub mod ProbeOutcome
 pub mod Messages
 pub mod Samples
 pub mod Text

@@ -1,7 +1,7 @@
 //! One message that a service is tried with.
 
 use crate::bench::Bench;
-use crate::finding::{Came, Fault, Finding};
+use crate::finding::{Fault, Finding, ProbeOutcome};
 use crate::lane::{Lane, connection_of};
 use crate::line::{ProbeLine, ProbedConnection};
 use crate::prepared::{Prepared, prepare};
@@ -29,7 +29,7 @@ type Ways = (TextWire, Tap<ServiceWire>, TextWire);
 /// How a service answered once.
 #[derive(Drop)]
 pub struct ProbeAttempt {
-    pub came: Came,
+    pub came: ProbeOutcome,
     /// The microseconds from the first byte of the request to the last one of the answer.
     pub micros: u64,
     /// Whether the connection may carry another request.
@@ -39,7 +39,7 @@ pub struct ProbeAttempt {
 /// An attempt for which no connection was had, or that this machine failed.
 pub fn failed(alloc: Global, fault: Fault) -> ProbeAttempt {
     ProbeAttempt {
-        came: Came::Broken(Finding {
+        came: ProbeOutcome::Broken(Finding {
             fault,
             at: 0,
             octets: Vec::new(alloc),

@@ -3,7 +3,7 @@
 ghost use Rattle.std.specs.Prelude.{◌≡◌, ◌≤◌, ◌++◌, ◌&&◌, ◌==◌, nat_lt, IfSome, OnOk};
 ghost use Rattle.std.specs.Option.{ForSome};
 ghost use Rattle.adapt_bytes.specs.declared.limits.TheConstants.{MAX_PREVIEW};
-ghost use Rattle.service_probe.specs.Came.{counted_text, tally_text};
+ghost use Rattle.service_probe.specs.ProbeOutcome.{counted_text, tally_text};
 
 use crate::attempt::{ProbeAttempt, try_sample};
 use crate::choice::SampleChoice;
@@ -64,7 +64,7 @@ impl Tally {
 }
 
 /// Adds a number, and words.
-#[tactic(auto, unfolding(crate::specs::Came::counted_text))]
+#[tactic(auto, unfolding(crate::specs::ProbeOutcome::counted_text))]
 fn put_counted(out: &mut Vec<u8>, number: u64, words: &[u8]) -> Result<(), AllocError>
     ensures { OnOk result (out.new.items ≡ out.old.items ++ counted_text number words.now) }
 {

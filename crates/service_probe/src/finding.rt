@@ -1,7 +1,7 @@
 //! What came of a message that a service was tried with.
 
 ghost use Rattle.std.specs.Prelude.{◌≡◌};
-ghost use Rattle.service_probe.specs.Came.{fault_words, fault_of_side};
+ghost use Rattle.service_probe.specs.ProbeOutcome.{fault_words, fault_of_side};
 
 use adapt_sides::ClientFault;
 use options_book::OptFault;
@@ -111,7 +111,7 @@ pub struct Finding {
 
 /// What came of a message.
 #[derive(Drop)]
-pub enum Came {
+pub enum ProbeOutcome {
     /// An answer to OPTIONS that serves.
     Options,
     /// 204: the message goes on as it is.
@@ -133,9 +133,9 @@ pub enum Came {
     Broken(Finding),
 }
 
-impl Came {
+impl ProbeOutcome {
     /// Whether the service answered by the rules.
     pub fn is_good(&self) -> bool {
-        !matches!(self, Came::Broken(_))
+        !matches!(self, ProbeOutcome::Broken(_))
     }
 }

@@ -25,6 +25,6 @@ mod verdict;
 pub use attempt::ProbeAttempt;
 pub use bench::{Bench, probe};
 pub use choice::{MAX_COUNT, SampleChoice, read_choice};
-pub use finding::{Came, Fault, Finding};
+pub use finding::{Fault, Finding, ProbeOutcome};
 pub use report::{ConnectionUse, put_attempt};
 pub use samples::{SAMPLES, Sample};

@@ -3,7 +3,7 @@
 use crate::attempt::{ProbeAttempt, failed, micros_since};
 use crate::bench::Bench;
 use crate::excerpt::{find, find_in_options};
-use crate::finding::{Came, Fault, Finding};
+use crate::finding::{Fault, Finding, ProbeOutcome};
 use crate::lane::{Lane, connection_of};
 use crate::line::{ProbeLine, ProbedConnection};
 use crate::tap::Tap;
@@ -140,8 +140,8 @@ fn judge<W>(
 /// What is told by what was made of an answer that came after so many microseconds.
 fn told_of(judged: Judged, micros: u64) -> OptionsAnswer {
     let (came, serves, said) = match judged {
-        Judged::Serves(said, serves) => (Came::Options, serves, Some(said)),
-        Judged::Broken(found) => (Came::Broken(found), false, None),
+        Judged::Serves(said, serves) => (ProbeOutcome::Options, serves, Some(said)),
+        Judged::Broken(found) => (ProbeOutcome::Broken(found), false, None),
     };
     OptionsAnswer {
         attempt: ProbeAttempt {

@@ -1,10 +1,10 @@
 //! The lines of a report.
 
 ghost use Rattle.std.specs.Prelude.{◌≡◌, ◌++◌, OnOk};
-ghost use Rattle.service_probe.specs.Came.{after_text, size_text, finding_text, came_text, page_words, time_text, way_text, body_text, trial_text, answer_text, attempt_text, octets_text, serves_text};
+ghost use Rattle.service_probe.specs.ProbeOutcome.{after_text, size_text, finding_text, came_text, page_words, time_text, way_text, body_text, trial_text, answer_text, attempt_text, octets_text, serves_text};
 
 use crate::attempt::ProbeAttempt;
-use crate::finding::{Came, Finding};
+use crate::finding::{Finding, ProbeOutcome};
 use crate::text::{put_bytes, put_number};
 use adapt_bytes::three_digits;
 use std::alloc::AllocError;
@@ -83,22 +83,22 @@ fn of_page(continued: bool) -> &'static [u8]
 }
 
 /// Adds what came of a message.
-fn put_came(out: &mut Vec<u8>, came: &Came) -> Result<(), AllocError>
+fn put_came(out: &mut Vec<u8>, came: &ProbeOutcome) -> Result<(), AllocError>
     ensures { OnOk result (out.new.items ≡ out.old.items ++ came_text came.now) }
 {
     match came {
-        Came::Options => out.extend_from_slice(b"200"),
-        Came::Unchanged { continued } => {
+        ProbeOutcome::Options => out.extend_from_slice(b"200"),
+        ProbeOutcome::Unchanged { continued } => {
             out.extend_from_slice(b"204")?;
             out.extend_from_slice(after(*continued))
         }
-        Came::Changed { continued, bytes } => {
+        ProbeOutcome::Changed { continued, bytes } => {
             out.extend_from_slice(b"200")?;
             out.extend_from_slice(after(*continued))?;
             out.extend_from_slice(b" with ")?;
             put_size(out, *bytes)
         }
-        Came::Page {
+        ProbeOutcome::Page {
             continued,
             status,
             bytes,
@@ -107,7 +107,7 @@ fn put_came(out: &mut Vec<u8>, came: &Came) -> Result<(), AllocError>
             out.extend_from_slice(of_page(*continued))?;
             put_size(out, *bytes)
         }
-        Came::Broken(finding) => put_finding(out, finding),
+        ProbeOutcome::Broken(finding) => put_finding(out, finding),
     }
 }
 
@@ -145,7 +145,7 @@ fn serving(serves: bool) -> &'static [u8]
 }
 
 /// Adds over which connection a message went, the case's name, and the size of its body.
-#[tactic(auto, unfolding(crate::specs::Came::trial_text))]
+#[tactic(auto, unfolding(crate::specs::ProbeOutcome::trial_text))]
 fn put_trial(
     out: &mut Vec<u8>,
     way: ConnectionUse,
@@ -162,7 +162,7 @@ fn put_trial(
 }
 
 /// Adds what came, how long it took, and whether the connection may serve again.
-#[tactic(auto, unfolding(crate::specs::Came::answer_text))]
+#[tactic(auto, unfolding(crate::specs::ProbeOutcome::answer_text))]
 fn put_answer(out: &mut Vec<u8>, attempt: &ProbeAttempt) -> Result<(), AllocError>
     ensures { OnOk result (out.new.items ≡ out.old.items ++ answer_text attempt.now) }
 {

@@ -5,7 +5,7 @@ ghost use Rattle.std.specs.Prelude.{◌≡◌, ◌≤◌, IfSome};
 ghost use Rattle.span_bank.specs.declared.limits.TheConstants.{MAX_CAPACITY};
 ghost use Rattle.plan_rules.specs.Claims.{claim_of};
 
-use crate::finding::Came;
+use crate::finding::ProbeOutcome;
 use crate::tap::Tap;
 use crate::verdict::{HeardService, judge};
 use adapt_sides::Scratch;
@@ -24,7 +24,7 @@ use wire_kit::Wire;
 #[derive(Drop)]
 pub struct TransactionRemains<W> {
     /// What came of its message.
-    pub came: Came,
+    pub came: ProbeOutcome,
     /// Whether the connection to the service may carry another request.
     pub is_reusable: bool,
     /// That connection.

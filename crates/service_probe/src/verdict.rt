@@ -1,7 +1,7 @@
 //! What came of a message, by what is left of its transaction.
 
 use crate::excerpt::{find, find_head};
-use crate::finding::{Came, Fault, Finding};
+use crate::finding::{Fault, Finding, ProbeOutcome};
 use crate::tap::Tap;
 use adapt_sides::{ClientFault, Service};
 use adapt_turn::Outcome;
@@ -40,19 +40,19 @@ fn status_of(head: &[u8]) -> Option<u16> {
 }
 
 /// What came of a message that went through.
-fn came_of(seen: &Seen, status: Option<u16>) -> Came {
+fn came_of(seen: &Seen, status: Option<u16>) -> ProbeOutcome {
     let continued = seen.continued;
     let bytes = seen.adapted_received;
     if seen.no_mod {
-        return Came::Unchanged { continued };
+        return ProbeOutcome::Unchanged { continued };
     }
     match status {
-        Some(status) if status != 200 || seen.plan.point == Point::Reqmod => Came::Page {
+        Some(status) if status != 200 || seen.plan.point == Point::Reqmod => ProbeOutcome::Page {
             continued,
             status,
             bytes,
         },
-        _ => Came::Changed { continued, bytes },
+        _ => ProbeOutcome::Changed { continued, bytes },
     }
 }
 
@@ -73,7 +73,7 @@ pub fn judge<V: HeardService, W>(
     seen: &Seen,
     side: &V,
     tap: &Tap<W>,
-) -> Result<Came, AllocError> {
+) -> Result<ProbeOutcome, AllocError> {
     let head = side.adapted_head().unwrap_or(&[]);
     let left = side.raw_left();
     let fault = match outcome {
@@ -85,12 +85,12 @@ pub fn judge<V: HeardService, W>(
         Fault::Message => find_head(alloc, tap, head),
         _ => find(alloc, tap, fault, left),
     };
-    Ok(Came::Broken(finding?))
+    Ok(ProbeOutcome::Broken(finding?))
 }
 
 /// What came where bytes lay unread after the answer.
-pub fn left_over<W>(alloc: Global, tap: &Tap<W>) -> Came {
-    Came::Broken(Finding {
+pub fn left_over<W>(alloc: Global, tap: &Tap<W>) -> ProbeOutcome {
+    ProbeOutcome::Broken(Finding {
         fault: Fault::LeftOver,
         at: tap.given(),
         octets: Vec::new(alloc),

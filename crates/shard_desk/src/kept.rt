@@ -145,20 +145,20 @@ fn sift<C: Rests>(all: &mut VecDeque<C>, index: usize, at: Moment, seconds: u64)
 
 /// Connections that lie idle, the oldest first.
 #[derive(Drop)]
-pub struct Kept<C> {
+pub struct IdleConnections<C> {
     all: VecDeque<C>,
     most: usize,
     ghost bounded: { deque_len all ≤ most },
     ghost room: { most ≤ deque_capacity all },
 }
 
-impl<C: Rests> Kept<C> {
+impl<C: Rests> IdleConnections<C> {
     /// None lies idle, and so many may. `Err` if no memory was found for them.
-    pub fn new(alloc: Global, most: usize) -> Result<Kept<C>, AllocError>
+    pub fn new(alloc: Global, most: usize) -> Result<IdleConnections<C>, AllocError>
         ensures { IfOk result (λ kept. (kept.most ≡ most) × (kept.all.items ≡ [])) }
     {
         let all = VecDeque::with_capacity(alloc, most)?;
-        Ok(Kept { all, most })
+        Ok(IdleConnections { all, most })
     }
 
     /// How many lie idle.

@@ -39,7 +39,7 @@ mod words;
 pub use desk::Desk;
 pub use exchanges::{Exchanges, Slotted};
 pub use hearing::Hearing;
-pub use kept::{Heard, Kept, Moment, Rests};
+pub use kept::{Heard, IdleConnections, Moment, Rests};
 pub use lines::{IdleLine, SinceLaid};
 pub use origins::KeptOrigin;
 pub use pools::{Loops, SharedPools, Spare, pools_of};

@@ -13,7 +13,7 @@ const FEW: usize = 32;
 
 /// Whose a line is.
 #[derive(Clone, Copy)]
-pub(crate) enum Holder {
+pub(crate) enum LineHolder {
     /// That of the exchange under this key.
     Exchange(usize),
     /// Nobody's: its connection lies idle.
@@ -24,14 +24,14 @@ pub(crate) enum Holder {
 
 /// The registration of a connection to an origin or a service with the poll of a thread.
 #[derive(Drop)]
-pub(crate) struct Line {
+pub(crate) struct RegisteredLine {
     ready: Arc<Readiness>,
     /// How often the connection had left a line when it came to this one: once it has left more often, this one is free.
     departures: u64,
-    holder: Holder,
+    holder: LineHolder,
 }
 
-impl Line {
+impl RegisteredLine {
     /// Whether its connection has left it.
     fn is_free(&self) -> bool {
         self.ready.departures() != self.departures
@@ -125,20 +125,20 @@ impl IdleLine {
 ///
 /// A number that was left is another connection's in a later turn alone: once all is noted that the poll reported of the one before.
 #[derive(Drop)]
-pub(crate) struct Lines {
-    all: Slab<Line>,
+pub(crate) struct RegisteredLines {
+    all: Slab<RegisteredLine>,
     /// The one that was left last in this turn.
     left: Option<usize>,
     /// At this number of lines those that were dropped elsewhere are looked for.
     many: usize,
 }
 
-impl Lines {
+impl RegisteredLines {
     ghost use Rattle.shard_desk.specs.Lines.{owner, IsOf};
 
     /// There is none.
-    pub(crate) fn new(alloc: Global) -> Lines {
-        Lines {
+    pub(crate) fn new(alloc: Global) -> RegisteredLines {
+        RegisteredLines {
             all: Slab::new(alloc),
             left: None,
             many: FEW,
@@ -163,8 +163,8 @@ impl Lines {
             };
             self.left = match self.all.try_remove(number) {
                 Some(
-                    Line {
-                        holder: Holder::Left(before),
+                    RegisteredLine {
+                        holder: LineHolder::Left(before),
                         ..
                     },
                 ) => before,
@@ -193,10 +193,10 @@ impl Lines {
         }
         let departures = ready.departures();
         Some(
-            self.all.insert_reserved(Line {
+            self.all.insert_reserved(RegisteredLine {
                 ready,
                 departures,
-                holder: Holder::Exchange(key),
+                holder: LineHolder::Exchange(key),
             }),
         )
     }
@@ -206,9 +206,9 @@ impl Lines {
         ensures { owner self.new number ≡ None }
     {
         if let Some(line) = self.all.get_mut(number)
-            && !matches!(line.holder, Holder::Left(_))
+            && !matches!(line.holder, LineHolder::Left(_))
         {
-            line.holder = Holder::Left(self.left);
+            line.holder = LineHolder::Left(self.left);
             self.left = Some(number);
         }
     }
@@ -227,7 +227,7 @@ impl Lines {
     {
         let line = self.all.get_mut(number)?;
         let ready = Arc::clone(&line.ready).ok()?;
-        line.holder = Holder::Nobody;
+        line.holder = LineHolder::Nobody;
         ready.read_out();
         Some(IdleLine {
             number,
@@ -243,7 +243,7 @@ impl Lines {
     {
         let number = idle.wake();
         if let Some(line) = self.all.get_mut(number) {
-            line.holder = Holder::Exchange(key);
+            line.holder = LineHolder::Exchange(key);
         }
         number
     }
@@ -257,12 +257,12 @@ impl Lines {
             return None;
         }
         match line.holder {
-            Holder::Exchange(key) if note_on(&line.ready, told) => Some(key),
-            Holder::Nobody => {
+            LineHolder::Exchange(key) if note_on(&line.ready, told) => Some(key),
+            LineHolder::Nobody => {
                 let _ = note_on(&line.ready, told);
                 None
             }
-            Holder::Exchange(_) | Holder::Left(_) => None,
+            LineHolder::Exchange(_) | LineHolder::Left(_) => None,
         }
     }
 }

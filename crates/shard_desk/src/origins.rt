@@ -5,7 +5,7 @@ ghost use Rattle.shard_desk.specs.Kept.{HasWire, LaysWire, TakesWire};
 ghost use Rattle.shard_desk.specs.Lines.{IsNotPolled};
 ghost use Rattle.shard_desk.specs.Seats.{heard_of};
 
-use crate::kept::{Heard, Kept, Moment, Rests};
+use crate::kept::{Heard, IdleConnections, Moment, Rests};
 use crate::lines::{IdleLine, SinceLaid};
 use crate::seats::Seats;
 use event_loop::{IdlePermit, Room};
@@ -59,7 +59,7 @@ impl Rests for KeptOrigin {
 }
 
 /// Connections to origins that lie idle with a thread.
-pub(crate) type KeptOrigins = Kept<KeptOrigin>;
+pub(crate) type KeptOrigins = IdleConnections<KeptOrigin>;
 
 /// Whether nothing was left to be read on a connection, and the origin hasn't ended it. The system is asked only where the last read didn't
 /// find that out.

@@ -4,9 +4,9 @@ ghost use Rattle.std.specs.Prelude.{◌≡◌, ◌≢◌, ◌⊎◌, ◌-◌, �
 ghost use Rattle.event_loop.specs.Sparing.{IsRank};
 ghost use Rattle.shard_desk.specs.Sparing.{stay_of};
 
-use crate::lines::{Lines, note_on};
+use crate::lines::{RegisteredLines, note_on};
 use crate::seats::SECOND;
-use crate::terms::Awaited;
+use crate::terms::AwaitedSince;
 use event_loop::{Share, Spared, Stay, Told, UserPermit, spared_of};
 use socket_wire::{Peer, Readiness};
 use std::mem;
@@ -39,7 +39,7 @@ pub(crate) struct Seat {
     pub(crate) since: u64,
     /// When the message began to wait for a connection to its service.
     pub(crate) waits: Option<u64>,
-    pub(crate) awaited: Awaited,
+    pub(crate) awaited: AwaitedSince,
     /// The point to whose service it has a connection.
     pub(crate) leases: Option<Point>,
     pub(crate) user: Option<Arc<Readiness>>,
@@ -52,7 +52,12 @@ pub(crate) struct Seat {
 }
 
 /// Since when a connection is awaited that nobody has taken yet.
-fn awaited_since(lines: &Lines, line: Option<usize>, since: Option<u64>, now: u64) -> Option<u64> {
+fn awaited_since(
+    lines: &RegisteredLines,
+    line: Option<usize>,
+    since: Option<u64>,
+    now: u64,
+) -> Option<u64> {
     let ready = lines.ready(line?)?;
     if ready.is_on_its_way() {
         Some(since.unwrap_or(now))
@@ -90,7 +95,7 @@ impl Seat {
             },
             since,
             waits: None,
-            awaited: Awaited::nothing(),
+            awaited: AwaitedSince::nothing(),
             leases: None,
             user: None,
             ended: false,
@@ -130,7 +135,7 @@ impl Seat {
     /// Takes note of the connections that are awaited, of those which the exchange needs.
     pub(crate) fn await_connections(
         &mut self,
-        lines: &Lines,
+        lines: &RegisteredLines,
         now: u64,
         origin: bool,
         service: bool,

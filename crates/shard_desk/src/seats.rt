@@ -6,7 +6,7 @@ ghost use Rattle.shard_desk.specs.Sparing.{GivesWay, HasRank, has_ended, is_gone
 mod waiting;
 mod wiring;
 
-use crate::lines::Lines;
+use crate::lines::RegisteredLines;
 use crate::seat::{Purpose, Seat};
 use event_loop::{Share, Spared, Stay, UserPermit, is_young, youth_of};
 use slab::Slab;
@@ -26,7 +26,7 @@ const SPARE: usize = 16;
 pub struct Seats {
     alloc: Global,
     all: Slab<Seat>,
-    lines: Lines,
+    lines: RegisteredLines,
     most: usize,
     refused: usize,
     /// How many stays have begun.
@@ -49,7 +49,7 @@ impl Seats {
         let mut seats = Seats {
             alloc,
             all: Slab::new(alloc),
-            lines: Lines::new(alloc),
+            lines: RegisteredLines::new(alloc),
             most,
             refused: 0,
             stays: 0,
@@ -67,7 +67,7 @@ impl Seats {
         let none = Seats {
             alloc: self.alloc,
             all: Slab::new(self.alloc),
-            lines: Lines::new(self.alloc),
+            lines: RegisteredLines::new(self.alloc),
             most: 0,
             refused: 0,
             stays: 0,

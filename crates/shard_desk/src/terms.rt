@@ -14,7 +14,7 @@ pub struct Terms {
 
 /// Since which moment each is awaited, in seconds. `None` where it isn't.
 #[derive(Clone, Copy)]
-pub(crate) struct Awaited {
+pub(crate) struct AwaitedSince {
     pub head: Option<u64>,
     pub origin: Option<u64>,
     pub service: Option<u64>,
@@ -31,10 +31,10 @@ fn is_over(since: Option<u64>, now: u64, seconds: u64) -> bool
     }
 }
 
-impl Awaited {
+impl AwaitedSince {
     /// Nothing is awaited.
-    pub fn nothing() -> Awaited {
-        Awaited {
+    pub fn nothing() -> AwaitedSince {
+        AwaitedSince {
             head: None,
             origin: None,
             service: None,

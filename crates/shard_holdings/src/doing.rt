@@ -27,11 +27,11 @@ use shard_exchange::{
     Effects, End, EndedBy, Lingered, Marks, Reason, Report, Round, Started, Unplanned, Withdrawal,
 };
 use shard_message::{
-    Accounted, Connection, Dialed, LastingOrigin, Moves, Moving, OnItsWay, Outside, Reusable,
-    Settled, begin_anew, begin_asking, clear, dial_for, finish_user, has_given_none, is_fresh,
-    is_reusable, keep, keep_plan, lay, lay_page, leave_queue, linger_on, make_room, manner_of,
-    note_refused, note_stopped, put_in, refusal_by, request_again, say_to, take_connections,
-    take_out,
+    Accounted, Dialed, LastingOrigin, Moves, Moving, OnItsWay, Outside, Reusable,
+    ServiceConnection, Settled, begin_anew, begin_asking, clear, dial_for, finish_user,
+    has_given_none, is_fresh, is_reusable, keep, keep_plan, lay, lay_page, leave_queue, linger_on,
+    make_room, manner_of, note_refused, note_stopped, put_in, refusal_by, request_again, say_to,
+    take_connections, take_out,
 };
 use span_bank::Pages;
 use std::sync::Wait;
@@ -40,7 +40,7 @@ use wire_kit::Wire;
 
 /// Keeps a leased connection beside its lease: whether it was idle before.
 fn take_in<P, O: Outside<P>>(
-    slot: &mut Option<Connection<O>>,
+    slot: &mut Option<ServiceConnection<O>>,
     wire: O::Service,
     lease: O::Lease,
 ) -> bool
@@ -51,7 +51,7 @@ fn take_in<P, O: Outside<P>>(
 {
     let reused = O::is_reused(&lease);
     let wire = Some(wire);
-    put_in(slot, Connection { wire, lease });
+    put_in(slot, ServiceConnection { wire, lease });
     reused
 }
 
@@ -316,7 +316,7 @@ impl<P, O: Outside<P>> Effects<P> for Holdings<O> {
     }
 
     fn give_back(&mut self, at: &P, out: &mut O, course: &Course) -> bool {
-        let Connection { wire, lease } = take_out(&mut self.connection);
+        let ServiceConnection { wire, lease } = take_out(&mut self.connection);
         match wire {
             Some(wire) if course.state().connection.is_ready() => {
                 out.put(at, Reusable::new(wire, course), lease);

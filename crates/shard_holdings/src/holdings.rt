@@ -8,7 +8,9 @@ ghost use Rattle.shard_message.specs.Lines.{HasLine};
 use icap_client::OptionsSide;
 use proxy_rules::Incoming;
 use shard_exchange::InHand;
-use shard_message::{Connection, Kinds, Moving, OnShow, Planned, Remains, Room, Shown, put_in};
+use shard_message::{
+    Kinds, MessageRoom, Moving, OnShow, Planned, Remains, ServiceConnection, Shown, put_in,
+};
 use span_bank::{Bank, Stake};
 use std::boxed::Box;
 use std::sync::Wait;
@@ -33,9 +35,9 @@ pub struct Holdings<O: Kinds> {
     /// Whether the user was told that nothing more comes.
     pub(crate) is_finished: bool,
     /// The leased connection of the service.
-    pub(crate) connection: Option<Connection<O>>,
+    pub(crate) connection: Option<ServiceConnection<O>>,
     /// The reservation, where no transaction has it.
-    pub(crate) room: Option<Room<O::Ledgers>>,
+    pub(crate) room: Option<MessageRoom<O::Ledgers>>,
     /// The connection to the origin, where no transaction has it.
     pub(crate) origin: Option<O::Origin>,
     /// How many bytes it had given, and taken, when it was dialed.
@@ -156,8 +158,8 @@ impl<O: Kinds> Holdings<O> {
     pub(crate) fn into_parts(
         self,
     ) -> (
-        Option<Connection<O>>,
-        Option<Room<O::Ledgers>>,
+        Option<ServiceConnection<O>>,
+        Option<MessageRoom<O::Ledgers>>,
         Option<Moving<O>>,
     )
         ensures { (result.0 ≡ self.connection) × (result.1 ≡ self.room) × (result.2 ≡ self.tx) }
@@ -187,7 +189,7 @@ impl<O: Kinds> Holdings<O> {
     {
         let (connection, room, tx) = self.into_parts();
         let lease = match connection {
-            Some(Connection { wire: _, lease }) => Some(lease),
+            Some(ServiceConnection { wire: _, lease }) => Some(lease),
             None => None,
         };
         let stake = match (room, tx) {

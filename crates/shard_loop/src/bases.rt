@@ -12,7 +12,7 @@ use std::sync::Arc;
 
 /// Where users and the administrator connect.
 #[derive(Drop)]
-pub(crate) struct Ports {
+pub(crate) struct OpenedPorts {
     pub(crate) users: TcpListener,
     pub(crate) admin: AdminPorts,
 }

@@ -1,7 +1,7 @@
 //! The threads: each makes its work, runs its loop, and hands over what is left.
 
 use crate::admission::admission_of;
-use crate::bases::{HasBase, Ports, entrance_of, loop_fault, make_bases};
+use crate::bases::{HasBase, OpenedPorts, entrance_of, loop_fault, make_bases};
 use crate::board::{BothPools, Common, PoolPair, Rules, board_of};
 use crate::exchanges::DeskExchanges;
 use crate::left::Left;
@@ -97,7 +97,7 @@ pub fn run_crew<
     request: &Pool<Spare, Q>,
     response: &Pool<Spare, A>,
     gate: &G,
-    ports: Ports,
+    ports: OpenedPorts,
     rules: Rules,
     file: Option<File>,
     left: &Mutex<Left<B, Q, A>>,
@@ -129,7 +129,7 @@ fn run_board<
     bank: &Bank<B>,
     pools: &P,
     gate: &G,
-    ports: Ports,
+    ports: OpenedPorts,
     board: Result<N, AllocError>,
     left: &Mutex<Left<B, Q, A>>,
 ) -> Result<(), ProxyFault>
@@ -149,7 +149,7 @@ where
     let Ok(admission) = admission_of(rt, config, board.live()) else {
         return Err(ProxyFault::NoMemory);
     };
-    let Ports { users, admin } = ports;
+    let OpenedPorts { users, admin } = ports;
     let users = entrance_of(config, users, room, admission);
     let mut bases = make_bases(rt, alloc, config.shards, users, admin, board.inboxes_mut())?;
     run_on(

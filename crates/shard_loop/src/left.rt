@@ -45,7 +45,7 @@ impl<B: Ledgers, Q: Ledger, A: Ledger> Unaudited for Left<B, Q, A> {
 }
 
 /// How the proxy stopped. Only an audit makes one.
-#[derive(Clone, Copy, PartialEq, Eq)]
+#[derive(Clone, Copy)]
 pub struct Stopped {
     audit: StopAudit,
     fault: Option<ProxyFault>,

@@ -4,7 +4,7 @@ ghost use Rattle.std.specs.Prelude.{◌≡◌, ◌+◌, ◌≤◌, IfSome};
 ghost use Rattle.adapt_bytes.specs.declared.limits.TheConstants.{MAX_CONNECTIONS};
 ghost use Rattle.service_pool.specs.declared.step.TheConstants.{LEDGER_PARTS};
 
-use crate::bases::Ports;
+use crate::bases::OpenedPorts;
 use crate::board::Rules;
 use crate::crew::run_crew;
 use crate::left::{Left, Stopped};
@@ -98,7 +98,7 @@ pub fn serve<
         rt,
         alloc,
         &config,
-        Ports { users, admin },
+        OpenedPorts { users, admin },
         rules,
         log,
         gate,
@@ -126,7 +126,7 @@ fn serve_with<
     rt: &R,
     alloc: Global,
     config: &'x Config,
-    ports: Ports,
+    ports: OpenedPorts,
     rules: Rules,
     log: Option<File>,
     gate: &'x G,
@@ -174,7 +174,7 @@ fn serve_on<
     rt: &R,
     alloc: Global,
     config: &Config,
-    ports: Ports,
+    ports: OpenedPorts,
     rules: Rules,
     log: Option<File>,
     gate: &G,

@@ -8,7 +8,7 @@ ghost use Rattle.shard_message.specs.Learning.{IsAsking};
 ghost use Rattle.shard_message.specs.Lines.{line_in, IsRenewed};
 ghost use Rattle.shard_message.specs.Waits.{MovesNone};
 
-use crate::connection::{Connection, lay_wire};
+use crate::connection::{ServiceConnection, lay_wire};
 use crate::options::{begin_asking, hear_turn};
 use crate::outside::{Kinds, Outside};
 use adapt_sides::WIRE_ROOM;
@@ -21,7 +21,7 @@ use wire_kit::Wire;
 /// A turn at asking. `None` where nobody asks, or there is no connection for it.
 pub fn hear_on<O: Kinds>(
     asking: &mut Option<Box<OptionsSide>>,
-    connection: &mut Option<Connection<O>>,
+    connection: &mut Option<ServiceConnection<O>>,
     buffer: &mut [u8; WIRE_ROOM],
 ) -> Option<OptionsTurn>
     ensures there { is_some connection.new ≡ is_some connection.old }
@@ -39,7 +39,7 @@ pub fn hear_on<O: Kinds>(
 }
 
 /// Whether nothing went over a connection.
-pub fn is_fresh<O: Kinds>(connection: &Option<Connection<O>>) -> bool {
+pub fn is_fresh<O: Kinds>(connection: &Option<ServiceConnection<O>>) -> bool {
     match connection {
         Some(connection) => match &connection.wire {
             Some(wire) => wire.counts() == (0, 0),
@@ -53,7 +53,7 @@ pub fn is_fresh<O: Kinds>(connection: &Option<Connection<O>>) -> bool {
 fn reopen<P, O: Outside<P>>(
     at: &P,
     out: &mut O,
-    connection: &mut Connection<O>,
+    connection: &mut ServiceConnection<O>,
 ) -> Result<O::Service, Reason>
     ensures point { O.point_of connection.new.lease ≡ O.point_of connection.old.lease }
     ensures fresh { IfOk result (λ _. O.is_reused connection.new.lease ≡ false) }
@@ -71,7 +71,7 @@ fn reopen<P, O: Outside<P>>(
 fn renew<P, O: Outside<P>>(
     at: &P,
     out: &mut O,
-    connection: &mut Option<Connection<O>>,
+    connection: &mut Option<ServiceConnection<O>>,
 ) -> Result<(), Reason>
     ensures leased { is_some connection.new ≡ is_some connection.old }
     ensures fresh { IfOk result (λ _. IsRenewed (λ leased. leased.wire) (λ old new. (O.point_of new.lease ≡ O.point_of old.lease) × (O.is_reused new.lease ≡ false))
@@ -97,7 +97,7 @@ pub fn begin_anew<P, O: Outside<P>>(
     out: &mut O,
     point: Point,
     asking: &mut Option<Box<OptionsSide>>,
-    leased: &mut Option<Connection<O>>,
+    leased: &mut Option<ServiceConnection<O>>,
 ) -> Result<(), Reason>
     ensures leased { is_some leased.new ≡ is_some leased.old }
     ensures fresh { IfOk result (λ _. IsRenewed (λ leased. leased.wire) (λ old new. (O.point_of new.lease ≡ O.point_of old.lease) × (O.is_reused new.lease ≡ false))

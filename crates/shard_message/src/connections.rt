@@ -3,10 +3,10 @@
 ghost use Rattle.std.specs.Prelude.{◌≡◌, is_some, None, Some, true, IfSome};
 ghost use Rattle.shard_message.specs.Lines.{HasLine, line_for};
 
-use crate::connection::{Connection, lay_wire, take_wire};
+use crate::connection::{ServiceConnection, lay_wire, take_wire};
 use crate::moving::{RequestWires, ResponseWires};
 use crate::outside::Kinds;
-use crate::room::Room;
+use crate::room::MessageRoom;
 use crate::slots::take_out;
 use proxy_rules::Way;
 
@@ -24,7 +24,7 @@ impl<O: Kinds> Connections<O> {
     pub fn put_back(
         self,
         user: &mut Option<O::User>,
-        leased: &mut Option<Connection<O>>,
+        leased: &mut Option<ServiceConnection<O>>,
         origin: &mut Option<O::Origin>,
     )
         ensures leased { is_some leased.new ≡ is_some leased.old }
@@ -47,7 +47,7 @@ impl<O: Kinds> Connections<O> {
 /// The connections for a message: the service's one where it is offered. `None` where the user is gone.
 pub fn take_connections<O: Kinds>(
     user: &mut Option<O::User>,
-    leased: &mut Option<Connection<O>>,
+    leased: &mut Option<ServiceConnection<O>>,
     origin: &mut Option<O::Origin>,
     is_offered: bool,
 ) -> Option<Connections<O>>
@@ -72,13 +72,13 @@ pub fn take_connections<O: Kinds>(
 /// What a message stood over: its reservation, and its connections.
 #[must_use]
 pub struct Remains<O: Kinds> {
-    pub room: Room<O::Ledgers>,
+    pub room: MessageRoom<O::Ledgers>,
     pub connections: Connections<O>,
 }
 
 /// What a request stood over.
 pub(crate) fn request_remains<O: Kinds>(
-    room: Room<O::Ledgers>,
+    room: MessageRoom<O::Ledgers>,
     way: Way<RequestWires<O>>,
 ) -> Remains<O>
     ensures { (result.room ≡ room) × (result.connections ≡ record { user = way.source; service = way.service; origin = way.next }) }
@@ -98,7 +98,7 @@ pub(crate) fn request_remains<O: Kinds>(
 
 /// What a response stood over.
 pub(crate) fn response_remains<O: Kinds>(
-    room: Room<O::Ledgers>,
+    room: MessageRoom<O::Ledgers>,
     way: Way<ResponseWires<O>>,
 ) -> Remains<O>
     ensures { (result.room ≡ room) × (result.connections ≡ record { user = way.next; service = way.service; origin = way.source }) }

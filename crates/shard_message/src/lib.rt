@@ -38,7 +38,7 @@ mod withdrawal;
 
 pub use accounts::Accounted;
 pub use asking::{begin_anew, hear_on, is_fresh};
-pub use connection::{Connection, lay_wire};
+pub use connection::{ServiceConnection, lay_wire};
 pub use connections::{Connections, Remains, take_connections};
 pub use heads::{fault_of, turn_on};
 pub use lasting::LastingOrigin;
@@ -50,7 +50,7 @@ pub use outside::{
 pub use planning::{Planned, keep_plan, service_of};
 pub use refusal_causes::refusal_cause_after;
 pub use reusable::Reusable;
-pub use room::{Room, dial_for, make_room};
+pub use room::{MessageRoom, dial_for, make_room};
 pub use saying::{lay_page, refusal_by, say_to};
 pub use settled::Settled;
 pub use shown::{OnShow, Shown};

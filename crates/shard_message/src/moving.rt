@@ -15,10 +15,10 @@ ghost use Rattle.shard_message.specs.Outset.{BeginsClean, IsLineAfter, Outset, S
 ghost use Rattle.proxy_rules.specs.Since.{freed_wire, held_or};
 
 use crate::accounts::Accounted;
-use crate::connection::Connection;
+use crate::connection::ServiceConnection;
 use crate::connections::{Connections, Remains, request_remains, response_remains};
 use crate::outside::{Kinds, Outside};
-use crate::room::Room;
+use crate::room::MessageRoom;
 use crate::settled::{Settled, settle_request, settle_response};
 use crate::start::{Manner, set_out};
 use crate::taken::stake_of;
@@ -164,7 +164,7 @@ impl<O: Kinds> Moving<O> {
         rt: &R,
         out: &O,
         message: Box<Incoming>,
-        room: Room<O::Ledgers>,
+        room: MessageRoom<O::Ledgers>,
         connections: Connections<O>,
         manner: Manner,
     ) -> Result<Moving<O>, Remains<O>>
@@ -214,7 +214,7 @@ impl<O: Kinds> Moving<O> {
         rt: &R,
         at: &P,
         out: &mut O,
-        connection: &mut Option<Connection<O>>,
+        connection: &mut Option<ServiceConnection<O>>,
         scratch: &mut Scratch,
         may_renew: bool,
     ) -> Round

@@ -22,7 +22,7 @@ use std::sync::Wait;
 
 /// A reservation of which nothing is held, and the message that it was made for: it is just what that may need.
 #[must_use]
-pub struct Room<B: Ledgers> {
+pub struct MessageRoom<B: Ledgers> {
     pub stake: Stake<B>,
     /// None once the message moves, or is gone.
     pub planned: Option<Box<Planned>>,
@@ -31,12 +31,12 @@ pub struct Room<B: Ledgers> {
     pub ghost claim: { ForSome planned (λ planned. (stake.claim ≡ claim_of planned.value.offer.plan limits.window) × (stake.claim ≤ MAX_CAPACITY)) },
 }
 
-impl<B: Ledgers> Room<B> {
+impl<B: Ledgers> MessageRoom<B> {
     /// The reservation alone.
     pub fn into_stake(self) -> Stake<B>
         ensures { (result.held ≡ 0) × (result.pages ≡ 0) }
     {
-        let Room {
+        let MessageRoom {
             stake,
             planned: _,
             limits: _,
@@ -46,11 +46,11 @@ impl<B: Ledgers> Room<B> {
 }
 
 /// A reservation whose message is gone.
-pub(crate) fn room_of<B: Ledgers>(stake: Stake<B>, limits: Limits) -> Room<B>
+pub(crate) fn room_of<B: Ledgers>(stake: Stake<B>, limits: Limits) -> MessageRoom<B>
     requires { (stake.held ≡ 0) × (stake.pages ≡ 0) }
     ensures { (result.planned ≡ None) × (result.limits ≡ limits) }
 {
-    Room {
+    MessageRoom {
         stake,
         planned: None,
         limits,
@@ -63,7 +63,7 @@ pub fn make_room<B: Ledgers, R: Wait>(
     bank: &Bank<B>,
     limits: Limits,
     planned: &mut Option<Box<Planned>>,
-) -> Result<Room<B>, Reason>
+) -> Result<MessageRoom<B>, Reason>
     ensures suits { IfErr result (λ reason. cause_of reason ≡ Scarce) }
     ensures has { IfOk result (λ room. (room.planned ≡ planned.old) × (planned.new ≡ None) × (room.limits ≡ limits)) }
     ensures keeps { IfErr result (λ reason. planned.new ≡ planned.old) }
@@ -76,7 +76,7 @@ pub fn make_room<B: Ledgers, R: Wait>(
         return Err(Reason::Full);
     }
     match bank.open(rt, bytes) {
-        Ok(stake) => Ok(Room {
+        Ok(stake) => Ok(MessageRoom {
             stake,
             planned: planned.take(),
             limits,
@@ -89,7 +89,7 @@ pub fn make_room<B: Ledgers, R: Wait>(
 pub fn dial_for<P, O: Outside<P>>(
     at: &P,
     out: &mut O,
-    room: &Option<Room<O::Ledgers>>,
+    room: &Option<MessageRoom<O::Ledgers>>,
     dialing: Dialing,
 ) -> Result<Dialed<O::Origin>, Reason>
     ensures leads { IfOk result (λ dialed. LeadsAsPlanned (λ room. room.planned) (O.leads dialed.wire) room.now) }
@@ -101,7 +101,7 @@ pub fn dial_for<P, O: Outside<P>>(
 {
     let route = match room {
         Some(
-            Room {
+            MessageRoom {
                 planned: Some(planned),
                 ..
             },

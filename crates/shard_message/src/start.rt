@@ -8,7 +8,7 @@ ghost use Rattle.shard_message.specs.Begun.{BeginsWith, IsMannerOf, IsPaceOf, Is
 
 use crate::outside::Outside;
 use crate::planning::Planned;
-use crate::room::{Room, room_of};
+use crate::room::{MessageRoom, room_of};
 use crate::taken::left_of;
 use adapt_turn::Tx;
 use exchange_core::CourseState;
@@ -102,16 +102,16 @@ pub(crate) fn set_out<B: Ledgers, W: Wires, R: Wait>(
     bank: &Bank<B>,
     alloc: Global,
     message: Box<Incoming>,
-    room: Room<B>,
+    room: MessageRoom<B>,
     way: Way<W>,
     manner: Manner,
-) -> Result<Box<Running<B, W>>, (Room<B>, Way<W>)>
+) -> Result<Box<Running<B, W>>, (MessageRoom<B>, Way<W>)>
     ensures begins { IfOk result (λ tx. BeginsWith (beginning room.planned message.value manner) way.source way.service way.next tx.value.tx.hold.history tx.value.tx.pace tx.value.tx.ends) }
     ensures since { IfOk result (λ tx. (first : W.SourceWire) (ahead since beside : List ℕ) → Came W.SourceWire.Wire first ahead since beside message.value.side way.source
         → IfSome room.planned (λ planned. ⟦<Tx<B, OwnEnds<W>> as Accounting<W>>⟧.since (first_snapshot (text_of planned.value.offer.side) ahead beside first way.next way.service) tx.value.tx)) }
     ensures back { IfErr result (λ back. (back.0.planned ≡ None) × (back.0.limits ≡ room.limits) × (back.1 ≡ way)) }
 {
-    let Room {
+    let MessageRoom {
         stake,
         planned,
         limits,

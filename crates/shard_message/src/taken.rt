@@ -5,7 +5,7 @@ ghost use Rattle.adapt_hold.specs.Holding.{shows};
 ghost use Rattle.adapt_turn.specs.ChosenHead.{wire_of};
 ghost use Rattle.shard_message.specs.Ended.{ended_as};
 
-use crate::room::{Room, room_of};
+use crate::room::{MessageRoom, room_of};
 use adapt_turn::{EndTypes, Ends, ServiceEnd, Tx, TxParts};
 use plan_rules::Limits;
 use proxy_rules::{Way, Wires};
@@ -49,7 +49,7 @@ pub(crate) fn left_of<
     W: Wires,
     E: EndTypes<SourceWire = W::SourceWire, ServiceWire = W::ServiceWire, NextWire = W::NextWire>,
     R: Wait,
->(rt: &R, bank: &Bank<B>, tx: Tx<B, E>, limits: Limits) -> (Room<B>, Way<W>)
+>(rt: &R, bank: &Bank<B>, tx: Tx<B, E>, limits: Limits) -> (MessageRoom<B>, Way<W>)
 where
     E::Reader: Drop,
     E::Client: Drop,

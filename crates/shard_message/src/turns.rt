@@ -7,7 +7,7 @@ ghost use Rattle.shard_exchange.specs.declared.answers.Round.{Round as AnyRound}
 ghost use Rattle.shard_message.specs.Outset.{IsLineAfter};
 ghost use Rattle.shard_message.specs.Rounds.{Adds, ComesTo, IsRenewed, IsRound, IsTurned, MayRenew, ends_round, in_turn};
 
-use crate::connection::Connection;
+use crate::connection::ServiceConnection;
 use crate::outside::Outside;
 use adapt_sides::Scratch;
 use adapt_turn::{Answering, Side, TurnAnswer, Tx};
@@ -156,7 +156,7 @@ fn turn_each<B: Ledgers, W: Wires, R: Wait>(
 fn fresh<P, O: Outside<P>>(
     at: &P,
     out: &mut O,
-    connection: &mut Option<Connection<O>>,
+    connection: &mut Option<ServiceConnection<O>>,
     may: bool,
 ) -> Result<O::Service, LendFault>
     ensures leased { is_some connection.new ≡ is_some connection.old }
@@ -179,7 +179,7 @@ fn renew<P, O: Outside<P>, W: Wires<ServiceWire = O::Service>, R: Wait>(
     at: &P,
     out: &mut O,
     tx: &mut Running<O::Ledgers, W>,
-    connection: &mut Option<Connection<O>>,
+    connection: &mut Option<ServiceConnection<O>>,
     may: bool,
 ) -> Round
     requires broken { MayRenew tx.old.tx.pace tx.old.tx.hold }
@@ -206,7 +206,7 @@ pub(crate) fn round_of<P, O: Outside<P>, W: Wires<ServiceWire = O::Service>, R: 
     at: &P,
     out: &mut O,
     tx: &mut Running<O::Ledgers, W>,
-    connection: &mut Option<Connection<O>>,
+    connection: &mut Option<ServiceConnection<O>>,
     scratch: &mut Scratch,
     may_renew: bool,
 ) -> Round

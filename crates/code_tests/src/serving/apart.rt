@@ -2,11 +2,11 @@
 
 use super::loopback::Others;
 use super::player::Deed::{Gets, Says};
-use super::player::Peer::{Origin, Service, User};
-use super::player::{Deed, Peer, does_all, meet};
+use super::player::ScenePeer::{Origin, Service, User};
+use super::player::{Deed, ScenePeer, does_all, meet};
 use super::scenes::{ADAPTS, ANSWERS, SAYS_PREVIEWS};
 use super::texts::{ADAPTED, REQUEST};
-use crate::ports::Ports;
+use crate::ports::LoopbackPorts;
 use std::alloc::Global;
 use std::io;
 use std::thread::{self, Threads};
@@ -17,9 +17,9 @@ const ASKS_AND_GETS: &[Deed] = &[Says(REQUEST), Gets(ADAPTED)];
 fn does_each(
     host: &HostRuntime,
     alloc: Global,
-    ports: Ports,
+    ports: LoopbackPorts,
     others: &Others,
-    side: Peer,
+    side: ScenePeer,
     lists: &[&[Deed]],
 ) -> io::Result<bool> {
     let stream = meet(host, ports, others, side)?;
@@ -36,7 +36,7 @@ pub fn three_apart<R: Threads + Sync>(
     rt: &R,
     host: &HostRuntime,
     alloc: Global,
-    ports: Ports,
+    ports: LoopbackPorts,
     others: &Others,
 ) -> io::Result<bool> {
     let mut user = Ok(false);

@@ -1,11 +1,11 @@
 //! `serve` over loopback: users, an origin, a service and the administrator in one thread, the proxy in threads of its own.
 
 use super::apart::three_apart;
-use super::player::{Stage, Step, take_all};
+use super::player::{SceneStage, SceneStep, take_all};
 use super::shards::{many_users, one_connection};
-use crate::ports::{Ports, listeners, local};
+use crate::ports::{LoopbackPorts, listeners, local};
 use crate::streams::gets;
-use icapd_commands::{Settings, Shared, serve_sockets};
+use icapd_commands::{ServerShared, Settings, serve_sockets};
 use mio::net::TcpListener as Listener;
 use proxy_commands::{Source, read_configuration};
 use proxy_config::Config;
@@ -21,15 +21,15 @@ use wire_kit::HoldGate;
 
 /// What is played.
 #[derive(Clone, Copy)]
-pub enum Scene {
+pub enum LoopbackScene {
     /// Nothing is adapted.
-    Forwarded(&'static [Step]),
+    Forwarded(&'static [SceneStep]),
     /// Responses are adapted.
-    Adapted(&'static [Step]),
+    Adapted(&'static [SceneStep]),
     /// Requests and responses are adapted.
-    AllAdapted(&'static [Step]),
+    AllAdapted(&'static [SceneStep]),
     /// Responses are adapted, and the first transaction is held back until a step releases it.
-    HeldBack(&'static [Step]),
+    HeldBack(&'static [SceneStep]),
     /// The service takes one connection: a second user is refused, the first one served, and then a third one.
     OneConnection,
     /// Requests and responses are adapted by `icapd`: of a user alone, and then of more than the budget has room for, all at once.
@@ -66,7 +66,7 @@ fn start_icapd<R: Threads + Wait + Clock + Copy + Send + 'static>(
     let Some(settings) = Settings::new(b"adapt-1".to_vec(alloc)?, 64, 3600, 1024) else {
         return Err(io::Error::from(ErrorKind::InvalidInput));
     };
-    let shared = Shared::new(alloc, settings, 60)?;
+    let shared = ServerShared::new(alloc, settings, 60)?;
     let listener = TcpListener::bind(host, local())?;
     let port = listener.local_addr()?.port();
     if thread::spawn(&rt, move || serve_sockets(rt, alloc, &listener, &shared)).is_err() {
@@ -102,14 +102,14 @@ fn configured(alloc: Global, text: &str) -> io::Result<Arc<Config>> {
 fn configuration(
     alloc: Global,
     others: &Others,
-    scene: Scene,
+    scene: LoopbackScene,
     more: &str,
 ) -> io::Result<Arc<Config>> {
     let origin = others.origin.local_addr()?.port();
     let service = others.port;
-    let by_both = matches!(scene, Scene::AllAdapted(_) | Scene::ByIcapd);
+    let by_both = matches!(scene, LoopbackScene::AllAdapted(_) | LoopbackScene::ByIcapd);
     let requests = service_table(alloc, by_both, "reqmod", service, "/reqmod/stamp")?;
-    let by_one = !matches!(scene, Scene::Forwarded(_));
+    let by_one = !matches!(scene, LoopbackScene::Forwarded(_));
     let responses = service_table(alloc, by_one, "respmod", service, "/respmod/upper")?;
     let text = format!(in alloc;
         "listen = \"127.0.0.1:1\"\nadmin = \"127.0.0.1:2\"\n{more}[hosts]\n\"o.test\" = \"127.0.0.1:{origin}\"\n{requests}{responses}"
@@ -118,14 +118,14 @@ fn configuration(
 }
 
 /// Whether the admin port answers a line so.
-pub fn admin(rt: &HostRuntime, ports: Ports, line: &str, answer: &str) -> io::Result<bool> {
+pub fn admin(rt: &HostRuntime, ports: LoopbackPorts, line: &str, answer: &str) -> io::Result<bool> {
     let mut stream = TcpStream::connect(rt, ports.admin)?;
     stream.write_all(line.as_bytes())?;
     gets(&stream, answer.as_bytes())
 }
 
 /// Stops the proxy.
-pub fn stop(rt: &HostRuntime, ports: Ports) -> io::Result<()> {
+pub fn stop(rt: &HostRuntime, ports: LoopbackPorts) -> io::Result<()> {
     let mut stream = TcpStream::connect(rt, ports.admin)?;
     stream.write_all(b"stop\n")
 }
@@ -145,29 +145,29 @@ fn play<R: Threads + Sync>(
     rt: &R,
     host: &HostRuntime,
     alloc: Global,
-    scene: Scene,
-    ports: Ports,
+    scene: LoopbackScene,
+    ports: LoopbackPorts,
     others: &Others,
     gate: &HoldGate,
 ) -> io::Result<bool> {
-    let mut stage = Stage {
+    let mut stage = SceneStage {
         ports,
         others,
         gate,
         made: Vec::new(alloc),
     };
     match scene {
-        Scene::HeldBack(_) => {}
+        LoopbackScene::HeldBack(_) => {}
         _ => gate.answered(),
     }
     match scene {
-        Scene::Forwarded(steps)
-        | Scene::Adapted(steps)
-        | Scene::AllAdapted(steps)
-        | Scene::HeldBack(steps) => take_all(host, alloc, &mut stage, steps),
-        Scene::OneConnection => one_connection(host, alloc, ports, others),
-        Scene::ByIcapd => many_users(rt, host, alloc, ports, others),
-        Scene::Apart => three_apart(rt, host, alloc, ports, others),
+        LoopbackScene::Forwarded(steps)
+        | LoopbackScene::Adapted(steps)
+        | LoopbackScene::AllAdapted(steps)
+        | LoopbackScene::HeldBack(steps) => take_all(host, alloc, &mut stage, steps),
+        LoopbackScene::OneConnection => one_connection(host, alloc, ports, others),
+        LoopbackScene::ByIcapd => many_users(rt, host, alloc, ports, others),
+        LoopbackScene::Apart => three_apart(rt, host, alloc, ports, others),
     }
 }
 
@@ -213,10 +213,10 @@ pub fn goes_well<
         + Send
         + Sync
         + 'static,
->(rt: &R, host: &HostRuntime, scene: Scene, more: &str) -> io::Result<bool> {
+>(rt: &R, host: &HostRuntime, scene: LoopbackScene, more: &str) -> io::Result<bool> {
     let alloc = host.alloc();
     let mut others = make_others(host)?;
-    if matches!(scene, Scene::ByIcapd) {
+    if matches!(scene, LoopbackScene::ByIcapd) {
         others.port = start_icapd(*rt, host, alloc)?;
     }
     let config = configuration(alloc, &others, scene, more)?;

@@ -2,7 +2,7 @@
 
 use super::loopback::{Others, admin, stop};
 use super::texts::{OFFERED, REQUEST, RESPONSE_HEAD};
-use crate::ports::Ports;
+use crate::ports::LoopbackPorts;
 use crate::streams::{gets, hears, hears_end, say, until};
 use std::alloc::Global;
 use std::io::{self, ErrorKind};
@@ -16,7 +16,7 @@ pub const TRIES: u32 = 1_000;
 
 /// Who has a connection with the proxy.
 #[derive(Clone, Copy)]
-pub enum Peer {
+pub enum ScenePeer {
     User,
     Origin,
     Service,
@@ -43,9 +43,9 @@ pub enum Deed {
 
 /// A step of a scene. Connections are numbered from 0, in the order in which they are made.
 #[derive(Clone, Copy)]
-pub enum Step {
+pub enum SceneStep {
     /// A user connects, or the origin or the service gets a connection; then this is done on it.
-    New(Peer, &'static [Deed]),
+    New(ScenePeer, &'static [Deed]),
     /// This is done on a connection.
     On(usize, &'static [Deed]),
     /// A connection is closed.
@@ -62,8 +62,8 @@ pub enum Step {
 
 /// What a scene is played on, and the connections that were made so far.
 #[derive(Drop)]
-pub struct Stage<'a> {
-    pub ports: Ports,
+pub struct SceneStage<'a> {
+    pub ports: LoopbackPorts,
     pub others: &'a Others,
     pub gate: &'a HoldGate,
     pub made: Vec<Option<TcpStream>>,
@@ -117,18 +117,23 @@ pub fn does_all(
 }
 
 /// A user connects, or the origin or the service gets a connection.
-pub fn meet(rt: &HostRuntime, ports: Ports, others: &Others, side: Peer) -> io::Result<TcpStream> {
+pub fn meet(
+    rt: &HostRuntime,
+    ports: LoopbackPorts,
+    others: &Others,
+    side: ScenePeer,
+) -> io::Result<TcpStream> {
     let listener = match side {
-        Peer::User => return TcpStream::connect(rt, ports.users),
-        Peer::Origin => &others.origin,
-        Peer::Service => &others.service,
+        ScenePeer::User => return TcpStream::connect(rt, ports.users),
+        ScenePeer::Origin => &others.origin,
+        ScenePeer::Service => &others.service,
     };
     let (stream, _) = listener.accept()?;
     Ok(stream)
 }
 
 /// Whether the administrator gets this answer in the end.
-fn awaits(rt: &HostRuntime, ports: Ports, line: &str, answer: &str) -> io::Result<bool> {
+fn awaits(rt: &HostRuntime, ports: LoopbackPorts, line: &str, answer: &str) -> io::Result<bool> {
     for _ in 0..TRIES {
         if admin(rt, ports, line, answer)? {
             return Ok(true);
@@ -138,31 +143,36 @@ fn awaits(rt: &HostRuntime, ports: Ports, line: &str, answer: &str) -> io::Resul
     Ok(false)
 }
 
-fn take(rt: &HostRuntime, alloc: Global, stage: &mut Stage<'_>, step: Step) -> io::Result<bool> {
+fn take(
+    rt: &HostRuntime,
+    alloc: Global,
+    stage: &mut SceneStage<'_>,
+    step: SceneStep,
+) -> io::Result<bool> {
     match step {
-        Step::New(side, deeds) => {
+        SceneStep::New(side, deeds) => {
             let stream = meet(rt, stage.ports, stage.others, side)?;
             let right = does_all(alloc, &stream, stage.others, deeds)?;
             stage.made.push(Some(stream))?;
             Ok(right)
         }
-        Step::On(number, deeds) => match stage.made.get(number) {
+        SceneStep::On(number, deeds) => match stage.made.get(number) {
             Some(Some(stream)) => does_all(alloc, stream, stage.others, deeds),
             _ => Err(io::Error::from(ErrorKind::NotConnected)),
         },
-        Step::Closes(number) => {
+        SceneStep::Closes(number) => {
             if let Some(place) = stage.made.get_mut(number) {
                 *place = None;
             }
             Ok(true)
         }
-        Step::Admin(line, answer) => admin(rt, stage.ports, line, answer),
-        Step::Awaits(line, answer) => awaits(rt, stage.ports, line, answer),
-        Step::Stops => {
+        SceneStep::Admin(line, answer) => admin(rt, stage.ports, line, answer),
+        SceneStep::Awaits(line, answer) => awaits(rt, stage.ports, line, answer),
+        SceneStep::Stops => {
             stop(rt, stage.ports)?;
             Ok(true)
         }
-        Step::Releases => {
+        SceneStep::Releases => {
             stage.gate.answered();
             Ok(true)
         }
@@ -173,8 +183,8 @@ fn take(rt: &HostRuntime, alloc: Global, stage: &mut Stage<'_>, step: Step) -> i
 pub fn take_all(
     rt: &HostRuntime,
     alloc: Global,
-    stage: &mut Stage<'_>,
-    steps: &[Step],
+    stage: &mut SceneStage<'_>,
+    steps: &[SceneStep],
 ) -> io::Result<bool> {
     for step in steps {
         if !take(rt, alloc, stage, *step)? {

@@ -1,10 +1,10 @@
 //! What users, an origin, a service and the administrator do, in this order, and what they get.
 
-use super::loopback::Scene;
+use super::loopback::LoopbackScene;
 use super::player::Deed::{Ends, Gets, GetsOffer, HearsEnd, HearsNothing, Passes, Says};
-use super::player::Peer::{Origin, Service, User};
-use super::player::Step::{Admin, Awaits, Closes, New, On, Releases, Stops};
-use super::player::{Deed, Step};
+use super::player::ScenePeer::{Origin, Service, User};
+use super::player::SceneStep::{Admin, Awaits, Closes, New, On, Releases, Stops};
+use super::player::{Deed, SceneStep};
 use super::texts::{
     ADAPTED, ALMOST_A_REQUEST, BAD_GATEWAY, BAD_REQUEST, BEHIND, BY_EXTENSION, CHANGED,
     CHANGED_TO_ORIGIN, CLOSED, CONTINUE, FINAL, FORWARDED, GO_AHEAD, HEAD_END, NO_CONNECTIONS,
@@ -36,7 +36,7 @@ const GETS_TIMEOUT: &[Deed] = &[Gets(TIMEOUT), HearsEnd];
 pub const IS_REFUSED: &[Deed] = &[Gets(UNAVAILABLE), HearsEnd];
 
 /// The worked exchange, twice on one connection of the user, and of the service.
-const WORKED: &[Step] = &[
+const WORKED: &[SceneStep] = &[
     New(User, ASKS),
     New(Origin, ANSWERS),
     New(Service, SAYS_PREVIEWS),
@@ -49,7 +49,7 @@ const WORKED: &[Step] = &[
 
 /// The service of responses gets the user's own request with the response, and judges by its extension, even if the origin
 /// got another one.
-const CHANGED_REQUEST: &[Step] = &[
+const CHANGED_REQUEST: &[SceneStep] = &[
     New(User, ASKS),
     New(Service, SAYS_ONE_REQUEST),
     On(1, &[Passes(REQUEST), Says(CHANGED)]),
@@ -60,7 +60,7 @@ const CHANGED_REQUEST: &[Step] = &[
 ];
 
 /// The service takes no connection, as it says.
-const REFUSING: &[Step] = &[
+const REFUSING: &[SceneStep] = &[
     New(User, ASKS),
     New(Origin, ANSWERS),
     New(Service, &[Passes(HEAD_END), Says(NO_CONNECTIONS)]),
@@ -68,7 +68,7 @@ const REFUSING: &[Step] = &[
 ];
 
 /// The service closes the connection on which it was asked for its options.
-const CLOSED_OPTIONS: &[Step] = &[
+const CLOSED_OPTIONS: &[SceneStep] = &[
     New(User, ASKS),
     New(Origin, ANSWERS),
     New(Service, &[Passes(HEAD_END), Says(CLOSED)]),
@@ -78,7 +78,7 @@ const CLOSED_OPTIONS: &[Step] = &[
 ];
 
 /// Nothing comes of a request's rest, of an origin's answer, of a service's options.
-const DEADLINES: &[Step] = &[
+const DEADLINES: &[SceneStep] = &[
     New(User, &[Says(b"GET http://o.test/a."), HearsEnd]),
     New(User, ASKS),
     New(Origin, &[]),
@@ -90,10 +90,10 @@ const DEADLINES: &[Step] = &[
 ];
 
 /// A request's head isn't whole within its time.
-const SLOW_HEAD: &[Step] = &[New(User, &[Says(b"GET http://o.test/a."), HearsEnd])];
+const SLOW_HEAD: &[SceneStep] = &[New(User, &[Says(b"GET http://o.test/a."), HearsEnd])];
 
 /// Nothing comes of a service's reply.
-const SILENT_SERVICE: &[Step] = &[
+const SILENT_SERVICE: &[SceneStep] = &[
     New(User, ASKS),
     New(Origin, ANSWERS),
     New(Service, SAYS_PREVIEWS),
@@ -102,7 +102,7 @@ const SILENT_SERVICE: &[Step] = &[
 ];
 
 /// The service closes its idle connection, and the next request begins anew.
-const RETRY: &[Step] = &[
+const RETRY: &[SceneStep] = &[
     New(User, ASKS),
     New(Origin, ANSWERS),
     New(Service, SAYS_PREVIEWS),
@@ -116,7 +116,7 @@ const RETRY: &[Step] = &[
 ];
 
 /// The service closes its idle connection, on which the proxy would ask it for its options, since it has given another tag.
-const STALE_OPTIONS: &[Step] = &[
+const STALE_OPTIONS: &[SceneStep] = &[
     New(User, ASKS),
     New(Origin, ANSWERS),
     New(Service, SAYS_PREVIEWS),
@@ -131,7 +131,7 @@ const STALE_OPTIONS: &[Step] = &[
 ];
 
 /// A user is refused while another one is served, and holds no room: once that one has left, the next is served.
-const CROWDED: &[Step] = &[
+const CROWDED: &[SceneStep] = &[
     New(User, &[Says(POST)]),
     New(Origin, &[Gets(POST_TO_ORIGIN)]),
     New(User, ASKS),
@@ -146,7 +146,7 @@ const CROWDED: &[Step] = &[
 
 /// A user that waits for `100 Continue` gets the refusal and nothing else if the budget has no room for it. If there is
 /// room, it gets the 100.
-const WAITS_FOR_ROOM: &[Step] = &[
+const WAITS_FOR_ROOM: &[SceneStep] = &[
     Admin("capacity 4096\n", "ok\n"),
     New(User, WAITS),
     On(0, IS_REFUSED),
@@ -161,7 +161,7 @@ const WAITS_FOR_ROOM: &[Step] = &[
 ];
 
 /// A user that waits for `100 Continue` gets the refusal and nothing else if another shard's user has the only row.
-const WAITS_FOR_A_ROW: &[Step] = &[
+const WAITS_FOR_A_ROW: &[SceneStep] = &[
     New(User, &[Says(POST)]),
     New(Origin, &[Gets(POST_TO_ORIGIN)]),
     New(User, WAITS),
@@ -173,7 +173,7 @@ const WAITS_FOR_A_ROW: &[Step] = &[
 
 /// A user that waits for `100 Continue` gets the refusal and nothing else if the only connection of the service has another
 /// user's request.
-const WAITS_FOR_THE_SERVICE: &[Step] = &[
+const WAITS_FOR_THE_SERVICE: &[SceneStep] = &[
     New(User, &[Says(POST)]),
     New(Service, SAYS_ONE_REQUEST),
     On(1, &[Passes(POST)]),
@@ -191,7 +191,7 @@ const WAITS_FOR_THE_SERVICE: &[Step] = &[
 ];
 
 /// The capacity changes.
-const CAPACITY: &[Step] = &[
+const CAPACITY: &[SceneStep] = &[
     Admin("capacity 4096\n", "ok\n"),
     Admin("book\n", "rows 0 held 0 claimed 0 capacity 4096\n"),
     Admin("capacity 0\n", "bad\n"),
@@ -200,7 +200,7 @@ const CAPACITY: &[Step] = &[
 ];
 
 /// The capacity changes while four bytes of a message are held that the service has got and hasn't answered.
-const HELD_BYTES: &[Step] = &[
+const HELD_BYTES: &[SceneStep] = &[
     New(User, ASKS),
     New(Origin, &[Gets(TO_ORIGIN), Says(RESPONSE_FRONT)]),
     New(Service, SAYS_PREVIEWS),
@@ -223,7 +223,7 @@ const HELD_BYTES: &[Step] = &[
 ];
 
 /// Users whose connections end inside a request's head get nothing, and the next one is served.
-const CUT_HEADS: &[Step] = &[
+const CUT_HEADS: &[SceneStep] = &[
     New(User, &[Says(b"G"), Ends, HearsEnd]),
     New(User, ASKS),
     New(Origin, ANSWERS),
@@ -239,10 +239,13 @@ const CUT_HEADS: &[Step] = &[
 ];
 
 /// A request with two lengths is refused, and the origin hears nothing of it.
-const TWO_LENGTHS_SAID: &[Step] = &[New(User, &[Says(TWO_LENGTHS), Gets(BAD_REQUEST), HearsEnd])];
+const TWO_LENGTHS_SAID: &[SceneStep] = &[New(
+    User,
+    &[Says(TWO_LENGTHS), Gets(BAD_REQUEST), HearsEnd],
+)];
 
 /// The proxy stops while the service has a message.
-const STOPPED: &[Step] = &[
+const STOPPED: &[SceneStep] = &[
     New(User, ASKS),
     New(Origin, ANSWERS),
     New(Service, SAYS_PREVIEWS),
@@ -253,7 +256,7 @@ const STOPPED: &[Step] = &[
 
 /// The second user's shard serves it while the first one's is held back. Then the first one's shard uses the connection
 /// that the other one has opened.
-const HELD_BACK: &[Step] = &[
+const HELD_BACK: &[SceneStep] = &[
     New(User, ASKS),
     New(Origin, &[]),
     New(User, ASKS),
@@ -270,28 +273,28 @@ const HELD_BACK: &[Step] = &[
 ];
 
 /// A scene with its name, and lines of its configuration.
-pub type Named = (&'static str, Scene, &'static str);
+pub type Named = (&'static str, LoopbackScene, &'static str);
 
 /// Exchanges that a service adapts.
 pub const ADAPTED_ONES: &[Named] = &[
     (
         "the worked exchange",
-        Scene::Adapted(WORKED),
+        LoopbackScene::Adapted(WORKED),
         "allow_limit = 0\n",
     ),
     (
         "a changed request",
-        Scene::AllAdapted(CHANGED_REQUEST),
+        LoopbackScene::AllAdapted(CHANGED_REQUEST),
         "allow_limit = 0\n",
     ),
     (
         "a service that takes no connection",
-        Scene::Adapted(REFUSING),
+        LoopbackScene::Adapted(REFUSING),
         "allow_limit = 0\n",
     ),
     (
         "a service that closes after its options",
-        Scene::Adapted(CLOSED_OPTIONS),
+        LoopbackScene::Adapted(CLOSED_OPTIONS),
         "allow_limit = 0\n",
     ),
 ];
@@ -300,27 +303,27 @@ pub const ADAPTED_ONES: &[Named] = &[
 pub const LATE_ONES: &[Named] = &[
     (
         "nobody waits for ever",
-        Scene::Adapted(DEADLINES),
+        LoopbackScene::Adapted(DEADLINES),
         "deadline = 1\nallow_limit = 0\n",
     ),
     (
         "a head has a time in all",
-        Scene::Forwarded(SLOW_HEAD),
+        LoopbackScene::Forwarded(SLOW_HEAD),
         "deadline = 3600\nhead_deadline = 1\n",
     ),
     (
         "a silent service",
-        Scene::Adapted(SILENT_SERVICE),
+        LoopbackScene::Adapted(SILENT_SERVICE),
         "deadline = 1\nallow_limit = 0\n",
     ),
     (
         "a request begins anew after an idle connection",
-        Scene::Adapted(RETRY),
+        LoopbackScene::Adapted(RETRY),
         "",
     ),
     (
         "the options are asked anew after an idle connection",
-        Scene::Adapted(STALE_OPTIONS),
+        LoopbackScene::Adapted(STALE_OPTIONS),
         "",
     ),
 ];
@@ -329,59 +332,71 @@ pub const LATE_ONES: &[Named] = &[
 pub const CROWDED_ONES: &[Named] = &[
     (
         "no row beside another user",
-        Scene::Forwarded(CROWDED),
+        LoopbackScene::Forwarded(CROWDED),
         "rows = 1\nshards = 1\n",
     ),
     (
         "no room for one that waits",
-        Scene::Forwarded(WAITS_FOR_ROOM),
+        LoopbackScene::Forwarded(WAITS_FOR_ROOM),
         "",
     ),
     (
         "no row for one that waits",
-        Scene::Forwarded(WAITS_FOR_A_ROW),
+        LoopbackScene::Forwarded(WAITS_FOR_A_ROW),
         "rows = 1\nshards = 2\n",
     ),
     (
         "no connection for one that waits",
-        Scene::AllAdapted(WAITS_FOR_THE_SERVICE),
+        LoopbackScene::AllAdapted(WAITS_FOR_THE_SERVICE),
         "shards = 1\n",
     ),
 ];
 
 /// What the administrator does, and what users do wrong.
 pub const CUT_ONES: &[Named] = &[
-    ("the capacity changes", Scene::Forwarded(CAPACITY), ""),
+    (
+        "the capacity changes",
+        LoopbackScene::Forwarded(CAPACITY),
+        "",
+    ),
     (
         "the capacity changes while bytes are held",
-        Scene::Adapted(HELD_BYTES),
+        LoopbackScene::Adapted(HELD_BYTES),
         "allow_limit = 0\n",
     ),
-    ("the proxy stops", Scene::Adapted(STOPPED), ""),
-    ("heads that break off", Scene::Forwarded(CUT_HEADS), ""),
-    ("two lengths", Scene::Forwarded(TWO_LENGTHS_SAID), ""),
+    ("the proxy stops", LoopbackScene::Adapted(STOPPED), ""),
+    (
+        "heads that break off",
+        LoopbackScene::Forwarded(CUT_HEADS),
+        "",
+    ),
+    (
+        "two lengths",
+        LoopbackScene::Forwarded(TWO_LENGTHS_SAID),
+        "",
+    ),
 ];
 
 /// Several shards.
 pub const SHARDED_ONES: &[Named] = &[
     (
         "one pool serves all shards",
-        Scene::OneConnection,
+        LoopbackScene::OneConnection,
         "allow_limit = 0\nshards = 2\n",
     ),
     (
         "one shard is held back",
-        Scene::HeldBack(HELD_BACK),
+        LoopbackScene::HeldBack(HELD_BACK),
         "allow_limit = 0\nshards = 2\n",
     ),
     (
         "a user, an origin and a service in a thread each",
-        Scene::Apart,
+        LoopbackScene::Apart,
         "allow_limit = 0\n",
     ),
     (
         "icapd adapts what many users ask, who share a small budget",
-        Scene::ByIcapd,
+        LoopbackScene::ByIcapd,
         "allow_limit = 0\nshards = 4\ncapacity = 20000\n",
     ),
 ];

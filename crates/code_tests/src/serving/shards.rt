@@ -1,11 +1,11 @@
 //! What users of several shards get: one budget and one pool for all of them.
 
 use super::loopback::Others;
-use super::player::Peer::{Origin, Service, User};
-use super::player::{Deed, Peer, TRIES, does_all, meet};
+use super::player::ScenePeer::{Origin, Service, User};
+use super::player::{Deed, ScenePeer, TRIES, does_all, meet};
 use super::scenes::{ADAPTS, ANSWERS, ASKS, IS_REFUSED, SAYS_ONE_CONNECTION};
 use super::texts::{ADAPTED, HEAD_END, REQUEST, RESPONSE, STAMPED_TO_ORIGIN, UNAVAILABLE};
-use crate::ports::Ports;
+use crate::ports::LoopbackPorts;
 use crate::streams::{gets, hears, say, until};
 use std::alloc::Global;
 use std::io;
@@ -32,9 +32,9 @@ fn is_offered(line: &TcpStream, user: &TcpStream) -> io::Result<bool> {
 fn met(
     rt: &HostRuntime,
     alloc: Global,
-    ports: Ports,
+    ports: LoopbackPorts,
     others: &Others,
-    side: Peer,
+    side: ScenePeer,
     deeds: &[Deed],
 ) -> io::Result<TcpStream> {
     let stream = meet(rt, ports, others, side)?;
@@ -43,7 +43,12 @@ fn met(
 }
 
 /// A user that has asked, and whose request the origin has answered.
-fn asked(rt: &HostRuntime, alloc: Global, ports: Ports, others: &Others) -> io::Result<TcpStream> {
+fn asked(
+    rt: &HostRuntime,
+    alloc: Global,
+    ports: LoopbackPorts,
+    others: &Others,
+) -> io::Result<TcpStream> {
     let user = met(rt, alloc, ports, others, User, ASKS)?;
     let _ = met(rt, alloc, ports, others, Origin, ANSWERS)?;
     Ok(user)
@@ -84,7 +89,7 @@ fn is_served(
 fn third_user(
     rt: &HostRuntime,
     alloc: Global,
-    ports: Ports,
+    ports: LoopbackPorts,
     others: &Others,
     line: &TcpStream,
 ) -> io::Result<bool> {
@@ -101,7 +106,7 @@ fn third_user(
 pub fn one_connection(
     rt: &HostRuntime,
     alloc: Global,
-    ports: Ports,
+    ports: LoopbackPorts,
     others: &Others,
 ) -> io::Result<bool> {
     let first = asked(rt, alloc, ports, others)?;
@@ -138,14 +143,14 @@ fn ends(rt: &HostRuntime, others: &Others) -> io::Result<()> {
 }
 
 /// A user asks.
-fn ask(rt: &HostRuntime, ports: Ports) -> io::Result<TcpStream> {
+fn ask(rt: &HostRuntime, ports: LoopbackPorts) -> io::Result<TcpStream> {
     let user = TcpStream::connect(rt, ports.users)?;
     say(&user, REQUEST)?;
     Ok(user)
 }
 
 /// All users ask at once.
-fn all_ask(rt: &HostRuntime, alloc: Global, ports: Ports) -> io::Result<Vec<TcpStream>> {
+fn all_ask(rt: &HostRuntime, alloc: Global, ports: LoopbackPorts) -> io::Result<Vec<TcpStream>> {
     let mut users = Vec::new(alloc);
     for _ in 0..USERS {
         users.push(ask(rt, ports)?)?;
@@ -166,7 +171,7 @@ fn gets_all(alloc: Global, user: &TcpStream) -> io::Result<Option<bool>> {
 }
 
 /// Whether a user alone gets the whole adapted message, and then some of many, and all others the refusal.
-fn are_served(rt: &HostRuntime, alloc: Global, ports: Ports) -> io::Result<bool> {
+fn are_served(rt: &HostRuntime, alloc: Global, ports: LoopbackPorts) -> io::Result<bool> {
     if !gets(&ask(rt, ports)?, ADAPTED)? {
         return Ok(false);
     }
@@ -186,7 +191,7 @@ pub fn many_users<R: Threads + Sync>(
     rt: &R,
     host: &HostRuntime,
     alloc: Global,
-    ports: Ports,
+    ports: LoopbackPorts,
     others: &Others,
 ) -> io::Result<bool> {
     let mut right = false;

@@ -1,7 +1,7 @@
 //! What a probe is asked to do, and the lines that it says of what came.
 use crate::commands::arguments::arguments_of;
 use service_probe::{
-    Came, ConnectionUse, Fault, Finding, ProbeAttempt, SAMPLES, put_attempt, read_choice,
+    ConnectionUse, Fault, Finding, ProbeAttempt, ProbeOutcome, SAMPLES, put_attempt, read_choice,
 };
 use std::alloc::Global;
 use test_rows::{NoMemory, Row, put_line, put_shown, says};
@@ -23,24 +23,24 @@ fn number_of(row: &Row<'_>, key: &[u8]) -> u64 {
 }
 
 /// What came by a row.
-fn came_of(alloc: Global, row: &Row<'_>) -> Result<Came, NoMemory> {
+fn came_of(alloc: Global, row: &Row<'_>) -> Result<ProbeOutcome, NoMemory> {
     let continued = row.has(b"continued");
     let bytes = number_of(row, b"bytes");
     let came = row.get(b"came");
     Ok(if says(came, b"options") {
-        Came::Options
+        ProbeOutcome::Options
     } else if says(came, b"unchanged") {
-        Came::Unchanged { continued }
+        ProbeOutcome::Unchanged { continued }
     } else if says(came, b"changed") {
-        Came::Changed { continued, bytes }
+        ProbeOutcome::Changed { continued, bytes }
     } else if says(came, b"page") {
-        Came::Page {
+        ProbeOutcome::Page {
             continued,
             status: u16::try_from(number_of(row, b"status")).unwrap_or(0),
             bytes,
         }
     } else {
-        Came::Broken(Finding {
+        ProbeOutcome::Broken(Finding {
             fault: fault_of(came),
             at: number_of(row, b"at"),
             octets: row.get(b"octets").to_vec(alloc)?,

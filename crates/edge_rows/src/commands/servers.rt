@@ -1,18 +1,18 @@
 //! What `icapd` says of configurations and of its errors, and one connection over standard input.
 use crate::commands::devices::{Sink, feed_of, put_ended, room};
-use icapd_commands::{Config, Error, once, put_error, read_config, read_input};
+use icapd_commands::{IcapdConfig, IcapdError, once, put_error, read_config, read_input};
 use std::alloc::Global;
 use test_rows::{NoMemory, Row, put_line, put_number, says};
 
 /// Adds what the program says of an error, and its status.
-fn put_refusal(alloc: Global, error: &Error, out: &mut Vec<u8>) -> Result<(), NoMemory> {
+fn put_refusal(alloc: Global, error: &IcapdError, out: &mut Vec<u8>) -> Result<(), NoMemory> {
     let mut errors = Sink::new(alloc, usize::MAX, false)?;
     let _ = put_error(error, &mut errors);
     put_ended(out, error.status(), b"", errors.taken())
 }
 
 /// Adds each value.
-fn put_values(config: &Config, out: &mut Vec<u8>) -> Result<(), NoMemory> {
+fn put_values(config: &IcapdConfig, out: &mut Vec<u8>) -> Result<(), NoMemory> {
     put_number(out, b"listen", u64::from(config.listen.port()))?;
     out.extend_from_slice(b"istag ")?;
     put_line(out, &config.settings.istag)?;
@@ -25,7 +25,7 @@ fn put_values(config: &Config, out: &mut Vec<u8>) -> Result<(), NoMemory> {
 fn put_configuration(alloc: Global, row: &Row<'_>, out: &mut Vec<u8>) -> Result<(), NoMemory> {
     match read_config(alloc, row.get(b"input")) {
         Ok(config) => put_values(&config, out),
-        Err(Error::NoMemory) => Err(NoMemory),
+        Err(IcapdError::NoMemory) => Err(NoMemory),
         Err(error) => put_refusal(alloc, &error, out),
     }
 }
@@ -44,28 +44,28 @@ fn put_connection(alloc: Global, row: &Row<'_>, out: &mut Vec<u8>) -> Result<(),
     match once(alloc, feed_of(row), &mut output) {
         Ok(()) if row.has(b"hidden") => put_ended(out, 0, b"", b""),
         Ok(()) => put_ended(out, 0, output.taken(), b""),
-        Err(Error::NoMemory) => Err(NoMemory),
+        Err(IcapdError::NoMemory) => Err(NoMemory),
         Err(error) => put_refusal(alloc, &error, out),
     }
 }
 
 /// The error that a row names.
-fn error_of(row: &Row<'_>) -> Option<Error> {
+fn error_of(row: &Row<'_>) -> Option<IcapdError> {
     let word = row.get(b"error");
     if says(word, b"usage") {
-        Some(Error::Usage)
+        Some(IcapdError::Usage)
     } else if says(word, b"read") {
-        Some(Error::ReadFailed)
+        Some(IcapdError::ReadFailed)
     } else if says(word, b"write") {
-        Some(Error::WriteFailed)
+        Some(IcapdError::WriteFailed)
     } else if says(word, b"long") {
-        Some(Error::InputTooLong)
+        Some(IcapdError::InputTooLong)
     } else if says(word, b"config") {
-        Some(Error::Config)
+        Some(IcapdError::Config)
     } else if says(word, b"listen") {
-        Some(Error::CannotListen)
+        Some(IcapdError::CannotListen)
     } else if says(word, b"memory") {
-        Some(Error::NoMemory)
+        Some(IcapdError::NoMemory)
     } else {
         None
     }

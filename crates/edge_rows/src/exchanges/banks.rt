@@ -1,11 +1,11 @@
 //! A row's exchange on a budget of its own, whose ledgers are picked here, once for all.
 ghost use Rattle.std.specs.Prelude.{◌≡◌};
 
-use crate::exchanges::memory::{Memory, RowOutside};
-use crate::exchanges::play::{Played, play_row};
-use crate::exchanges::schedules::{Came, play_both};
+use crate::exchanges::memory::{MemoryOutside, RowOutside};
+use crate::exchanges::play::{PlayedRow, play_row};
+use crate::exchanges::schedules::{ScheduleEnd, play_both};
 use crate::stage::{
-    Ended, Peer, PolledWire, Stage, StageWire, TalkWire, put_ended, put_happenings,
+    EndedRow, LineOwner, PolledWire, RowStage, StageWire, TalkWire, put_ended, put_happenings,
 };
 use proxy_config::{Config, ConfigFault, read_config};
 use proxy_rules::Incoming;
@@ -22,16 +22,16 @@ use test_rows::{NoMemory, Scene, Values, number, parts, put_line, put_number};
 fn left_of<O: RowOutside, R: Wait>(
     rt: &R,
     bank: &Bank<O::Ledgers>,
-    played: Played<Holdings<O>>,
-) -> Ended {
-    let Played {
+    played: PlayedRow<Holdings<O>>,
+) -> EndedRow {
+    let PlayedRow {
         ends: _,
         phase,
         holdings,
         memory,
     } = played;
     let Held { lease, stake } = holdings.into_held(rt, bank);
-    let ended = Ended {
+    let ended = EndedRow {
         phase,
         lease: lease.is_some(),
         stake: stake.is_some(),
@@ -47,13 +47,13 @@ fn left_of<O: RowOutside, R: Wait>(
 fn ended_with<O: RowOutside, R: Wait>(
     rt: &R,
     bank: &Bank<O::Ledgers>,
-    stage: &Stage,
+    stage: &RowStage,
     scene: Scene<'_>,
     values: Values,
     user: O::User,
     message: Box<Incoming>,
     memory: O,
-) -> (bool, Ended) {
+) -> (bool, EndedRow) {
     let played = play_row(rt, stage, scene, values, user, message, memory);
     let ends = played.ends;
     (ends, left_of(rt, bank, played))
@@ -64,13 +64,13 @@ fn ended_of<'a, W: StageWire<'a>, B: Ledgers, R: Wait>(
     rt: &R,
     alloc: Global,
     bank: &Bank<B>,
-    stage: &'a Stage,
+    stage: &'a RowStage,
     scene: Scene<'a>,
     values: Values,
-    memory: Memory<'a, W, B>,
-) -> Result<(bool, Ended), NoMemory> {
+    memory: MemoryOutside<'a, W, B>,
+) -> Result<(bool, EndedRow), NoMemory> {
     let message = Box::new(alloc, Incoming::request(alloc))?;
-    let user = W::open(stage, scene, values, Peer::User, b"user");
+    let user = W::open(stage, scene, values, LineOwner::User, b"user");
     Ok(ended_with(rt, bank, stage, scene, values, user, message, memory))
 }
 
@@ -84,8 +84,8 @@ fn put_scene<B: Ledgers, R: Wait>(
     values: Values,
     out: &mut Vec<u8>,
 ) -> Result<(), NoMemory> {
-    let stage = Stage::new(alloc, scene, 0)?;
-    let memory: Memory<'_, TalkWire<'_>, B> = Memory::new(
+    let stage = RowStage::new(alloc, scene, 0)?;
+    let memory: MemoryOutside<'_, TalkWire<'_>, B> = MemoryOutside::new(
         alloc, &stage, scene, values, config, bank,
     );
     let (ends, ended) = ended_of(rt, alloc, bank, &stage, scene, values, memory)?;
@@ -101,13 +101,13 @@ fn put_scene<B: Ledgers, R: Wait>(
 fn came_of<O: RowOutside, R: Wait>(
     rt: &R,
     bank: &Bank<O::Ledgers>,
-    stage: &Stage,
+    stage: &RowStage,
     scene: Scene<'_>,
     values: Values,
     users: (O::User, O::User),
     messages: (Box<Incoming>, Box<Incoming>),
     outsides: (O, O),
-) -> Came {
+) -> ScheduleEnd {
     let one = Holdings::new(users.0, Some(messages.0));
     let two = Holdings::new(users.1, Some(messages.1));
     let (came, first, second) = play_both(rt, stage, scene, values, one, two, outsides);
@@ -121,17 +121,17 @@ fn play_pair<'a, W: StageWire<'a>, B: Ledgers, R: Wait>(
     rt: &R,
     alloc: Global,
     bank: &Bank<B>,
-    stage: &'a Stage,
+    stage: &'a RowStage,
     scene: Scene<'a>,
     values: Values,
-    one: Memory<'a, W, B>,
-    two: Memory<'a, W, B>,
-) -> Result<Came, NoMemory> {
+    one: MemoryOutside<'a, W, B>,
+    two: MemoryOutside<'a, W, B>,
+) -> Result<ScheduleEnd, NoMemory> {
     let first = Box::new(alloc, Incoming::request(alloc))?;
     let second = Box::new(alloc, Incoming::request(alloc))?;
-    let user = W::open(stage, scene, values, Peer::User, b"user");
+    let user = W::open(stage, scene, values, LineOwner::User, b"user");
     stage.turn_to(1, false);
-    let other = W::open(stage, scene, values, Peer::User, b"user 2");
+    let other = W::open(stage, scene, values, LineOwner::User, b"user 2");
     Ok(came_of(
         rt,
         bank,
@@ -154,12 +154,12 @@ fn play_seed<B: Ledgers, R: Wait>(
     values: Values,
     seed: u64,
     out: &mut Vec<u8>,
-) -> Result<Came, NoMemory> {
-    let stage = Stage::new(alloc, scene, seed)?;
-    let one: Memory<'_, PolledWire<'_>, B> = Memory::new(
+) -> Result<ScheduleEnd, NoMemory> {
+    let stage = RowStage::new(alloc, scene, seed)?;
+    let one: MemoryOutside<'_, PolledWire<'_>, B> = MemoryOutside::new(
         alloc, &stage, scene, values, config, bank,
     );
-    let two: Memory<'_, PolledWire<'_>, B> = Memory::new(
+    let two: MemoryOutside<'_, PolledWire<'_>, B> = MemoryOutside::new(
         alloc, &stage, scene, values, config, bank,
     );
     let came = play_pair(rt, alloc, bank, &stage, scene, values, one, two)?;
@@ -182,10 +182,10 @@ fn put_seeds<B: Ledgers, R: Wait>(
     let last = number(last).unwrap_or(0);
     for seed in first..last {
         match play_seed(rt, alloc, bank, config, scene, values, seed, out)? {
-            Came::Lost => return put_number(out, b"lost with seed", seed),
-            Came::On => return put_number(out, b"goes on and on with seed", seed),
-            Came::Rests => return put_number(out, b"rests with seed", seed),
-            Came::Over => {}
+            ScheduleEnd::Lost => return put_number(out, b"lost with seed", seed),
+            ScheduleEnd::On => return put_number(out, b"goes on and on with seed", seed),
+            ScheduleEnd::Rests => return put_number(out, b"rests with seed", seed),
+            ScheduleEnd::Over => {}
         }
     }
     put_number(out, b"seeds", last.saturating_sub(first))?;

@@ -7,7 +7,7 @@ mod outside;
 
 use crate::exchanges::services::book_of;
 use crate::exchanges::words::either;
-use crate::stage::{ORIGINS, Peer, SERVICES, Stage, StageWire, first_word, key_of};
+use crate::stage::{LineOwner, ORIGINS, RowStage, SERVICES, StageWire, first_word, key_of};
 use exchange_report::Why;
 use proxy_config::Config;
 use service_lines::{LendFault, PointBook};
@@ -22,7 +22,7 @@ use wire_kit::Wire;
 
 /// The moment of a step.
 #[derive(Clone, Copy, Drop)]
-pub struct Moment {
+pub struct RowMoment {
     /// No byte moved for longer than the deadline.
     pub late: bool,
     /// The user has said nothing for a while.
@@ -32,23 +32,23 @@ pub struct Moment {
 }
 
 /// The right to a connection of a service. It has no `Drop`.
-pub struct Lease {
+pub struct RowLease {
     point: Point,
     /// Whether its connection was idle before.
     reused: bool,
 }
 
 /// The surroundings of a row's exchange, which outlive it. What plays a row sees no more of them.
-pub trait RowOutside: Outside<Moment> {
+pub trait RowOutside: Outside<RowMoment> {
     /// After the exchange, with a lease that it left.
     fn end(self, lease: Option<Self::Lease>);
 }
 
 /// The surroundings of a row's exchange, in memory.
 #[derive(Drop)]
-pub struct Memory<'a, W, B: Ledgers> {
+pub struct MemoryOutside<'a, W, B: Ledgers> {
     alloc: Global,
-    stage: &'a Stage,
+    stage: &'a RowStage,
     scene: Scene<'a>,
     values: Values,
     config: &'a Config,
@@ -75,23 +75,23 @@ pub struct Memory<'a, W, B: Ledgers> {
 }
 
 /// The right to a connection of a point's service.
-fn lease_of(point: Point, reused: bool) -> Lease
+fn lease_of(point: Point, reused: bool) -> RowLease
     ensures { result.point ≡ point }
 {
-    Lease { point, reused }
+    RowLease { point, reused }
 }
 
-impl<'a, W: StageWire<'a>, B: Ledgers> Memory<'a, W, B> {
+impl<'a, W: StageWire<'a>, B: Ledgers> MemoryOutside<'a, W, B> {
     /// Before anything happened.
     pub fn new(
         alloc: Global,
-        stage: &'a Stage,
+        stage: &'a RowStage,
         scene: Scene<'a>,
         values: Values,
         config: &'a Config,
         bank: &'a Bank<B>,
-    ) -> Memory<'a, W, B> {
-        Memory {
+    ) -> MemoryOutside<'a, W, B> {
+        MemoryOutside {
             alloc,
             stage,
             scene,
@@ -117,7 +117,7 @@ impl<'a, W: StageWire<'a>, B: Ledgers> Memory<'a, W, B> {
     /// A further connection to a service.
     fn open_service(&mut self) -> W {
         self.services = self.services.saturating_add(1);
-        let peer = Peer::Service(self.services);
+        let peer = LineOwner::Service(self.services);
         let key = key_of(&SERVICES, self.services);
         W::open(self.stage, self.scene, self.values, peer, key)
     }
@@ -163,7 +163,7 @@ impl<'a, W: StageWire<'a>, B: Ledgers> Memory<'a, W, B> {
             return Err(Reason::NoMemory);
         }
         self.origins = self.origins.saturating_add(1);
-        let peer = Peer::Origin(self.origins);
+        let peer = LineOwner::Origin(self.origins);
         let key = key_of(&ORIGINS, self.origins);
         Ok(W::open(self.stage, self.scene, self.values, peer, key))
     }
@@ -176,7 +176,7 @@ impl<'a, W: StageWire<'a>, B: Ledgers> Memory<'a, W, B> {
     }
 
     /// A lease: `busy`, `unreached`, `memory` and `paused` have it fail, and `idle` has its connection be one that was idle.
-    fn lease(&mut self, point: Point) -> Result<(W, Lease), LendFault>
+    fn lease(&mut self, point: Point) -> Result<(W, RowLease), LendFault>
         ensures { IfOk result (λ lent. lent.1.point ≡ point) }
     {
         let word = self.next_lend();
@@ -200,7 +200,7 @@ impl<'a, W: StageWire<'a>, B: Ledgers> Memory<'a, W, B> {
     }
 
     /// A lease, and a note of it.
-    fn lease_noted(&mut self, point: Point) -> Result<(W, Lease), LendFault>
+    fn lease_noted(&mut self, point: Point) -> Result<(W, RowLease), LendFault>
         ensures { IfOk result (λ lent. lent.1.point ≡ point) }
     {
         let leased = self.lease(point);
@@ -214,22 +214,22 @@ impl<'a, W: StageWire<'a>, B: Ledgers> Memory<'a, W, B> {
     }
 }
 
-impl<'a, W: StageWire<'a>, B: Ledgers> Kinds for Memory<'a, W, B> {
+impl<'a, W: StageWire<'a>, B: Ledgers> Kinds for MemoryOutside<'a, W, B> {
     type User = W;
 
     type Origin = W;
 
     type Service = W;
 
-    type Lease = Lease;
+    type Lease = RowLease;
 
     type Ledgers = B;
 }
 
-impl<'a, W: StageWire<'a>, B: Ledgers> RowOutside for Memory<'a, W, B> {
-    fn end(self, lease: Option<Lease>) {
+impl<'a, W: StageWire<'a>, B: Ledgers> RowOutside for MemoryOutside<'a, W, B> {
+    fn end(self, lease: Option<RowLease>) {
         if let Some(lease) = lease {
-            let Lease {
+            let RowLease {
                 point: _,
                 reused: _,
             } = lease;

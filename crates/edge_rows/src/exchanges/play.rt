@@ -2,8 +2,8 @@
 
 ghost use Rattle.shard_exchange.specs.Hand.{IsFresh};
 
-use crate::exchanges::memory::Moment;
-use crate::stage::{Peer, Stage, first_word, name_of};
+use crate::exchanges::memory::RowMoment;
+use crate::stage::{LineOwner, RowStage, first_word, name_of};
 use adapt_sides::Scratch;
 use exchange_core::Phase;
 use proxy_rules::Incoming;
@@ -21,12 +21,12 @@ const STEPS: usize = 20_000;
 const WAITS: usize = 4;
 
 /// An exchange with its surroundings. What these are made of isn't seen by what plays a row.
-pub trait Live {
+pub trait Playable {
     /// What the user's connection is in the midst of.
     fn phase(&self) -> Phase;
 
     /// Does a task.
-    fn act<R: Wait>(&mut self, rt: &R, at: Moment, task: Task) -> Step;
+    fn act<R: Wait>(&mut self, rt: &R, at: RowMoment, task: Task) -> Step;
 
     /// The proxy drains.
     fn drain(&mut self);
@@ -39,12 +39,12 @@ pub struct LiveExchange<H: Holder> {
     memory: H::Outside,
 }
 
-impl<H: Effects<Moment>> Live for LiveExchange<H> {
+impl<H: Effects<RowMoment>> Playable for LiveExchange<H> {
     fn phase(&self) -> Phase {
         self.exchange.phase()
     }
 
-    fn act<R: Wait>(&mut self, rt: &R, at: Moment, task: Task) -> Step {
+    fn act<R: Wait>(&mut self, rt: &R, at: RowMoment, task: Task) -> Step {
         self.exchange
             .act(rt, &at, &mut self.memory, &mut Scratch::zeroed(), task)
     }
@@ -56,7 +56,7 @@ impl<H: Effects<Moment>> Live for LiveExchange<H> {
 
 /// What is left of a row that was played.
 #[must_use]
-pub struct Played<H: Holder> {
+pub struct PlayedRow<H: Holder> {
     /// Whether it came to an end.
     pub ends: bool,
     /// Where the exchange stood then.
@@ -75,9 +75,9 @@ impl<H: Holder> LiveExchange<H> {
     }
 
     /// What is left of it.
-    pub fn into_played(self, ends: bool) -> Played<H> {
+    pub fn into_played(self, ends: bool) -> PlayedRow<H> {
         let LiveExchange { exchange, memory } = self;
-        Played {
+        PlayedRow {
             ends,
             phase: exchange.phase(),
             holdings: exchange.into_holdings(),
@@ -87,14 +87,14 @@ impl<H: Holder> LiveExchange<H> {
 }
 
 /// Plays a row to its end, at whose beginning this is held.
-fn play_held<H: Effects<Moment>, R: Wait>(
+fn play_held<H: Effects<RowMoment>, R: Wait>(
     rt: &R,
-    stage: &Stage,
+    stage: &RowStage,
     scene: Scene<'_>,
     values: Values,
     holdings: H,
     memory: H::Outside,
-) -> Played<H>
+) -> PlayedRow<H>
     requires { IsFresh (H.hand holdings) }
 {
     let live = LiveExchange::begin(holdings, memory);
@@ -104,42 +104,42 @@ fn play_held<H: Effects<Moment>, R: Wait>(
 }
 
 /// Plays a row to its end, whose user has sent nothing yet.
-pub fn play_row<O: Outside<Moment>, R: Wait>(
+pub fn play_row<O: Outside<RowMoment>, R: Wait>(
     rt: &R,
-    stage: &Stage,
+    stage: &RowStage,
     scene: Scene<'_>,
     values: Values,
     user: O::User,
     message: Box<Incoming>,
     memory: O,
-) -> Played<Holdings<O>> {
+) -> PlayedRow<Holdings<O>> {
     let holdings = Holdings::new(user, Some(message));
     play_held(rt, stage, scene, values, holdings, memory)
 }
 
 /// A row's exchange in play.
-struct Play<'a, X: Live> {
+struct Play<'a, X: Playable> {
     live: X,
-    stage: &'a Stage,
+    stage: &'a RowStage,
     values: Values,
     /// The words of what happens from outside, and where.
     outside: &'a [u8],
-    at: Moment,
+    at: RowMoment,
     /// How often all have waited in a row.
     waits: usize,
     phase: Phase,
 }
 
 /// Nothing is late.
-pub const IN_TIME: Moment = Moment {
+pub const IN_TIME: RowMoment = RowMoment {
     late: false,
     rested: false,
     waited: false,
 };
 
-impl<'a, X: Live> Play<'a, X> {
+impl<'a, X: Playable> Play<'a, X> {
     /// Before the first step.
-    fn new(stage: &'a Stage, scene: Scene<'a>, values: Values, live: X) -> Play<'a, X> {
+    fn new(stage: &'a RowStage, scene: Scene<'a>, values: Values, live: X) -> Play<'a, X> {
         Play {
             live,
             stage,
@@ -178,7 +178,7 @@ impl<'a, X: Live> Play<'a, X> {
             b"waited" => self.at.waited = true,
             b"drain" => self.live.drain(),
             b"lost" => {
-                self.stage.lose(Peer::User);
+                self.stage.lose(LineOwner::User);
                 self.live.act(rt, self.at, Task::Lose);
             }
             _ => {

@@ -3,9 +3,9 @@
 
 ghost use Rattle.shard_exchange.specs.Hand.{IsFresh};
 
-use crate::exchanges::memory::Moment;
-use crate::exchanges::play::{IN_TIME, Live, LiveExchange, Played};
-use crate::stage::Stage;
+use crate::exchanges::memory::RowMoment;
+use crate::exchanges::play::{IN_TIME, LiveExchange, Playable, PlayedRow};
+use crate::stage::RowStage;
 use exchange_core::Phase;
 use shard_exchange::{Effects, Step, Task};
 use std::sync::Wait;
@@ -16,7 +16,7 @@ const TURNS: u64 = 5_000;
 
 /// What a schedule came to.
 #[derive(Clone, Copy, PartialEq, Eq)]
-pub enum Came {
+pub enum ScheduleEnd {
     /// All exchanges are over.
     Over,
     /// One rests: nothing that it waits for can come any more.
@@ -28,15 +28,15 @@ pub enum Came {
 }
 
 /// Plays a schedule of two exchanges, or of one, at whose beginning this is held.
-pub fn play_both<H: Effects<Moment>, R: Wait>(
+pub fn play_both<H: Effects<RowMoment>, R: Wait>(
     rt: &R,
-    stage: &Stage,
+    stage: &RowStage,
     scene: Scene<'_>,
     values: Values,
     one: H,
     two: H,
     outsides: (H::Outside, H::Outside),
-) -> (Came, Played<H>, Played<H>)
+) -> (ScheduleEnd, PlayedRow<H>, PlayedRow<H>)
     requires one { IsFresh (H.hand one) }
     requires two { IsFresh (H.hand two) }
 {
@@ -66,10 +66,10 @@ pub fn play_both<H: Effects<Moment>, R: Wait>(
 }
 
 /// Two exchanges in play.
-struct Schedule<'a, X: Live> {
+struct Schedule<'a, X: Playable> {
     one: X,
     two: X,
-    stage: &'a Stage,
+    stage: &'a RowStage,
     scene: Scene<'a>,
     values: Values,
     /// Which of them have more to do, and which are over.
@@ -79,7 +79,7 @@ struct Schedule<'a, X: Live> {
     task: Task,
 }
 
-impl<'a, X: Live> Schedule<'a, X> {
+impl<'a, X: Playable> Schedule<'a, X> {
     /// What an exchange is in the midst of.
     fn phase(&self, key: usize) -> Phase {
         if key == 0 {
@@ -145,22 +145,22 @@ impl<'a, X: Live> Schedule<'a, X> {
     }
 
     /// What it came to once nothing can happen any more: whether a step that is forced goes on, when all is told once more.
-    fn end<R: Wait>(&mut self, rt: &R) -> Came {
+    fn end<R: Wait>(&mut self, rt: &R) -> ScheduleEnd {
         self.stage.hear(true);
-        let mut came = Came::Over;
+        let mut came = ScheduleEnd::Over;
         for key in 0..2 {
             if !self.overs[key] {
                 if self.act(rt, key, self.task) != Step::Waits {
-                    return Came::Lost;
+                    return ScheduleEnd::Lost;
                 }
-                came = Came::Rests;
+                came = ScheduleEnd::Rests;
             }
         }
         came
     }
 
     /// Takes turns of the loop: a poll, which waits where nobody has a mark, and a drive of each for whom it has news, or who has a mark.
-    fn run<R: Wait>(&mut self, rt: &R) -> Came {
+    fn run<R: Wait>(&mut self, rt: &R) -> ScheduleEnd {
         let stop = self.stage.below(60);
         for turn in 0..TURNS {
             if turn == stop && self.scene.is(b"stops", b"yes") {
@@ -182,6 +182,6 @@ impl<'a, X: Live> Schedule<'a, X> {
                 }
             }
         }
-        Came::On
+        ScheduleEnd::On
     }
 }

@@ -6,7 +6,7 @@ ghost use Rattle.wire_kit.specs.Past.{FitsPut, FitsRoom};
 
 mod acts;
 
-use crate::stage::shared::{Peer, Stage};
+use crate::stage::shared::{LineOwner, RowStage};
 use service_lines::{WaitQueue, Waiter};
 use std::alloc::Global;
 use test_rows::{NoMemory, Random, Scene, Values, number};
@@ -14,10 +14,10 @@ use wire_kit::{Got, Put};
 
 /// A connection: what its other end does, what came and wasn't read, and what the poll has to tell of it.
 #[derive(Drop)]
-pub(crate) struct Line {
+pub(crate) struct PolledLine {
     /// The exchange that has it, and whose connection it is.
     key: usize,
-    peer: Peer,
+    peer: LineOwner,
     pub(crate) is_open: bool,
     /// How far the other end is in its words: the place of the next one, and how much of that one's text it gave.
     place: usize,
@@ -47,7 +47,7 @@ pub(crate) struct Line {
 #[derive(Drop)]
 pub(crate) struct Poll {
     random: Random,
-    pub(crate) lines: Vec<Line>,
+    pub(crate) lines: Vec<PolledLine>,
     queue: WaitQueue,
     /// How many connections to services are free, and how many others have and give back some time.
     free: u64,
@@ -138,7 +138,7 @@ impl Poll {
     }
 }
 
-impl Stage {
+impl RowStage {
     /// A number below this one, by chance.
     pub fn below(&self, most: u64) -> u64 {
         match self.poll.try_borrow_mut() {
@@ -154,7 +154,7 @@ impl Stage {
         };
         poll.driven = key;
         for line in poll.lines.iter() {
-            if line.peer == Peer::User && line.key == key && line.knows_end {
+            if line.peer == LineOwner::User && line.key == key && line.knows_end {
                 return line.has_failed || may_end;
             }
         }
@@ -185,12 +185,12 @@ impl Stage {
     }
 
     /// A connection of the exchange that is driven is opened: its number. What a user says may be there at once, and is read untold.
-    pub(crate) fn open_line(&self, peer: Peer) -> usize {
+    pub(crate) fn open_line(&self, peer: LineOwner) -> usize {
         let Ok(mut poll) = self.poll.try_borrow_mut() else {
             return usize::MAX;
         };
         let number = poll.lines.len();
-        let line = Line {
+        let line = PolledLine {
             key: poll.driven,
             peer,
             is_open: true,
@@ -207,7 +207,7 @@ impl Stage {
             tells_bytes: false,
             tells_room: false,
             tells_end: false,
-            can_read: peer == Peer::User,
+            can_read: peer == LineOwner::User,
             can_write: true,
             knows_end: false,
         };

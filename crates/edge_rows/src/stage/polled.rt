@@ -2,15 +2,15 @@
 
 ghost use Rattle.std.specs.Prelude.{◌≡◌, length};
 
-use crate::stage::shared::{Peer, Stage};
+use crate::stage::shared::{LineOwner, RowStage};
 use crate::stage::talk::StageWire;
 use test_rows::{Scene, Values};
 use wire_kit::{Got, Put, Wire};
 
 /// A connection of a schedule.
 pub struct PolledWire<'a> {
-    stage: &'a Stage,
-    peer: Peer,
+    stage: &'a RowStage,
+    peer: LineOwner,
     number: usize,
     read: u64,
     taken: u64,
@@ -19,10 +19,10 @@ pub struct PolledWire<'a> {
 
 impl<'a> StageWire<'a> for PolledWire<'a> {
     fn open(
-        stage: &'a Stage,
+        stage: &'a RowStage,
         _scene: Scene<'a>,
         _values: Values,
-        peer: Peer,
+        peer: LineOwner,
         _key: &[u8],
     ) -> PolledWire<'a> {
         PolledWire {

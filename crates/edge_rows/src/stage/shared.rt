@@ -10,27 +10,27 @@ use test_rows::{NoMemory, Scene, has_word, put_all, put_line, put_number, put_sh
 
 /// Whose connection it is. Those of origins and of services are numbered in the order in which they are opened.
 #[derive(Clone, Copy, PartialEq, Eq)]
-pub enum Peer {
+pub enum LineOwner {
     User,
     Origin(u64),
     Service(u64),
 }
 
-impl Peer {
+impl LineOwner {
     /// What it is called, without its number.
     pub(crate) fn name(self) -> &'static [u8] {
         match self {
-            Peer::User => b"user",
-            Peer::Origin(_) => b"origin",
-            Peer::Service(_) => b"service",
+            LineOwner::User => b"user",
+            LineOwner::Origin(_) => b"origin",
+            LineOwner::Service(_) => b"service",
         }
     }
 
     /// The number of an origin's or a service's connection.
     pub(crate) fn number(self) -> Option<u64> {
         match self {
-            Peer::User => None,
-            Peer::Origin(number) | Peer::Service(number) => Some(number),
+            LineOwner::User => None,
+            LineOwner::Origin(number) | LineOwner::Service(number) => Some(number),
         }
     }
 
@@ -45,19 +45,19 @@ impl Peer {
 
 /// What a connection took.
 #[derive(Drop)]
-pub(crate) struct Taken {
-    pub(crate) peer: Peer,
+pub(crate) struct TakenBytes {
+    pub(crate) peer: LineOwner,
     pub(crate) bytes: Vec<u8>,
 }
 
 /// What a row's connections share.
 #[derive(Drop)]
-pub struct Stage {
+pub struct RowStage {
     pub(crate) alloc: Global,
     /// The connections of a schedule, and who waits for one of a service.
     pub(crate) poll: RefCell<Poll>,
     /// What each connection took, in the order in which they were opened.
-    pub(crate) taken: RefCell<Vec<Taken>>,
+    pub(crate) taken: RefCell<Vec<TakenBytes>>,
     /// A line for each thing that happened, where the row asks for them, and for each phase that the exchange came to, where it
     /// asks for these.
     pub(crate) happenings: RefCell<Vec<u8>>,
@@ -77,10 +77,10 @@ pub struct Stage {
     is_short: Cell<bool>,
 }
 
-impl Stage {
+impl RowStage {
     /// Before anything happened in a row, which tells what its key `tell` says, with the chances of a seed.
-    pub fn new(alloc: Global, scene: Scene<'_>, seed: u64) -> Result<Stage, NoMemory> {
-        Ok(Stage {
+    pub fn new(alloc: Global, scene: Scene<'_>, seed: u64) -> Result<RowStage, NoMemory> {
+        Ok(RowStage {
             alloc,
             poll: RefCell::new(Poll::new(alloc, scene, seed)?),
             taken: RefCell::new(Vec::new(alloc)),
@@ -119,13 +119,14 @@ impl Stage {
     /// A request of the user was read.
     pub fn ask(&self) {
         if let Ok(taken) = self.taken.try_borrow() {
-            self.asked_at.set(Some(taken_by(&taken, Peer::User).len()));
+            self.asked_at
+                .set(Some(taken_by(&taken, LineOwner::User).len()));
         }
     }
 
     /// Nothing more reaches the other end of a connection.
-    pub fn lose(&self, peer: Peer) {
-        if peer == Peer::User {
+    pub fn lose(&self, peer: LineOwner) {
+        if peer == LineOwner::User {
             self.is_user_lost.set(true);
         }
     }
@@ -138,7 +139,7 @@ impl Stage {
         let Ok(taken) = self.taken.try_borrow() else {
             return true;
         };
-        let said = behind(taken_by(&taken, Peer::User), before);
+        let said = behind(taken_by(&taken, LineOwner::User), before);
         !self.is_user_lost.get() && (said.is_empty() || said == interim)
     }
 
@@ -169,17 +170,17 @@ impl Stage {
     }
 
     /// A connection is opened.
-    pub(crate) fn open(&self, peer: Peer) {
+    pub(crate) fn open(&self, peer: LineOwner) {
         if let Ok(mut taken) = self.taken.try_borrow_mut() {
             let bytes = Vec::new(self.alloc);
-            if taken.push(Taken { peer, bytes }).is_err() {
+            if taken.push(TakenBytes { peer, bytes }).is_err() {
                 self.is_short.set(true);
             }
         }
     }
 
     /// A connection takes bytes.
-    pub(crate) fn take(&self, peer: Peer, bytes: &[u8]) {
+    pub(crate) fn take(&self, peer: LineOwner, bytes: &[u8]) {
         if let Ok(mut taken) = self.taken.try_borrow_mut() {
             for each in taken.iter_mut() {
                 if each.peer == peer {
@@ -217,7 +218,7 @@ impl Stage {
     }
 
     /// Something happened with a connection.
-    pub(crate) fn note_peer(&self, what: &[u8], peer: Peer) {
+    pub(crate) fn note_peer(&self, what: &[u8], peer: LineOwner) {
         if self.notes()
             && let Ok(mut happenings) = self.happenings.try_borrow_mut()
         {
@@ -236,7 +237,7 @@ impl Stage {
 }
 
 /// What a connection took; nothing where it was never opened.
-fn taken_by(taken: &[Taken], peer: Peer) -> &[u8] {
+fn taken_by(taken: &[TakenBytes], peer: LineOwner) -> &[u8] {
     for each in taken {
         if each.peer == peer {
             return each.bytes.as_slice();
@@ -246,7 +247,7 @@ fn taken_by(taken: &[Taken], peer: Peer) -> &[u8] {
 }
 
 /// Adds a line of a word and a connection.
-fn put_peer(out: &mut Vec<u8>, what: &[u8], peer: Peer) -> Result<(), NoMemory> {
+fn put_peer(out: &mut Vec<u8>, what: &[u8], peer: LineOwner) -> Result<(), NoMemory> {
     out.extend_from_slice(what)?;
     out.extend_from_slice(b" ")?;
     peer.put_name(out)

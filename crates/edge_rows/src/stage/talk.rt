@@ -2,14 +2,14 @@
 
 ghost use Rattle.std.specs.Prelude.{◌≡◌, ◌≤◌, length};
 
-use crate::stage::shared::{Peer, Stage};
+use crate::stage::shared::{LineOwner, RowStage};
 use crate::stage::words::first_word;
 use test_rows::{Scene, Values, has_word, is, number_by, words_of};
 use wire_kit::{Got, Put, Wire};
 
 /// What the other end does.
 #[derive(Clone, Copy)]
-pub(crate) enum Act<'a> {
+pub(crate) enum TalkAct<'a> {
     /// It gives these bytes.
     Gives(&'a [u8]),
     /// It waits until it has taken so many bytes since the last time.
@@ -42,7 +42,7 @@ struct Pace {
 impl Pace {
     /// That of a peer: `cut: user` has its bytes pause after the first n, `drip: user` after each byte, and for `sip: user` it
     /// takes a byte at a time.
-    fn of(scene: Scene<'_>, values: Values, peer: Peer) -> Pace {
+    fn of(scene: Scene<'_>, values: Values, peer: LineOwner) -> Pace {
         let drips = has_word(scene.get(b"drip"), peer.name());
         let is_cut = has_word(scene.get(b"cut"), peer.name());
         Pace {
@@ -74,19 +74,19 @@ fn named_text<'a>(scene: Scene<'a>, values: Values, word: &'a [u8]) -> &'a [u8] 
 
 /// What an act's word says: `<NAME` that a text is heard, `takes=NUMBER`, `takes`, `pause`, `ends`, `fails` and `stays`, and else the
 /// name of a text that is given.
-pub(crate) fn read_act<'a>(scene: Scene<'a>, values: Values, word: &'a [u8]) -> Act<'a> {
+pub(crate) fn read_act<'a>(scene: Scene<'a>, values: Values, word: &'a [u8]) -> TalkAct<'a> {
     match word {
-        b"" => Act::Rests,
-        b"pause" => Act::Pauses,
-        b"ends" => Act::Ends,
-        b"fails" => Act::Fails,
-        b"stays" => Act::Stays,
-        b"takes" => Act::Takes(usize::MAX),
-        [b'<', name @ ..] => Act::Hears(scene.get(name).len()),
+        b"" => TalkAct::Rests,
+        b"pause" => TalkAct::Pauses,
+        b"ends" => TalkAct::Ends,
+        b"fails" => TalkAct::Fails,
+        b"stays" => TalkAct::Stays,
+        b"takes" => TalkAct::Takes(usize::MAX),
+        [b'<', name @ ..] => TalkAct::Hears(scene.get(name).len()),
         [b't', b'a', b'k', b'e', b's', b'=', count @ ..] => {
-            Act::Takes(number_by(count, values).unwrap_or(0))
+            TalkAct::Takes(number_by(count, values).unwrap_or(0))
         }
-        name => Act::Gives(named_text(scene, values, name)),
+        name => TalkAct::Gives(named_text(scene, values, name)),
     }
 }
 
@@ -103,13 +103,13 @@ fn takes_again(script: &[u8]) -> bool {
 /// The other end of a connection.
 #[derive(Drop)]
 struct Talk<'a> {
-    stage: &'a Stage,
+    stage: &'a RowStage,
     scene: Scene<'a>,
     values: Values,
     pace: Pace,
-    peer: Peer,
+    peer: LineOwner,
     /// What it does, and the words of what it does then.
-    act: Act<'a>,
+    act: TalkAct<'a>,
     script: &'a [u8],
     /// How many bytes it took since it last heard a text.
     heard: usize,
@@ -145,23 +145,23 @@ impl<'a> Talk<'a> {
     /// Whether the act is over.
     fn is_past(&mut self) -> bool {
         match self.act {
-            Act::Gives(text) => text.is_empty(),
-            Act::Hears(count) => self.heard >= count,
-            Act::Pauses => !self.pauses(),
-            Act::Takes(_) => true,
-            Act::Ends | Act::Fails | Act::Stays | Act::Rests => false,
+            TalkAct::Gives(text) => text.is_empty(),
+            TalkAct::Hears(count) => self.heard >= count,
+            TalkAct::Pauses => !self.pauses(),
+            TalkAct::Takes(_) => true,
+            TalkAct::Ends | TalkAct::Fails | TalkAct::Stays | TalkAct::Rests => false,
         }
     }
 
     /// Ends acts that are over, and says which one it is at.
-    fn go_on(&mut self) -> Act<'a> {
+    fn go_on(&mut self) -> TalkAct<'a> {
         for _ in 0..ACTS {
             if !self.is_past() {
                 return self.act;
             }
             match self.act {
-                Act::Hears(count) => self.heard = self.heard.saturating_sub(count),
-                Act::Takes(count) => self.room = count,
+                TalkAct::Hears(count) => self.heard = self.heard.saturating_sub(count),
+                TalkAct::Takes(count) => self.room = count,
                 _ => {}
             }
             let (word, script) = first_word(self.script);
@@ -208,7 +208,7 @@ impl<'a> Talk<'a> {
         let count = text.len().min(buf.len()).min(self.most(given));
         let (front, rest) = text.split_at(count);
         buf[..count].copy_from_slice(front);
-        self.act = Act::Gives(rest);
+        self.act = TalkAct::Gives(rest);
         count
     }
 
@@ -238,7 +238,13 @@ impl<'a> Talk<'a> {
 /// A connection of a row's exchange, whose other end plays a part of the row.
 pub trait StageWire<'a>: Wire + Drop {
     /// A connection whose other end does what the key says.
-    fn open(stage: &'a Stage, scene: Scene<'a>, values: Values, peer: Peer, key: &[u8]) -> Self;
+    fn open(
+        stage: &'a RowStage,
+        scene: Scene<'a>,
+        values: Values,
+        peer: LineOwner,
+        key: &[u8],
+    ) -> Self;
 
     /// It is taken up, as one that lay idle. Another request may go out on it as long as nothing is heard on it.
     fn take_up(&mut self);
@@ -258,10 +264,10 @@ pub trait StageWire<'a>: Wire + Drop {
 
 impl<'a> StageWire<'a> for TalkWire<'a> {
     fn open(
-        stage: &'a Stage,
+        stage: &'a RowStage,
         scene: Scene<'a>,
         values: Values,
-        peer: Peer,
+        peer: LineOwner,
         key: &[u8],
     ) -> TalkWire<'a> {
         stage.open(peer);
@@ -301,7 +307,10 @@ impl<'a> StageWire<'a> for TalkWire<'a> {
     }
 
     fn is_quiet(&mut self) -> bool {
-        !matches!(self.talk.go_on(), Act::Gives(_) | Act::Ends | Act::Fails)
+        !matches!(
+            self.talk.go_on(),
+            TalkAct::Gives(_) | TalkAct::Ends | TalkAct::Fails
+        )
     }
 
     fn finish(&self) {
@@ -318,13 +327,13 @@ impl<'a> Wire for TalkWire<'a> {
             return Got::Wait;
         }
         match self.talk.go_on() {
-            Act::Ends => Got::Ended,
-            Act::Fails => {
+            TalkAct::Ends => Got::Ended,
+            TalkAct::Fails => {
                 self.talk.lose();
                 Got::Fault
             }
-            Act::Rests if self.talk.stage.is_finished() => Got::Ended,
-            Act::Gives(text) => match self.talk.give(self.read, text, buf) {
+            TalkAct::Rests if self.talk.stage.is_finished() => Got::Ended,
+            TalkAct::Gives(text) => match self.talk.give(self.read, text, buf) {
                 0 => Got::Wait,
                 count => {
                     self.read += count as u64;
@@ -340,11 +349,11 @@ impl<'a> Wire for TalkWire<'a> {
             return Put::Wait;
         }
         let act = self.talk.go_on();
-        if matches!(act, Act::Fails) {
+        if matches!(act, TalkAct::Fails) {
             self.talk.lose();
             return Put::Fault;
         }
-        if self.is_taken_up && matches!(act, Act::Gives(_) | Act::Ends) {
+        if self.is_taken_up && matches!(act, TalkAct::Gives(_) | TalkAct::Ends) {
             return Put::Fault;
         }
         match self.talk.take(bytes) {

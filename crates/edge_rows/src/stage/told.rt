@@ -1,6 +1,6 @@
 //! What a row's answer says of an exchange.
 
-use crate::stage::shared::{Stage, Taken};
+use crate::stage::shared::{RowStage, TakenBytes};
 use crate::stage::words::name_of;
 use exchange_core::Phase;
 use test_rows::{NoMemory, Scene, has_word, put_decimal, put_escaped, put_line, words_of};
@@ -62,7 +62,11 @@ fn put_texts<'a>(out: &mut Vec<u8>, scene: Scene<'a>, bytes: &'a [u8]) -> Result
 }
 
 /// Adds a line of a connection and of what it took.
-fn put_taken<'a>(out: &mut Vec<u8>, scene: Scene<'a>, taken: &'a Taken) -> Result<(), NoMemory> {
+fn put_taken<'a>(
+    out: &mut Vec<u8>,
+    scene: Scene<'a>,
+    taken: &'a TakenBytes,
+) -> Result<(), NoMemory> {
     out.extend_from_slice(taken.peer.name())?;
     if let Some(number) = taken.peer.number()
         && number > 1
@@ -79,7 +83,7 @@ fn put_taken<'a>(out: &mut Vec<u8>, scene: Scene<'a>, taken: &'a Taken) -> Resul
 }
 
 /// Adds what each connection took, in the order in which they were opened.
-fn put_all_taken(out: &mut Vec<u8>, scene: Scene<'_>, stage: &Stage) -> Result<(), NoMemory> {
+fn put_all_taken(out: &mut Vec<u8>, scene: Scene<'_>, stage: &RowStage) -> Result<(), NoMemory> {
     let Ok(taken) = stage.taken.try_borrow() else {
         return put_line(out, b"what was taken is in use");
     };
@@ -90,7 +94,7 @@ fn put_all_taken(out: &mut Vec<u8>, scene: Scene<'_>, stage: &Stage) -> Result<(
 }
 
 /// Adds what happened.
-pub fn put_happenings(out: &mut Vec<u8>, stage: &Stage) -> Result<(), NoMemory> {
+pub fn put_happenings(out: &mut Vec<u8>, stage: &RowStage) -> Result<(), NoMemory> {
     match stage.happenings.try_borrow() {
         Ok(happenings) => out.extend_from_slice(&happenings),
         Err(_) => put_line(out, b"what happened is in use"),
@@ -99,7 +103,7 @@ pub fn put_happenings(out: &mut Vec<u8>, stage: &Stage) -> Result<(), NoMemory> 
 
 /// How a row's exchange ended.
 #[derive(Clone, Copy)]
-pub struct Ended {
+pub struct EndedRow {
     /// Where the exchange stands.
     pub phase: Phase,
     /// Whether it holds a lease.
@@ -109,7 +113,7 @@ pub struct Ended {
 }
 
 /// Adds what the exchange holds at its end, after a word.
-fn put_held(out: &mut Vec<u8>, word: &[u8], ended: Ended) -> Result<(), NoMemory> {
+fn put_held(out: &mut Vec<u8>, word: &[u8], ended: EndedRow) -> Result<(), NoMemory> {
     out.extend_from_slice(word)?;
     if ended.lease {
         out.extend_from_slice(b", with a lease")?;
@@ -134,7 +138,7 @@ fn is_of_texts(scene: Scene<'_>, bytes: &[u8]) -> bool {
 }
 
 /// Whether what each connection took is known.
-fn is_known(scene: Scene<'_>, stage: &Stage) -> bool {
+fn is_known(scene: Scene<'_>, stage: &RowStage) -> bool {
     let Ok(taken) = stage.taken.try_borrow() else {
         return false;
     };
@@ -156,8 +160,8 @@ fn is_settled(phase: Phase) -> bool {
 pub fn put_ended(
     out: &mut Vec<u8>,
     scene: Scene<'_>,
-    stage: &Stage,
-    ended: Ended,
+    stage: &RowStage,
+    ended: EndedRow,
 ) -> Result<(), NoMemory> {
     stage.check()?;
     put_happenings(out, stage)?;

@@ -1,6 +1,6 @@
 //! The first word of a text, the words of phases, and the keys of what peers do.
 
-use crate::stage::shared::Peer;
+use crate::stage::shared::LineOwner;
 use exchange_core::Phase;
 use trace_core::Point;
 
@@ -19,12 +19,12 @@ pub fn key_of(keys: &[&'static [u8]; 4], number: u64) -> &'static [u8] {
 }
 
 /// The key of what a peer of an exchange does in a schedule: the second exchange has a user of its own.
-pub(crate) fn script_key(peer: Peer, exchange: usize) -> &'static [u8] {
+pub(crate) fn script_key(peer: LineOwner, exchange: usize) -> &'static [u8] {
     match peer {
-        Peer::User if exchange == 0 => b"user",
-        Peer::User => b"user 2",
-        Peer::Origin(number) => key_of(&ORIGINS, number),
-        Peer::Service(number) => key_of(&SERVICES, number),
+        LineOwner::User if exchange == 0 => b"user",
+        LineOwner::User => b"user 2",
+        LineOwner::Origin(number) => key_of(&ORIGINS, number),
+        LineOwner::Service(number) => key_of(&SERVICES, number),
     }
 }
 

@@ -3,8 +3,8 @@ ghost use Rattle.std.specs.Prelude.{◌≡◌, true};
 ghost use Rattle.trace_core.specs.History.{shows};
 ghost use Rattle.icap_client.specs.Sending.{KeepsUnsent};
 
-use crate::engines::kept::Kept;
-use crate::engines::replies::{MAX_IDLE, ROOM, Told};
+use crate::engines::kept::KeptBytes;
+use crate::engines::replies::{HeardReply, MAX_IDLE, ROOM};
 use adapt_sides::{ClientFault, Turn, WIRE_ROOM};
 use icap_client::ServiceSide;
 use span_tape::SpanTape;
@@ -77,7 +77,7 @@ impl PlayedService for Wired {
 struct Exchange<'a, S> {
     service: &'a mut S,
     state: &'a mut State,
-    told: &'a mut Told,
+    told: &'a mut HeardReply,
 }
 
 /// Whether the tape has what the history may still send.
@@ -105,7 +105,7 @@ impl<'a, S: PlayedService> Exchange<'a, S> {
     }
 
     /// Bytes of the body come.
-    fn come(&mut self, kept: &mut Kept, body: &[u8], count: usize) {
+    fn come(&mut self, kept: &mut KeptBytes, body: &[u8], count: usize) {
         let from = (self.state.seen().received as usize).min(body.len());
         let bytes = &body[from..from.saturating_add(count).min(body.len())];
         kept.append(bytes);
@@ -113,7 +113,7 @@ impl<'a, S: PlayedService> Exchange<'a, S> {
     }
 
     /// Up to this many turns of both halves, until nothing moves.
-    fn turns(&mut self, kept: &Kept, count: usize) {
+    fn turns(&mut self, kept: &KeptBytes, count: usize) {
         let mut idle: usize = 0;
         for _ in 0..count {
             let before = self.service.counts();
@@ -128,7 +128,7 @@ impl<'a, S: PlayedService> Exchange<'a, S> {
     }
 
     /// A step in words: `come=3`, `end`, `write`, `again` or `turns=250`.
-    fn play_step(&mut self, scene: Scene<'_>, kept: &mut Kept, word: &[u8]) {
+    fn play_step(&mut self, scene: Scene<'_>, kept: &mut KeptBytes, word: &[u8]) {
         if let Some(count) = count_after(word, b"come") {
             return self.come(kept, scene.get(b"body"), count as usize);
         }
@@ -153,7 +153,7 @@ impl<'a, S: PlayedService> Exchange<'a, S> {
         &mut self,
         scene: Scene<'_>,
         values: Values,
-        kept: &mut Kept,
+        kept: &mut KeptBytes,
         out: &mut Vec<u8>,
     ) -> Result<(), NoMemory> {
         for word in words_of(scene.get(b"steps")) {
@@ -213,7 +213,7 @@ pub fn put_exchange(
     alloc: Global,
     scene: Scene<'_>,
     values: Values,
-    kept: &mut Kept,
+    kept: &mut KeptBytes,
     out: &mut Vec<u8>,
 ) -> Result<(), NoMemory> {
     let Some(mut state) = history(scene) else {
@@ -223,7 +223,7 @@ pub fn put_exchange(
     let Some(mut service) = service_of(alloc, &plan, scene, values)? else {
         return put_line(out, b"a head that is too long");
     };
-    let mut told = Told::new(alloc);
+    let mut told = HeardReply::new(alloc);
     let mut exchange = Exchange {
         service: &mut service,
         state: &mut state,

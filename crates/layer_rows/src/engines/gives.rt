@@ -1,7 +1,7 @@
 //! What a next hop gets of an adapted message, and of a refusal.
 
-use crate::engines::kept::Kept;
-use crate::engines::relays::{End, is_in_step, step};
+use crate::engines::kept::KeptBytes;
+use crate::engines::relays::{RelayEnd, is_in_step, step};
 use adapt_sides::WIRE_ROOM;
 use http_relay::HopWriter;
 use http_side::Framing;
@@ -39,7 +39,7 @@ fn hop_of(alloc: Global, scene: Scene<'_>) -> Result<HopWriter, NoMemory> {
 }
 
 /// A turn of the side.
-fn write(hop: &mut HopWriter, state: &mut State, kept: &mut Kept, wire: &mut MemoryWire) {
+fn write(hop: &mut HopWriter, state: &mut State, kept: &mut KeptBytes, wire: &mut MemoryWire) {
     if is_in_step(state, kept.tape())
         && let Ok(turn) = hop.write_turn(state, kept.tape(), wire, &mut [0; WIRE_ROOM])
     {
@@ -49,11 +49,11 @@ fn write(hop: &mut HopWriter, state: &mut State, kept: &mut Kept, wire: &mut Mem
 }
 
 /// How the message ended.
-fn end_of(hop: &HopWriter, state: &State) -> End {
+fn end_of(hop: &HopWriter, state: &State) -> RelayEnd {
     match hop.fault() {
-        Some(fault) => End::NextHop(fault),
-        None if state.seen().closed => End::Done,
-        None => End::Waiting,
+        Some(fault) => RelayEnd::NextHop(fault),
+        None if state.seen().closed => RelayEnd::Done,
+        None => RelayEnd::Waiting,
     }
 }
 
@@ -62,7 +62,7 @@ pub fn put_given(
     alloc: Global,
     scene: Scene<'_>,
     values: Values,
-    kept: &mut Kept,
+    kept: &mut KeptBytes,
     out: &mut Vec<u8>,
 ) -> Result<(), NoMemory> {
     let Some(mut state) = history(scene) else {

@@ -7,17 +7,17 @@ use span_tape::SpanTape;
 
 /// The bytes that came and weren't let go. The pages are there from the start.
 #[derive(Drop)]
-pub struct Kept {
+pub struct KeptBytes {
     tape: SpanTape,
     pages: Pages,
     ghost all: { pages_in tape + pages ≡ 2 },
 }
 
-impl Kept {
-    pub fn new(pages: Pages) -> Kept
+impl KeptBytes {
+    pub fn new(pages: Pages) -> KeptBytes
         requires { pages ≡ 2 }
     {
-        Kept {
+        KeptBytes {
             tape: SpanTape::new(),
             pages,
         }
@@ -59,7 +59,7 @@ impl Kept {
     pub fn give_back(self) -> Pages
         ensures { result ≡ 2 }
     {
-        let Kept {
+        let KeptBytes {
             mut tape,
             mut pages,
         } = self;

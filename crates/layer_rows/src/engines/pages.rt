@@ -3,7 +3,7 @@ ghost use Rattle.std.specs.Prelude.{◌≡◌};
 
 use crate::engines::exchanges::put_exchange;
 use crate::engines::gives::put_given;
-use crate::engines::kept::Kept;
+use crate::engines::kept::KeptBytes;
 use crate::engines::relays::put_relayed;
 use span_bank::{Bank, Blanks, OpenFault, Pages, Stake};
 use std::alloc::Global;
@@ -17,7 +17,7 @@ fn put_run(
     alloc: Global,
     scene: Scene<'_>,
     values: Values,
-    kept: &mut Kept,
+    kept: &mut KeptBytes,
     out: &mut Vec<u8>,
 ) -> Result<(), NoMemory> {
     match index_of(b"relay give exchange", scene.get(b"call")) {
@@ -48,7 +48,7 @@ fn put_on_bank<H: Ledger, F: Ledger, S: Ledger, P: Ledger, R: Wait>(
         return put_line(out, b"no reservation");
     };
     let pages = bank.grow(rt, &mut stake, 1, 2);
-    let mut kept = Kept::new(pages);
+    let mut kept = KeptBytes::new(pages);
     let found = put_run(alloc, scene, values, &mut kept, out);
     bank.shrink(rt, &mut stake, 1, kept.give_back());
     bank.close(rt, stake, Pages::none());

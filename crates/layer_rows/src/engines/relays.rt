@@ -3,7 +3,7 @@ ghost use Rattle.std.specs.Prelude.{◌≡◌, true};
 ghost use Rattle.trace_core.specs.History.{shows};
 ghost use Rattle.adapt_sides.specs.Tapes.{KeepsUndelivered};
 
-use crate::engines::kept::Kept;
+use crate::engines::kept::KeptBytes;
 use adapt_sides::{MAX_READ, WIRE_ROOM};
 use http_relay::{HeadProgress, HopWriter, RelayFault, SourceSide, Turn};
 use http_side::{
@@ -21,7 +21,7 @@ const MAX_STILL: usize = 40;
 
 /// How a message ended.
 #[derive(Debug, Drop)]
-pub enum End {
+pub enum RelayEnd {
     /// The next hop took all of it.
     Done,
     /// Its source failed.
@@ -170,7 +170,11 @@ impl Ends for Wired {
 
 impl<'a, E: Ends> Exchange<'a, E> {
     /// A turn of the source, whose fault it answers.
-    fn read(&mut self, alloc: Global, kept: &mut Kept) -> Result<Option<RelayFault>, NoMemory> {
+    fn read(
+        &mut self,
+        alloc: Global,
+        kept: &mut KeptBytes,
+    ) -> Result<Option<RelayFault>, NoMemory> {
         let mut out = [0; 64];
         match self.ends.read(alloc, &mut out) {
             Ok(Some(turn)) => {
@@ -185,7 +189,7 @@ impl<'a, E: Ends> Exchange<'a, E> {
     }
 
     /// A turn of the next hop's side, whose fault it answers.
-    fn write(&mut self, kept: &mut Kept) -> Option<RelayFault> {
+    fn write(&mut self, kept: &mut KeptBytes) -> Option<RelayFault> {
         if !is_in_step(self.state, kept.tape()) {
             return None;
         }
@@ -200,18 +204,23 @@ impl<'a, E: Ends> Exchange<'a, E> {
     }
 
     /// Up to this many turns of both, until one message is out or failed, or nothing moves any more.
-    fn pass(&mut self, alloc: Global, kept: &mut Kept, turns: usize) -> Result<End, NoMemory> {
+    fn pass(
+        &mut self,
+        alloc: Global,
+        kept: &mut KeptBytes,
+        turns: usize,
+    ) -> Result<RelayEnd, NoMemory> {
         let mut idle: usize = 0;
         for _ in 0..turns {
             let before = self.ends.counts();
             if let Some(fault) = self.read(alloc, kept)? {
-                return Ok(End::Source(fault));
+                return Ok(RelayEnd::Source(fault));
             }
             if let Some(fault) = self.write(kept) {
-                return Ok(End::NextHop(fault));
+                return Ok(RelayEnd::NextHop(fault));
             }
             if self.state.seen().closed {
-                return Ok(End::Done);
+                return Ok(RelayEnd::Done);
             }
             let same = self.ends.counts() == before;
             idle = if same { idle.saturating_add(1) } else { 0 };
@@ -219,7 +228,7 @@ impl<'a, E: Ends> Exchange<'a, E> {
                 break;
             }
         }
-        Ok(End::Waiting)
+        Ok(RelayEnd::Waiting)
     }
 
     /// Passes this many messages on, one after the other, and adds what the next hop took and how the last one ended.
@@ -228,7 +237,7 @@ impl<'a, E: Ends> Exchange<'a, E> {
         alloc: Global,
         scene: Scene<'_>,
         values: Values,
-        kept: &mut Kept,
+        kept: &mut KeptBytes,
         out: &mut Vec<u8>,
     ) -> Result<(), NoMemory> {
         let turns = scene.number_or(b"turns", values, 250);
@@ -295,7 +304,7 @@ pub fn put_relayed(
     alloc: Global,
     scene: Scene<'_>,
     values: Values,
-    kept: &mut Kept,
+    kept: &mut KeptBytes,
     out: &mut Vec<u8>,
 ) -> Result<(), NoMemory> {
     let Some(mut state) = plain() else {

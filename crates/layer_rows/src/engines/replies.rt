@@ -14,7 +14,7 @@ pub const ROOM: usize = 64;
 
 /// What a service's bytes said: the events but those of body bytes, a line each; the body; and the fault.
 #[derive(Drop)]
-pub struct Told {
+pub struct HeardReply {
     pub events: Vec<u8>,
     pub body: Vec<u8>,
     pub fault: Option<ClientFault>,
@@ -22,9 +22,9 @@ pub struct Told {
     pub lost: bool,
 }
 
-impl Told {
-    pub fn new(alloc: Global) -> Told {
-        Told {
+impl HeardReply {
+    pub fn new(alloc: Global) -> HeardReply {
+        HeardReply {
             events: Vec::new(alloc),
             body: Vec::new(alloc),
             fault: None,
@@ -109,7 +109,7 @@ fn read(
     side: &mut ReplySide,
     state: &mut State,
     wire: &mut MemoryWire,
-    told: &mut Told,
+    told: &mut HeardReply,
     room: usize,
     early: usize,
     turns: usize,
@@ -181,7 +181,7 @@ pub fn put_reply(
     let early = scene.number_or(b"early", values, 0);
     let turns = scene.number_or(b"turns", values, 250);
     let mut wire = wire(alloc, scene, b"reply", b"reads", b"writes", values)?;
-    let mut told = Told::new(alloc);
+    let mut told = HeardReply::new(alloc);
     let mut side = ReplySide::new(alloc, state.seen().plan.point);
     read(
         &mut side, &mut state, &mut wire, &mut told, room, early, turns,

@@ -1,9 +1,10 @@
 //! Four threads on one budget.
 ghost use Rattle.std.specs.Prelude.{◌≡◌, ◌≤◌, vec_len, vec_capacity};
 
-use crate::resources::reserved::{Budget, Desk, Reserved};
+use crate::resources::reserved::{Budget, Reserved};
 use crate::resources::words::put_sums;
-use crate::tasks::{Four, Task, four};
+use crate::row_bank::RowBank;
+use crate::tasks::{Four, ThreadTask, four};
 use span_bank::{Audit, Bank, Ledgers, Stake};
 use std::alloc::Global;
 use std::sync::Wait;
@@ -16,9 +17,9 @@ struct Rounds<'a, T>(&'a T);
 
 /// Makes a reservation that stays, with all its bytes in use on one page.
 #[derive(Drop)]
-pub struct Stay<'a, T>(pub &'a T);
+pub struct StayOnBank<'a, T>(pub &'a T);
 
-impl<'a, T: Budget> Task for Rounds<'a, T> {
+impl<'a, T: Budget> ThreadTask for Rounds<'a, T> {
     type Kept = ();
 
     fn run(&self) {
@@ -32,7 +33,7 @@ impl<'a, T: Budget> Task for Rounds<'a, T> {
     }
 }
 
-impl<'a, T: Budget> Task for Stay<'a, T> {
+impl<'a, T: Budget> ThreadTask for StayOnBank<'a, T> {
     type Kept = Option<T::Lent>;
 
     fn run(&self) -> Option<T::Lent> {
@@ -76,7 +77,7 @@ where
     T::Lent: Send,
 {
     four(rt, &Rounds(budget));
-    all_made(budget, four(rt, &Stay(budget)))
+    all_made(budget, four(rt, &StayOnBank(budget)))
 }
 
 /// The sums of a budget whose four rows are taken; none where one isn't.
@@ -119,6 +120,6 @@ where
     requires rows { B.Held.parts ≡ 5 }
 {
     let stakes = Vec::with_capacity(alloc, 4)?;
-    let made = share(rt, &Desk { rt, bank: &bank });
+    let made = share(rt, &RowBank { rt, bank: &bank });
     put_sums(out, sums_of_four(bank, stakes, made))
 }

@@ -1,8 +1,9 @@
 //! A budget, one call after another through its lock: each line of `want` is a step and what it answers.
 use crate::questions::{Subject, put_lines};
-use crate::resources::reserved::{Budget, Desk};
+use crate::resources::reserved::Budget;
 use crate::resources::steps::{end_all, keep};
 use crate::resources::words::{number_after, pair_after, put_book, put_pages, put_sums};
+use crate::row_bank::RowBank;
 use span_bank::{Audit, Bank, CapacityFault, Ledgers};
 use std::alloc::{AllocError, Global};
 use std::sync::Wait;
@@ -159,6 +160,6 @@ pub fn put_budget<B: Ledgers, R: Wait>(
     row: &Row<'_>,
     out: &mut Vec<u8>,
 ) -> Result<(), NoMemory> {
-    put_played(alloc, &Desk { rt, bank: &bank }, row, out)?;
+    put_played(alloc, &RowBank { rt, bank: &bank }, row, out)?;
     put_sums(out, sums(alloc, bank))
 }

@@ -84,7 +84,7 @@ impl<'a, L: Ledger, R: Wait> Leasing for Counter<'a, L, R> {
 
 /// A pool with the leases that a row has.
 #[derive(Drop)]
-pub struct Leased<'a, T: Leasing> {
+pub struct PoolAndLeases<'a, T: Leasing> {
     pub pool: &'a T,
     pub leases: &'a mut Vec<T::Lent>,
 }
@@ -126,7 +126,7 @@ fn put_last<T: Leasing>(
     put_line(out, b"closed")
 }
 
-impl<'a, T: Leasing> Subject for Leased<'a, T> {
+impl<'a, T: Leasing> Subject for PoolAndLeases<'a, T> {
     /// `take`, `prefer`, `limit 1`, or a step of the last lease.
     fn put_said(&mut self, step: &[u8], out: &mut Vec<u8>) -> Result<(), NoMemory> {
         if says(step, b"take") || says(step, b"prefer") {

@@ -3,7 +3,7 @@ ghost use Rattle.std.specs.Prelude.{◌≡◌, ◌≤◌};
 ghost use Rattle.adapt_bytes.specs.declared.limits.TheConstants.{MAX_CONNECTIONS};
 
 use crate::questions::put_lines;
-use crate::resources::calls::{Counter, Leased, Leasing, audited, put_audit};
+use crate::resources::calls::{Counter, Leasing, PoolAndLeases, audited, put_audit};
 use crate::resources::threads::share;
 use crate::resources::words::{journal_of, put_no_memory};
 use adapt_bytes::MAX_CONNECTIONS;
@@ -30,7 +30,7 @@ where
     T::Lent: Send,
 {
     match lines {
-        Some(lines) => put_lines(&mut Leased { pool, leases }, lines, out),
+        Some(lines) => put_lines(&mut PoolAndLeases { pool, leases }, lines, out),
         None => {
             share(rt, pool, leases);
             put_number(out, b"leases", leases.len() as u64)

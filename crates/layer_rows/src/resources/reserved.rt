@@ -2,8 +2,9 @@
 ghost use Rattle.std.specs.Prelude.{◌≡◌, ◌≤◌};
 
 use crate::resources::steps::Lender;
+use crate::row_bank::RowBank;
 use span_bank::{
-    Bank, Book, CapacityFault, Ledgers, MAX_CAPACITY, MAX_PAGES, OpenFault, PAGE_BYTES, Pages,
+    Book, CapacityFault, Ledgers, MAX_CAPACITY, MAX_PAGES, OpenFault, PAGE_BYTES, Pages,
     SPARE_PAGES, Stake, Store,
 };
 use std::marker::Model;
@@ -78,14 +79,7 @@ pub trait Budget: Lender {
     fn resize(&self, capacity: u64) -> Result<(), CapacityFault>;
 }
 
-/// A bank, and what waits for its lock.
-#[derive(Drop)]
-pub struct Desk<'a, B: Ledgers, R> {
-    pub rt: &'a R,
-    pub bank: &'a Bank<B>,
-}
-
-impl<'a, B: Ledgers, R: Wait> Lender for Desk<'a, B, R> {
+impl<'a, B: Ledgers, R: Wait> Lender for RowBank<'a, B, R> {
     type Lent = Reserved<B>;
 
     fn end(&self, lent: Reserved<B>) {
@@ -100,7 +94,7 @@ impl<'a, B: Ledgers, R: Wait> Lender for Desk<'a, B, R> {
     }
 }
 
-impl<'a, B: Ledgers, R: Wait> Budget for Desk<'a, B, R> {
+impl<'a, B: Ledgers, R: Wait> Budget for RowBank<'a, B, R> {
     fn open(&self, claim: u64) -> Result<Reserved<B>, OpenFault> {
         match self.bank.open(self.rt, claim) {
             Ok(stake) => Ok(Reserved::new(stake)),

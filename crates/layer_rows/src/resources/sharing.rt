@@ -1,12 +1,13 @@
 //! Four threads on one bank and one pool: each reserves, and takes a connection while bytes are in use; at last each keeps what it gets.
 ghost use Rattle.std.specs.Prelude.{◌≡◌};
 
-use crate::resources::budget_threads::{Stay, all_made, sums_of_four};
+use crate::resources::budget_threads::{StayOnBank, all_made, sums_of_four};
 use crate::resources::calls::{Counter, Leasing, audited, put_audit};
-use crate::resources::reserved::{Budget, Desk};
+use crate::resources::reserved::Budget;
 use crate::resources::threads::{Last, Rounds, keep_all};
 use crate::resources::words::put_sums;
-use crate::tasks::{Four, Task, four};
+use crate::row_bank::RowBank;
+use crate::tasks::{Four, ThreadTask, four};
 use service_pool::{LEDGER_PARTS, Pool};
 use span_bank::{Bank, Ledgers};
 use std::alloc::Global;
@@ -30,7 +31,7 @@ struct StayOnBoth<'a, T, U> {
     pool: &'a U,
 }
 
-impl<'a, T: Budget, U: Leasing> Task for SharedRounds<'a, T, U> {
+impl<'a, T: Budget, U: Leasing> ThreadTask for SharedRounds<'a, T, U> {
     type Kept = ();
 
     fn run(&self) {
@@ -49,11 +50,11 @@ impl<'a, T: Budget, U: Leasing> Task for SharedRounds<'a, T, U> {
     }
 }
 
-impl<'a, T: Budget, U: Leasing> Task for StayOnBoth<'a, T, U> {
+impl<'a, T: Budget, U: Leasing> ThreadTask for StayOnBoth<'a, T, U> {
     type Kept = (Option<T::Lent>, Option<U::Lent>);
 
     fn run(&self) -> (Option<T::Lent>, Option<U::Lent>) {
-        let made = Stay(self.budget).run();
+        let made = StayOnBank(self.budget).run();
         (made, Last(self.pool).run())
     }
 }
@@ -122,9 +123,9 @@ where
     requires rows { B.Held.parts ≡ 5 }
 {
     let stakes = Vec::with_capacity(alloc, 4)?;
-    let desk = Desk { rt, bank: &bank };
+    let budget = RowBank { rt, bank: &bank };
     let blank = Blank::new(LEDGER_PARTS);
-    match share::<Brand, Desk<'_, B, R>, R>(rt, alloc, &desk, blank) {
+    match share::<Brand, RowBank<'_, B, R>, R>(rt, alloc, &budget, blank) {
         Ok(stayed) => {
             let Stayed {
                 made,

@@ -6,7 +6,7 @@ use test_rows::{NoMemory, put_count, put_decimal, put_line, put_number};
 
 /// What a tape and its bank showed.
 #[derive(Clone, Copy)]
-pub struct Seen {
+pub struct TapeFigures {
     stores: [Store; 2],
     needed: [u64; 4],
     given: u64,
@@ -15,7 +15,7 @@ pub struct Seen {
 }
 
 /// Writes 4,096 bytes and one, lets the first page go, and reads what is left.
-pub fn write_and_drop<B: Ledgers, R: Wait>(rt: &R, bank: &Bank<B>) -> Option<Seen> {
+pub fn write_and_drop<B: Ledgers, R: Wait>(rt: &R, bank: &Bank<B>) -> Option<TapeFigures> {
     let new = bank.store(rt);
     let Ok(mut stake) = bank.open(rt, 8192) else {
         return None;
@@ -37,7 +37,7 @@ pub fn write_and_drop<B: Ledgers, R: Wait>(rt: &R, bank: &Bank<B>) -> Option<See
     let rest = tape.drop_to(4097);
     bank.shrink(rt, &mut stake, 1, rest);
     bank.close(rt, stake, pages);
-    Some(Seen {
+    Some(TapeFigures {
         stores: [new, used],
         needed,
         given,
@@ -55,7 +55,7 @@ fn put_store(out: &mut Vec<u8>, name: &[u8], store: Store) -> Result<(), NoMemor
 }
 
 /// Adds what a tape and its bank show.
-pub fn put_seen(out: &mut Vec<u8>, seen: Option<Seen>) -> Result<(), NoMemory> {
+pub fn put_seen(out: &mut Vec<u8>, seen: Option<TapeFigures>) -> Result<(), NoMemory> {
     let Some(seen) = seen else {
         return put_line(out, b"no reservation");
     };

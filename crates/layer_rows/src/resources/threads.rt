@@ -1,7 +1,7 @@
 //! Four threads on one pool.
 use crate::resources::calls::Leasing;
 use crate::resources::steps::keep;
-use crate::tasks::{Four, Task, four};
+use crate::tasks::{Four, ThreadTask, four};
 use service_pool::Found;
 use std::thread::Threads;
 
@@ -13,7 +13,7 @@ pub struct Rounds<'a, T>(pub &'a T, pub u32);
 #[derive(Drop)]
 pub struct Last<'a, T>(pub &'a T);
 
-impl<'a, T: Leasing> Task for Rounds<'a, T> {
+impl<'a, T: Leasing> ThreadTask for Rounds<'a, T> {
     type Kept = ();
 
     fn run(&self) {
@@ -34,7 +34,7 @@ impl<'a, T: Leasing> Task for Rounds<'a, T> {
     }
 }
 
-impl<'a, T: Leasing> Task for Last<'a, T> {
+impl<'a, T: Leasing> ThreadTask for Last<'a, T> {
     type Kept = Option<T::Lent>;
 
     fn run(&self) -> Option<T::Lent> {

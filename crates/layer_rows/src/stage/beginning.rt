@@ -4,9 +4,9 @@ ghost use Rattle.std.specs.Prelude.{◌≡◌, ◌≤◌, IfSome};
 ghost use Rattle.span_bank.specs.declared.limits.TheConstants.{MAX_CAPACITY};
 ghost use Rattle.plan_rules.specs.Claims.{claim_of};
 
-use crate::stage::game::{Lines, Played, undo};
-use crate::stage::sides::{Sides, Subject, Wires, make_sides};
-use crate::stage::told::Counted;
+use crate::stage::game::{GameOnBank, SpareConnections, undo};
+use crate::stage::sides::{GameWires, Sides, Subject, make_sides};
+use crate::stage::told::CountedMemoryWire;
 use adapt_sides::Scratch;
 use adapt_turn::Side;
 use http_side::{OriginUse, OriginWay};
@@ -84,9 +84,9 @@ pub fn begin<'a, B: Ledgers, A: Wire + Drop, C: Wire + Drop, R: Wait>(
     alloc: Global,
     bank: &'a Bank<B>,
     subject: &Subject<'_>,
-    wires: Wires<A, C>,
+    wires: GameWires<A, C>,
     first: &[(Side, u64)],
-) -> Result<Option<Played<'a, B, (A, C, C), R>>, AllocError> {
+) -> Result<Option<GameOnBank<'a, B, (A, C, C), R>>, AllocError> {
     let mut wires = wires;
     match make_sides(alloc, subject, &mut wires.source)? {
         Some(sides) => Ok(begin_reserved(rt, alloc, bank, sides, wires, first)),
@@ -100,9 +100,9 @@ fn begin_reserved<'a, B: Ledgers, A: Wire + Drop, C: Wire + Drop, R: Wait>(
     alloc: Global,
     bank: &'a Bank<B>,
     sides: Sides<Offer, Incoming>,
-    wires: Wires<A, C>,
+    wires: GameWires<A, C>,
     first: &[(Side, u64)],
-) -> Option<Played<'a, B, (A, C, C), R>> {
+) -> Option<GameOnBank<'a, B, (A, C, C), R>> {
     let plan = *sides.offer.plan();
     match reserve_for(rt, bank, plan, (sides, wires)) {
         Some((Reserved { limits, stake }, (sides, wires))) => {
@@ -120,15 +120,15 @@ fn start<'a, B: Ledgers, A: Wire + Drop, C: Wire + Drop, R: Wait>(
     limits: Limits,
     stake: Stake<B>,
     sides: Sides<Offer, Incoming>,
-    wires: Wires<A, C>,
+    wires: GameWires<A, C>,
     first: &[(Side, u64)],
-) -> Option<Played<'a, B, (A, C, C), R>>
+) -> Option<GameOnBank<'a, B, (A, C, C), R>>
     requires empty { (stake.held ≡ 0) × (stake.pages ≡ 0) }
     requires claim { stake.claim ≡ claim_of sides.offer.plan limits.window }
     requires small { stake.claim ≤ MAX_CAPACITY }
 {
     let Sides { message, offer } = sides;
-    let Wires {
+    let GameWires {
         source: source_wire,
         service,
         fresh,
@@ -162,11 +162,11 @@ fn start<'a, B: Ledgers, A: Wire + Drop, C: Wire + Drop, R: Wait>(
         first,
     );
     match begun {
-        Ok(running) => Some(Played {
+        Ok(running) => Some(GameOnBank {
             rt,
             bank,
             running,
-            lines: Lines::with(fresh),
+            lines: SpareConnections::with(fresh),
         }),
         Err(beginning) => {
             undo(rt, bank, beginning);
@@ -177,5 +177,5 @@ fn start<'a, B: Ledgers, A: Wire + Drop, C: Wire + Drop, R: Wait>(
 
 /// How large a transaction over wires in memory is, in bytes, on a budget as this one.
 pub fn game_size<B: Ledgers>(_bank: &Bank<B>) -> usize {
-    mem::size_of::<Running<B, (Counted, Counted, Counted)>>()
+    mem::size_of::<Running<B, (CountedMemoryWire, CountedMemoryWire, CountedMemoryWire)>>()
 }

@@ -2,7 +2,7 @@
 
 ghost use Rattle.std.specs.Prelude.{◌≡◌};
 
-use crate::stage::told::{Recorded, Told, record_of};
+use crate::stage::told::{GameReport, Recorded, record_of};
 use adapt_sides::Scratch;
 use adapt_turn::{EndTypes, Ends, FreedConnection, Outcome, ServiceEnd, Side, TurnAnswer, TxParts};
 use proxy_rules::{Beginning, Running, Wires};
@@ -13,7 +13,7 @@ use wire_kit::Wire;
 
 /// The connections of a service beside the one in use.
 #[derive(Drop)]
-pub(crate) struct Lines<C> {
+pub(crate) struct SpareConnections<C> {
     /// One that comes in the place of a broken one.
     pub fresh: Option<C>,
     /// The broken one.
@@ -24,10 +24,10 @@ pub(crate) struct Lines<C> {
     pub failed: usize,
 }
 
-impl<C> Lines<C> {
+impl<C> SpareConnections<C> {
     /// One that comes in the place of a broken one, and no other.
-    pub(crate) fn with(fresh: Option<C>) -> Lines<C> {
-        Lines {
+    pub(crate) fn with(fresh: Option<C>) -> SpareConnections<C> {
+        SpareConnections {
             fresh,
             broken: None,
             freed: None,
@@ -37,15 +37,15 @@ impl<C> Lines<C> {
 }
 
 /// What is left of a transaction that ended.
-pub trait Remains {
+pub trait GameRemains {
     /// How it ended, and what its wires took.
-    fn told(&self) -> Told<'_>;
+    fn told(&self) -> GameReport<'_>;
 }
 
 /// A transaction in play on its budget.
 pub trait Game {
     /// What is left of it once it has ended.
-    type Ended: Remains + Drop;
+    type Ended: GameRemains + Drop;
 
     /// A turn of a side at a moment.
     fn take_turn(&mut self, side: Side, now: u64) -> TurnAnswer;
@@ -71,16 +71,16 @@ pub trait Game {
 }
 
 /// A transaction of the proxy's own sides on a budget, with the service's other connections.
-pub struct Played<'a, B: Ledgers, W: Wires, R> {
+pub struct GameOnBank<'a, B: Ledgers, W: Wires, R> {
     pub(crate) rt: &'a R,
     pub(crate) bank: &'a Bank<B>,
     pub(crate) running: Running<B, W>,
-    pub(crate) lines: Lines<W::ServiceWire>,
+    pub(crate) lines: SpareConnections<W::ServiceWire>,
 }
 
 impl<'a, B: Ledgers, A: Wire + Drop + Recorded, C: Wire + Drop + Recorded, R: Wait> Game
-    for Played<'a, B, (A, C, C), R> {
-    type Ended = Ended<A, C>;
+    for GameOnBank<'a, B, (A, C, C), R> {
+    type Ended = EndedGame<A, C>;
 
     fn take_turn(&mut self, side: Side, now: u64) -> TurnAnswer {
         take_turn(self.rt, self.bank, &mut self.running, side, now)
@@ -109,8 +109,8 @@ impl<'a, B: Ledgers, A: Wire + Drop + Recorded, C: Wire + Drop + Recorded, R: Wa
         Some(is_reusable)
     }
 
-    fn end(self) -> Ended<A, C> {
-        let Played {
+    fn end(self) -> EndedGame<A, C> {
+        let GameOnBank {
             rt,
             bank,
             running,
@@ -136,7 +136,7 @@ fn mend<B: Ledgers, W: Wires, R: Wait>(
     rt: &R,
     bank: &Bank<B>,
     running: &mut Running<B, W>,
-    lines: &mut Lines<W::ServiceWire>,
+    lines: &mut SpareConnections<W::ServiceWire>,
 ) {
     if running.is_broken() {
         match lines.fresh.take() {
@@ -154,17 +154,17 @@ fn mend<B: Ledgers, W: Wires, R: Wait>(
 
 /// How a transaction ended, and its wires.
 #[derive(Drop)]
-pub struct Ended<A, C> {
+pub struct EndedGame<A, C> {
     outcome: Outcome,
     source: A,
     service: Option<C>,
     next_hop: C,
-    lines: Lines<C>,
+    lines: SpareConnections<C>,
 }
 
-impl<A: Recorded, C: Recorded> Remains for Ended<A, C> {
-    fn told(&self) -> Told<'_> {
-        Told {
+impl<A: Recorded, C: Recorded> GameRemains for EndedGame<A, C> {
+    fn told(&self) -> GameReport<'_> {
+        GameReport {
             outcome: self.outcome,
             source: self.source.record(),
             service: record_of(&self.service),
@@ -181,13 +181,13 @@ fn end<B: Ledgers, A: Wire + Drop, C: Wire + Drop, R: Wait>(
     rt: &R,
     bank: &Bank<B>,
     running: Running<B, (A, C, C)>,
-    lines: Lines<C>,
-) -> Ended<A, C> {
+    lines: SpareConnections<C>,
+) -> EndedGame<A, C> {
     let mut running = running;
     running.halt(rt, bank);
     let parts = running.into_tx().into_parts();
     let (outcome, source, service, next_hop) = take_apart(rt, bank, parts);
-    Ended {
+    EndedGame {
         outcome,
         source,
         service,

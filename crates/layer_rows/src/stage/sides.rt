@@ -29,7 +29,7 @@ pub struct Subject<'a> {
 
 /// The wires of a transaction.
 #[derive(Drop)]
-pub struct Wires<A, C> {
+pub struct GameWires<A, C> {
     pub source: A,
     pub service: C,
     /// One that comes in the place of the service's.
@@ -57,7 +57,7 @@ fn user_side(alloc: Global, request: &[u8]) -> Result<SourceSide, AllocError> {
 }
 
 /// A message whose head is read from a wire.
-pub(crate) trait Message {
+pub(crate) trait OfferedMessage {
     /// The message before its first byte.
     fn before(alloc: Global, subject: &Subject<'_>) -> Result<Self, AllocError>;
 
@@ -65,7 +65,7 @@ pub(crate) trait Message {
     fn reads_head(&mut self, wire: &mut impl Wire) -> Result<bool, AllocError>;
 }
 
-impl Message for Incoming {
+impl OfferedMessage for Incoming {
     fn before(alloc: Global, subject: &Subject<'_>) -> Result<Incoming, AllocError> {
         match subject.plan.point {
             Point::Respmod => Ok(Incoming::response(
@@ -113,7 +113,7 @@ impl Offering for Offer {
 }
 
 /// All sides of a transaction. `None` where its source has no head, or where there is no offer by its plan.
-pub(crate) fn make_sides<O: Offering + Drop, M: Message + Drop>(
+pub(crate) fn make_sides<O: Offering + Drop, M: OfferedMessage + Drop>(
     alloc: Global,
     subject: &Subject<'_>,
     wire: &mut impl Wire,

@@ -4,7 +4,7 @@ use adapt_turn::Outcome;
 use wire_kit::{Calls, CountedWire, MemoryWire, Wire};
 
 /// A wire in memory, and how often it was called.
-pub type Counted = CountedWire<MemoryWire>;
+pub type CountedMemoryWire = CountedWire<MemoryWire>;
 
 /// What went over a wire.
 #[derive(Clone, Copy)]
@@ -31,7 +31,7 @@ pub(crate) fn record_of<C: Recorded>(wire: &Option<C>) -> Option<WireRecord<'_>>
     }
 }
 
-impl Recorded for Counted {
+impl Recorded for CountedMemoryWire {
     fn record(&self) -> WireRecord<'_> {
         WireRecord {
             taken: self.taken(),
@@ -43,7 +43,7 @@ impl Recorded for Counted {
 
 /// How a transaction ended, and what went over its wires.
 #[derive(Clone, Copy)]
-pub struct Told<'a> {
+pub struct GameReport<'a> {
     pub outcome: Outcome,
     pub source: WireRecord<'a>,
     pub service: Option<WireRecord<'a>>,
@@ -56,7 +56,7 @@ pub struct Told<'a> {
     pub failed: usize,
 }
 
-impl<'a> Told<'a> {
+impl<'a> GameReport<'a> {
     /// What went over the service's wire.
     pub fn of_service(&self) -> WireRecord<'a> {
         match self.service {

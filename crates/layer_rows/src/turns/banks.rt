@@ -1,10 +1,11 @@
 //! A budget of a row's own, whose ledgers are picked here, once for all.
 ghost use Rattle.std.specs.Prelude.{◌≡◌};
 
-use crate::stage::{Game, Remains};
+use crate::row_bank::RowBank;
+use crate::stage::{Game, GameRemains};
 use crate::turns::beside::put_beside;
 use crate::turns::case::Case;
-use crate::turns::game_budget::{GameBudget, OnBank};
+use crate::turns::game_budget::GameBudget;
 use crate::turns::steps::{first_turns, put_steps};
 use crate::turns::told::put_ended;
 use span_bank::{Bank, Blanks, Ledgers};
@@ -88,7 +89,7 @@ fn put_scene<'a, B: Ledgers, R: Wait>(
         scene: run.scene,
         values: run.values,
     };
-    put_row(&OnBank { rt, bank }, &case, out)
+    put_row(&RowBank { rt, bank }, &case, out)
 }
 
 /// Whether no reservation is left of a budget.

@@ -1,6 +1,6 @@
 //! A message that isn't offered to a service, beside one that is, on one budget.
 
-use crate::stage::{BEGIN, Game, Remains, Told};
+use crate::stage::{BEGIN, Game, GameRemains, GameReport};
 use crate::turns::case::Case;
 use crate::turns::game_budget::GameBudget;
 use crate::turns::steps::ROUND;
@@ -54,8 +54,8 @@ fn begin_both<P: GameBudget>(
 
 /// Adds what both report once they have ended, and whether the service's side rested.
 fn put_both_ended(
-    offered: &Told<'_>,
-    plain: &Told<'_>,
+    offered: &GameReport<'_>,
+    plain: &GameReport<'_>,
     rested: bool,
     case: &Case<'_>,
     out: &mut Vec<u8>,

@@ -1,6 +1,6 @@
 //! Sixty-four transactions in four threads on one budget, which has room for one of them at a time.
 
-use crate::stage::{Game, Remains, Told};
+use crate::stage::{Game, GameRemains, GameReport};
 use crate::tasks::{Four, four};
 use crate::turns::case::Case;
 use crate::turns::game_budget::{GameBudget, Playing, SharedBudget, Thread};
@@ -58,7 +58,7 @@ impl Tally {
 }
 
 /// What became of a transaction by what is told of it.
-fn tally_of(told: &Told<'_>, case: &Case<'_>) -> Tally {
+fn tally_of(told: &GameReport<'_>, case: &Case<'_>) -> Tally {
     if told.outcome == Outcome::Done
         && told.of_service().taken == case.get(b"to_service")
         && told.next_hop.taken == case.get(b"to_user")

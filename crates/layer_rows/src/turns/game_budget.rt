@@ -1,7 +1,8 @@
 //! A budget on which a row's transactions begin.
 
-use crate::stage::{Counted, Game, Played, Recorded, begin, game_size};
-use crate::tasks::Task;
+use crate::row_bank::RowBank;
+use crate::stage::{CountedMemoryWire, Game, GameOnBank, Recorded, begin, game_size};
+use crate::tasks::ThreadTask;
 use crate::turns::case::Case;
 use crate::turns::threads::report;
 use crate::turns::wires::{source_wire, wires_with};
@@ -45,26 +46,19 @@ pub trait SharedBudget {
     fn played<T: Playing>(&self, playing: &T) -> T::Kept;
 }
 
-/// A bank as both.
-#[derive(Drop)]
-pub struct OnBank<'a, B: Ledgers, R> {
-    pub rt: &'a R,
-    pub bank: &'a Bank<B>,
-}
-
 /// Begins the row's transaction over this wire of its source and the row's others. `None` where it can't begin.
 fn begun_over<'a, B: Ledgers, A: Wire + Drop, R: Wait>(
     rt: &'a R,
     bank: &'a Bank<B>,
     source: A,
     case: &Case<'_>,
-) -> Result<Option<Played<'a, B, (A, Counted, Counted), R>>, NoMemory> {
+) -> Result<Option<GameOnBank<'a, B, (A, CountedMemoryWire, CountedMemoryWire), R>>, NoMemory> {
     let wires = wires_with(source, case)?;
     begin(rt, case.alloc, bank, &case.subject(), wires, case.first)
 }
 
-impl<'a, B: Ledgers, R: Wait> GameBudget for OnBank<'a, B, R> {
-    type Game = Played<'a, B, (Counted, Counted, Counted), R>;
+impl<'a, B: Ledgers, R: Wait> GameBudget for RowBank<'a, B, R> {
+    type Game = GameOnBank<'a, B, (CountedMemoryWire, CountedMemoryWire, CountedMemoryWire), R>;
 
     fn begun(&self, case: &Case<'_>) -> Result<Option<Self::Game>, NoMemory> {
         begun_over(self.rt, self.bank, source_wire(case)?, case)
@@ -83,7 +77,7 @@ impl<'a, B: Ledgers, R: Wait> GameBudget for OnBank<'a, B, R> {
     }
 }
 
-impl<'a, B: Ledgers, R: Wait + Clock> SharedBudget for OnBank<'a, B, R> {
+impl<'a, B: Ledgers, R: Wait + Clock> SharedBudget for RowBank<'a, B, R> {
     fn played<T: Playing>(&self, playing: &T) -> T::Kept {
         playing.play(self.rt, self)
     }
@@ -96,7 +90,7 @@ pub struct Thread<'a, P, T> {
     pub playing: T,
 }
 
-impl<'a, P: SharedBudget, T: Playing> Task for Thread<'a, P, T> {
+impl<'a, P: SharedBudget, T: Playing> ThreadTask for Thread<'a, P, T> {
     type Kept = T::Kept;
 
     fn run(&self) -> T::Kept {

@@ -2,10 +2,11 @@
 ghost use Rattle.std.specs.Prelude.{◌≡◌, ◌≤◌, ◌+◌};
 ghost use Rattle.span_bank.specs.declared.limits.TheConstants.{MAX_CAPACITY, MAX_ROWS};
 
+use crate::row_bank::RowBank;
 use crate::turns::banks::{Run, is_empty};
 use crate::turns::case::Case;
 use crate::turns::crowds::put_four;
-use crate::turns::game_budget::{OnBank, SharedBudget};
+use crate::turns::game_budget::SharedBudget;
 use crate::turns::steps::first_turns;
 use crate::turns::threads::put_both;
 use span_bank::{Bank, Blanks, Ledgers};
@@ -54,7 +55,7 @@ where
         scene: run.scene,
         values: run.values,
     };
-    put_row(rt, &OnBank { rt, bank }, &case, out)
+    put_row(rt, &RowBank { rt, bank }, &case, out)
 }
 
 /// Adds what the run's transactions report on a new budget, and whether it is empty after them.

@@ -1,7 +1,7 @@
 //! Two transactions in two threads on one budget, which has room for just the two. The body of the first doesn't come before the
 //! second is finished.
 
-use crate::stage::{BEGIN, Game, Remains};
+use crate::stage::{BEGIN, Game, GameRemains};
 use crate::tasks::two;
 use crate::turns::case::Case;
 use crate::turns::game_budget::{GameBudget, Playing, SharedBudget, Thread};

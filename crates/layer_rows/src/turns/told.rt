@@ -1,6 +1,6 @@
 //! What a row's answer says of a transaction that ended.
 
-use crate::stage::{Told, WireRecord};
+use crate::stage::{GameReport, WireRecord};
 use crate::turns::case::Case;
 use adapt_turn::Outcome;
 use test_rows::{NoMemory, put_decimal, put_number, put_shown, words_of};
@@ -51,7 +51,11 @@ fn place_of(case: &Case<'_>) -> Option<u64> {
 }
 
 /// Adds how often each wire was called, and how many bytes the source gave, where the row asks for it.
-fn put_all_calls(told: &Told<'_>, case: &Case<'_>, out: &mut Vec<u8>) -> Result<(), NoMemory> {
+fn put_all_calls(
+    told: &GameReport<'_>,
+    case: &Case<'_>,
+    out: &mut Vec<u8>,
+) -> Result<(), NoMemory> {
     if !case.has(b"calls") {
         return Ok(());
     }
@@ -75,7 +79,7 @@ fn put_line_of(
 }
 
 /// Adds what a broken connection took, and how often one failed the transaction.
-fn put_lines(told: &Told<'_>, case: &Case<'_>, out: &mut Vec<u8>) -> Result<(), NoMemory> {
+fn put_lines(told: &GameReport<'_>, case: &Case<'_>, out: &mut Vec<u8>) -> Result<(), NoMemory> {
     put_line_of(&told.broken, b"broken", case, out)?;
     put_line_of(&told.freed, b"freed", case, out)?;
     if told.failed > 0 {
@@ -85,7 +89,11 @@ fn put_lines(told: &Told<'_>, case: &Case<'_>, out: &mut Vec<u8>) -> Result<(), 
 }
 
 /// Adds how a transaction ended, and what the service and the next hop got.
-pub fn put_outcome(told: &Told<'_>, case: &Case<'_>, out: &mut Vec<u8>) -> Result<(), NoMemory> {
+pub fn put_outcome(
+    told: &GameReport<'_>,
+    case: &Case<'_>,
+    out: &mut Vec<u8>,
+) -> Result<(), NoMemory> {
     let user = told.next_hop.taken;
     if wants_memory(told.outcome, user, case) {
         return Err(NoMemory);
@@ -104,7 +112,11 @@ fn put_back(back: &[u8], case: &Case<'_>, out: &mut Vec<u8>) -> Result<(), NoMem
 }
 
 /// Adds how a transaction ended, and what its wires took.
-pub fn put_ended(told: &Told<'_>, case: &Case<'_>, out: &mut Vec<u8>) -> Result<(), NoMemory> {
+pub fn put_ended(
+    told: &GameReport<'_>,
+    case: &Case<'_>,
+    out: &mut Vec<u8>,
+) -> Result<(), NoMemory> {
     let back = told.source.taken;
     if wants_memory(told.outcome, back, case) {
         return Err(NoMemory);

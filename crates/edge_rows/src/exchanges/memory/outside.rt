@@ -5,7 +5,7 @@ ghost use Rattle.exchange_core.specs.declared.dialing.Dialing.TheVariants.{KeptF
 ghost use Rattle.shard_exchange.specs.Reasons.{lies_elsewhere};
 ghost use Rattle.shard_message.specs.Waits.{GivesNone};
 
-use crate::exchanges::memory::{Lease, Memory, Moment};
+use crate::exchanges::memory::{MemoryOutside, RowLease, RowMoment};
 use crate::exchanges::services::NOW;
 use crate::exchanges::words::{either, end_name};
 use crate::stage::StageWire;
@@ -30,7 +30,7 @@ use std::net::{Ipv4Addr, SocketAddrV4};
 use trace_core::Point;
 use wire_kit::{Got, Wire};
 
-impl<'a, W: StageWire<'a>, B: Ledgers> Settings for Memory<'a, W, B> {
+impl<'a, W: StageWire<'a>, B: Ledgers> Settings for MemoryOutside<'a, W, B> {
     fn alloc(&self) -> Global {
         self.alloc
     }
@@ -48,33 +48,33 @@ impl<'a, W: StageWire<'a>, B: Ledgers> Settings for Memory<'a, W, B> {
     }
 }
 
-impl<'a, W: StageWire<'a>, B: Ledgers> Clocked<Moment> for Memory<'a, W, B> {
+impl<'a, W: StageWire<'a>, B: Ledgers> Clocked<RowMoment> for MemoryOutside<'a, W, B> {
     ghost is_late = { λ memory at. at.late };
 
     ghost has_rested = { λ memory at. at.rested };
 
-    fn now(&self, _at: &Moment) -> u64 {
+    fn now(&self, _at: &RowMoment) -> u64 {
         NOW
     }
 
-    fn is_late(&self, at: &Moment) -> bool {
+    fn is_late(&self, at: &RowMoment) -> bool {
         at.late
     }
 
-    fn has_rested(&self, at: &Moment) -> bool {
+    fn has_rested(&self, at: &RowMoment) -> bool {
         at.rested
     }
 
-    fn has_waited(&self, at: &Moment) -> bool {
+    fn has_waited(&self, at: &RowMoment) -> bool {
         at.waited
     }
 
-    fn may_pass(&mut self, _at: &Moment) -> bool {
+    fn may_pass(&mut self, _at: &RowMoment) -> bool {
         !self.scene.is(b"gate", b"shut")
     }
 }
 
-impl<'a, W: StageWire<'a>, B: Ledgers> Services<Moment> for Memory<'a, W, B> {
+impl<'a, W: StageWire<'a>, B: Ledgers> Services<RowMoment> for MemoryOutside<'a, W, B> {
     ghost point_of = { λ lease. lease.point };
 
     ghost is_reused = { λ lease. lease.reused };
@@ -86,11 +86,11 @@ impl<'a, W: StageWire<'a>, B: Ledgers> Services<Moment> for Memory<'a, W, B> {
         }
     }
 
-    fn user_address(&self, _at: &Moment) -> Option<Ipv4Addr> {
+    fn user_address(&self, _at: &RowMoment) -> Option<Ipv4Addr> {
         self.scene.address(b"from")
     }
 
-    fn keep(&mut self, _at: &Moment, point: Point, record: Record) -> Result<(), AllocError> {
+    fn keep(&mut self, _at: &RowMoment, point: Point, record: Record) -> Result<(), AllocError> {
         if self.scene.is(b"keeps", b"memory") {
             return Err(AllocError);
         }
@@ -109,27 +109,27 @@ impl<'a, W: StageWire<'a>, B: Ledgers> Services<Moment> for Memory<'a, W, B> {
         }
     }
 
-    fn lend(&mut self, _at: &Moment, point: Point) -> Result<(W, Lease), LendFault> {
+    fn lend(&mut self, _at: &RowMoment, point: Point) -> Result<(W, RowLease), LendFault> {
         self.lease_noted(point)
     }
 
-    fn lend_in_turn(&mut self, _at: &Moment, point: Point) -> Result<(W, Lease), LendFault> {
+    fn lend_in_turn(&mut self, _at: &RowMoment, point: Point) -> Result<(W, RowLease), LendFault> {
         self.lease_noted(point)
     }
 
-    fn join_queue(&mut self, _at: &Moment, _point: Point) -> bool {
+    fn join_queue(&mut self, _at: &RowMoment, _point: Point) -> bool {
         let joins = !self.scene.is(b"queue", b"full") && self.stage.join_queue();
         self.stage
             .note(either(joins, b"joins the queue", b"finds the queue full"));
         joins
     }
 
-    fn leave_queue(&mut self, _at: &Moment, _point: Point) {
+    fn leave_queue(&mut self, _at: &RowMoment, _point: Point) {
         self.stage.note(b"leaves the queue");
         self.stage.leave_queue();
     }
 
-    fn reopen(&mut self, _at: &Moment, lease: &mut Lease) -> Result<W, LendFault> {
+    fn reopen(&mut self, _at: &RowMoment, lease: &mut RowLease) -> Result<W, LendFault> {
         match self.next_lend() {
             b"unreached" => return Err(LendFault::Unreached),
             b"memory" => return Err(LendFault::NoMemory),
@@ -141,15 +141,15 @@ impl<'a, W: StageWire<'a>, B: Ledgers> Services<Moment> for Memory<'a, W, B> {
         Ok(wire)
     }
 
-    fn is_reused(lease: &Lease) -> bool {
+    fn is_reused(lease: &RowLease) -> bool {
         lease.reused
     }
 
-    fn put(&mut self, _at: &Moment, connection: Reusable<W>, lease: Lease)
+    fn put(&mut self, _at: &RowMoment, connection: Reusable<W>, lease: RowLease)
         ensures { ⊤ }
     {
         let connection = connection.into_wire();
-        let Lease { point, reused: _ } = lease;
+        let RowLease { point, reused: _ } = lease;
         connection.note(b"puts back");
         let _ = match point {
             Point::Reqmod => self.request_idle.push(connection),
@@ -158,8 +158,8 @@ impl<'a, W: StageWire<'a>, B: Ledgers> Services<Moment> for Memory<'a, W, B> {
         self.stage.put_right();
     }
 
-    fn give_up(&mut self, _at: &Moment, lease: Lease) {
-        let Lease {
+    fn give_up(&mut self, _at: &RowMoment, lease: RowLease) {
+        let RowLease {
             point: _,
             reused: _,
         } = lease;
@@ -168,10 +168,10 @@ impl<'a, W: StageWire<'a>, B: Ledgers> Services<Moment> for Memory<'a, W, B> {
     }
 }
 
-impl<'a, W: StageWire<'a>, B: Ledgers> Origins<Moment> for Memory<'a, W, B> {
+impl<'a, W: StageWire<'a>, B: Ledgers> Origins<RowMoment> for MemoryOutside<'a, W, B> {
     fn dial(
         &mut self,
-        _at: &Moment,
+        _at: &RowMoment,
         address: SocketAddrV4,
         dialing: Dialing,
     ) -> Result<Dialed<W>, Reason>
@@ -199,7 +199,7 @@ impl<'a, W: StageWire<'a>, B: Ledgers> Origins<Moment> for Memory<'a, W, B> {
         }
     }
 
-    fn keep_origin(&mut self, _at: &Moment, connection: LastingOrigin<W>) -> bool
+    fn keep_origin(&mut self, _at: &RowMoment, connection: LastingOrigin<W>) -> bool
         ensures { ⊤ }
     {
         let mut wire = connection.into_wire();
@@ -215,7 +215,7 @@ impl<'a, W: StageWire<'a>, B: Ledgers> Origins<Moment> for Memory<'a, W, B> {
     }
 }
 
-impl<'a, W: StageWire<'a>, B: Ledgers> UserEnd for Memory<'a, W, B> {
+impl<'a, W: StageWire<'a>, B: Ledgers> UserEnd for MemoryOutside<'a, W, B> {
     fn finish(user: &W) {
         user.finish();
     }
@@ -255,8 +255,8 @@ fn page_key(status: u16) -> &'static [u8] {
     }
 }
 
-impl<'a, W: StageWire<'a>, B: Ledgers> Noting<Moment> for Memory<'a, W, B> {
-    fn note_request(&mut self, _at: &Moment, request: &Incoming) {
+impl<'a, W: StageWire<'a>, B: Ledgers> Noting<RowMoment> for MemoryOutside<'a, W, B> {
+    fn note_request(&mut self, _at: &RowMoment, request: &Incoming) {
         if let Some(head) = request.user_head() {
             self.is_head = head.method() == b"HEAD".as_slice();
         }
@@ -264,22 +264,22 @@ impl<'a, W: StageWire<'a>, B: Ledgers> Noting<Moment> for Memory<'a, W, B> {
         self.stage.note(b"has the request");
     }
 
-    fn note_response(&mut self, _at: &Moment, _response: &Incoming) {
+    fn note_response(&mut self, _at: &RowMoment, _response: &Incoming) {
         self.stage.note(b"has the response");
     }
 
-    fn note_route(&mut self, _at: &Moment, route: Route) {
+    fn note_route(&mut self, _at: &RowMoment, route: Route) {
         match route.next {
             NextServer::Origin => self.stage.note_shown(b"dials", &route.address),
             NextServer::Parent => self.stage.note_shown(b"dials the parent", &route.address),
         }
     }
 
-    fn note_anew(&mut self, _at: &Moment) {
+    fn note_anew(&mut self, _at: &RowMoment) {
         self.stage.note(b"begins the request anew");
     }
 
-    fn blame_service(&mut self, _at: &Moment, fault: Option<ClientFault>, is_fresh: bool) {
+    fn blame_service(&mut self, _at: &RowMoment, fault: Option<ClientFault>, is_fresh: bool) {
         let what = either(
             is_fresh,
             b"blames the fresh service:",
@@ -293,7 +293,7 @@ impl<'a, W: StageWire<'a>, B: Ledgers> Noting<Moment> for Memory<'a, W, B> {
 
     fn note_refusal(
         &mut self,
-        _at: &Moment,
+        _at: &RowMoment,
         _user: &W,
         message: Option<&Incoming>,
         reason: Reason,
@@ -309,7 +309,7 @@ impl<'a, W: StageWire<'a>, B: Ledgers> Noting<Moment> for Memory<'a, W, B> {
         }
     }
 
-    fn refusal_page(&mut self, _at: &Moment, status: u16) -> Option<Vec<u8>> {
+    fn refusal_page(&mut self, _at: &RowMoment, status: u16) -> Option<Vec<u8>> {
         let page = self.scene.get(page_key(status));
         if page.is_empty() {
             return None;
@@ -321,7 +321,7 @@ impl<'a, W: StageWire<'a>, B: Ledgers> Noting<Moment> for Memory<'a, W, B> {
         }
     }
 
-    fn note_end(&mut self, _at: &Moment, _user: &W, end: MessageEnd<'_>) {
+    fn note_end(&mut self, _at: &RowMoment, _user: &W, end: MessageEnd<'_>) {
         let name = end_name(&end);
         match end.outcome {
             Some(outcome) => self.stage.note_shown(name, &outcome),
@@ -338,9 +338,9 @@ impl<'a, W: StageWire<'a>, B: Ledgers> Noting<Moment> for Memory<'a, W, B> {
         }
     }
 
-    fn note_stop(&mut self, _at: &Moment) {
+    fn note_stop(&mut self, _at: &RowMoment) {
         self.stage.note(b"stops in an answer");
     }
 }
 
-impl<'a, W: StageWire<'a>, B: Ledgers> Outside<Moment> for Memory<'a, W, B> {}
+impl<'a, W: StageWire<'a>, B: Ledgers> Outside<RowMoment> for MemoryOutside<'a, W, B> {}

@@ -3,14 +3,14 @@
 ghost use Rattle.std.specs.Prelude.{◌≡◌, length};
 ghost use Rattle.wire_kit.specs.Past.{FitsPut, FitsRoom};
 
-use crate::stage::poll::Line;
-use crate::stage::talk::{Act, read_act};
+use crate::stage::poll::PolledLine;
+use crate::stage::talk::{TalkAct, read_act};
 use crate::stage::words::{first_word, script_key};
 use adapt_bytes::behind;
 use test_rows::{Scene, Values};
 use wire_kit::{Got, Put};
 
-impl Line {
+impl PolledLine {
     /// Whether a read would find something.
     pub(crate) fn is_noisy(&self) -> bool {
         self.read < self.came.len() || self.has_ended || self.has_failed
@@ -41,23 +41,23 @@ impl Line {
         let script = scene.get(script_key(self.peer, self.key));
         let (word, _) = first_word(behind(script, self.place));
         match read_act(scene, values, word) {
-            Act::Gives(text) if self.given < text.len() => {
+            TalkAct::Gives(text) if self.given < text.len() => {
                 let left = behind(text, self.given);
                 let count = left.len().min(most);
                 self.tells_bytes = self.tells_bytes || self.read == self.came.len();
                 self.given = self.given.saturating_add(count);
                 return self.came.extend_from_slice(&left[..count]).is_ok();
             }
-            Act::Hears(count) if self.heard < count => {
+            TalkAct::Hears(count) if self.heard < count => {
                 return self.is_finished && self.end(false);
             }
-            Act::Hears(count) => self.heard = self.heard.saturating_sub(count),
-            Act::Takes(count) => self.later = count,
-            Act::Gives(_) | Act::Pauses => self.given = 0,
-            Act::Ends => return self.end(false),
-            Act::Fails => return self.end(true),
-            Act::Rests => return self.is_finished && self.end(false),
-            Act::Stays => return false,
+            TalkAct::Hears(count) => self.heard = self.heard.saturating_sub(count),
+            TalkAct::Takes(count) => self.later = count,
+            TalkAct::Gives(_) | TalkAct::Pauses => self.given = 0,
+            TalkAct::Ends => return self.end(false),
+            TalkAct::Fails => return self.end(true),
+            TalkAct::Rests => return self.is_finished && self.end(false),
+            TalkAct::Stays => return false,
         }
         self.place = self.place.saturating_add(word.len()).saturating_add(1);
         true

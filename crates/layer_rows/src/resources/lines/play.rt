@@ -2,7 +2,7 @@
 ghost use Rattle.std.specs.Prelude.{◌≡◌};
 
 use crate::questions::put_lines;
-use crate::resources::lines::stage::{Idle, Memory, Stage};
+use crate::resources::lines::stage::{ConnectionStage, Idle, StageEdge};
 use crate::resources::lines::steps::Play;
 use adapt_bytes::MAX_CONNECTIONS;
 use service_lines::{PauseRule, Pools, Queues, Waiter, Waiting};
@@ -20,8 +20,8 @@ const HELD: usize = 16;
 fn put_on<'a, 's, Q: Ledger, A: Ledger, R: Wait>(
     rt: &'a R,
     alloc: Global,
-    stage: &'s Stage,
-    pools: Pools<'a, Memory<'s>, Q, A>,
+    stage: &'s ConnectionStage,
+    pools: Pools<'a, StageEdge<'s>, Q, A>,
     lines: &[u8],
     out: &mut Vec<u8>,
 ) -> Result<(), NoMemory> {
@@ -51,7 +51,7 @@ fn put_on<'a, 's, Q: Ledger, A: Ledger, R: Wait>(
 fn put_on_pools<'s, Q: Ledger, A: Ledger, R: Wait>(
     rt: &R,
     alloc: Global,
-    stage: &'s Stage,
+    stage: &'s ConnectionStage,
     blanks: (Blank, Blank),
     row: &Row<'_>,
     out: &mut Vec<u8>,
@@ -76,7 +76,7 @@ fn put_on_pools<'s, Q: Ledger, A: Ledger, R: Wait>(
         thread: 0,
         waiting: Waiting {
             queues: &queues,
-            edge: Memory { stage },
+            edge: StageEdge { stage },
             seconds: row.number(b"wait").unwrap_or(5),
         },
     };
@@ -90,7 +90,7 @@ pub fn put_play<R: Wait>(
     row: &Row<'_>,
     out: &mut Vec<u8>,
 ) -> Result<(), NoMemory> {
-    let stage = Stage::new(row.number(b"room").unwrap_or(8));
+    let stage = ConnectionStage::new(row.number(b"room").unwrap_or(8));
     let blanks = (Blank::new(LEDGER_PARTS), Blank::new(LEDGER_PARTS));
     put_on_pools::<Brand, Brand, R>(rt, alloc, &stage, blanks, row, out)
 }

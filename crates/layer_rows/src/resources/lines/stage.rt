@@ -9,7 +9,7 @@ use trace_core::Point;
 
 /// What connections, threads and descriptors are in the midst of.
 #[derive(Drop)]
-pub struct Stage {
+pub struct ConnectionStage {
     /// How many connections were opened.
     pub opened: Cell<u64>,
     /// A bit for each connection that its service has ended.
@@ -30,10 +30,10 @@ pub struct Stage {
     pub now: Cell<u64>,
 }
 
-impl Stage {
+impl ConnectionStage {
     /// Before the first connection, with descriptors for this many idle ones.
-    pub fn new(room: u64) -> Stage {
-        Stage {
+    pub fn new(room: u64) -> ConnectionStage {
+        ConnectionStage {
             opened: Cell::new(0),
             ended: Cell::new(0),
             unread: Cell::new(0),
@@ -59,13 +59,13 @@ pub fn bit_of(number: u64) -> u64 {
 }
 
 /// The descriptor of an idle connection, which is given back once it is used or closed.
-pub struct Berth<'a> {
-    stage: &'a Stage,
+pub struct IdleDescriptor<'a> {
+    stage: &'a ConnectionStage,
 }
 
-impl<'a> Drop for Berth<'a> {
+impl<'a> Drop for IdleDescriptor<'a> {
     fn drop(self) {
-        let Berth { stage } = self;
+        let IdleDescriptor { stage } = self;
         stage.room.set(stage.room.get().saturating_add(1));
     }
 }
@@ -78,16 +78,16 @@ pub struct Idle<'a> {
     home: usize,
     /// How often connections had been listened to when it was laid down.
     laid: u64,
-    berth: Berth<'a>,
+    berth: IdleDescriptor<'a>,
 }
 
 /// What threads share.
 #[derive(Clone, Copy, Drop)]
-pub struct Memory<'a> {
-    pub stage: &'a Stage,
+pub struct StageEdge<'a> {
+    pub stage: &'a ConnectionStage,
 }
 
-impl<'a> Edge for Memory<'a> {
+impl<'a> Edge for StageEdge<'a> {
     type Idle = Idle<'a>;
 
     type Woken = usize;
@@ -127,7 +127,7 @@ impl<'a> Edge for Memory<'a> {
 /// What opens connections, and says what it was asked.
 #[derive(Drop)]
 pub struct Hand<'a, 'o> {
-    pub stage: &'a Stage,
+    pub stage: &'a ConnectionStage,
     /// The number of the thread whose connections these are.
     pub thread: usize,
     pub out: &'o mut Vec<u8>,
@@ -148,7 +148,7 @@ impl<'a, 'o> Hand<'a, 'o> {
     }
 }
 
-impl<'a, 'o> Keeper<Memory<'a>> for Hand<'a, 'o> {
+impl<'a, 'o> Keeper<StageEdge<'a>> for Hand<'a, 'o> {
     type Used = u64;
 
     ghost past = { λ hand p. ⊤ };
@@ -178,7 +178,7 @@ impl<'a, 'o> Keeper<Memory<'a>> for Hand<'a, 'o> {
             since: now,
             home,
             laid: self.stage.polls.get(),
-            berth: Berth { stage: self.stage },
+            berth: IdleDescriptor { stage: self.stage },
         })
     }
 
@@ -188,7 +188,7 @@ impl<'a, 'o> Keeper<Memory<'a>> for Hand<'a, 'o> {
     }
 }
 
-impl<'a, 'o> Connector<Memory<'a>> for Hand<'a, 'o> {
+impl<'a, 'o> Connector<StageEdge<'a>> for Hand<'a, 'o> {
     type Place = Point;
 
     ghost leads = { λ place used. ⊤ };

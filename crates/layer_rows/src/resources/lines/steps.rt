@@ -3,7 +3,7 @@
 ghost use Rattle.std.specs.Prelude.{◌≡◌, []};
 
 use crate::questions::{Subject, cut};
-use crate::resources::lines::stage::{Hand, Memory, Stage, bit_of};
+use crate::resources::lines::stage::{ConnectionStage, Hand, StageEdge, bit_of};
 use crate::resources::lines::words::{fault_name, first_number, put_lent, put_woken};
 use crate::resources::words::put_numbers;
 use adapt_bytes::MAX_CONNECTIONS;
@@ -24,15 +24,15 @@ const STEPS: &[u8] =
 const OUTSIDE: &[u8] = b"end say read refuse short serve now poll";
 
 /// The connections that are lent. None has a `Drop`.
-pub type Held<Q, A> = Vec<LeasedConnection<u64, Q, A>>;
+pub type LentConnections<Q, A> = Vec<LeasedConnection<u64, Q, A>>;
 
 /// A row in play.
 pub struct Play<'a, 's, Q: Ledger, A: Ledger, R> {
     pub rt: &'a R,
     pub alloc: Global,
-    pub stage: &'s Stage,
-    pub pools: Pools<'a, Memory<'s>, Q, A>,
-    pub held: Held<Q, A>,
+    pub stage: &'s ConnectionStage,
+    pub pools: Pools<'a, StageEdge<'s>, Q, A>,
+    pub held: LentConnections<Q, A>,
     /// The one for whom connections are lent that doesn't wait.
     pub who: Waiter,
 }
@@ -115,7 +115,12 @@ fn put_pools<E: Edge, Q: Ledger, A: Ledger, R: Wait>(
 }
 
 /// A step from outside: a service ends a connection or speaks on it, or the system refuses.
-fn put_outside(stage: &Stage, word: &[u8], text: &[u8], out: &mut Vec<u8>) -> Result<(), NoMemory> {
+fn put_outside(
+    stage: &ConnectionStage,
+    word: &[u8],
+    text: &[u8],
+    out: &mut Vec<u8>,
+) -> Result<(), NoMemory> {
     let (number, _) = first_number(text);
     match index_of(OUTSIDE, word) {
         Some(0) => stage.ended.set(stage.ended.get() | bit_of(number)),

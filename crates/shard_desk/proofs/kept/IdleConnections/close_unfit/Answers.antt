@@ -1,7 +1,7 @@
 use Rattle.std.proofs.Common.{rules, ◌⊎◌, ℕ, ◌-◌, ◌<◌, sym, subst}
 use Rattle.shard_desk.specs.Kept.{IsFit, IsUnfit}
 use Rattle.shard_desk.proofs.Sifting.{Walked, sifts_on, one_less, below, index_after}
-use Rattle.shard_desk.proofs.kept.Kept.close_unfit.Goals as goal
+use Rattle.shard_desk.proofs.kept.IdleConnections.close_unfit.Goals as goal
 
 pub loop-passed-preserved : goal.loop-passed-preserved
 loop-passed-preserved g c =

@@ -2,7 +2,7 @@ use Rattle.std.proofs.Common.{◌≡◌, ◌-◌, ◌⊎◌, length}
 use Rattle.std.specs.VecDeque.{deque_capacity}
 use Rattle.shard_desk.specs.Kept.{IsFit, IsUnfit}
 use Rattle.shard_desk.proofs.Sifting.{Walked}
-use Rattle.shard_desk.proofs.kept.Kept.close_unfit.Given as goal
+use Rattle.shard_desk.proofs.kept.IdleConnections.close_unfit.Given as goal
 
 abbrev pub invariant-loop-passed : goal.invariant-loop-passed
 invariant-loop-passed g l = record {

@@ -2,8 +2,8 @@
 use Rattle.std.specs.Prelude.{ℕ, ◌/◌, ◌%◌, ◌==◌, if◌then◌else◌, Bool, true, false, List, [], ◌∷◌, ◌++◌, Option, Some, None, codes}
 use Rattle.adapt_bytes.specs.Numeral.{numeral, three_digits}
 use Rattle.service_probe.specs.Text.{escaped_text}
-use Rattle.service_probe.specs.declared.finding.Came.{Came}
-use Rattle.service_probe.specs.declared.finding.Came.TheVariants as came
+use Rattle.service_probe.specs.declared.finding.ProbeOutcome.{ProbeOutcome}
+use Rattle.service_probe.specs.declared.finding.ProbeOutcome.TheVariants as came
 use Rattle.service_probe.specs.declared.finding.Finding.{Finding}
 use Rattle.service_probe.specs.declared.attempt.ProbeAttempt.{ProbeAttempt}
 use Rattle.service_probe.specs.declared.report.ConnectionUse.{ConnectionUse}
@@ -67,7 +67,7 @@ page_words true = codes " after 100 with a page of "
 page_words false = codes " with a page of "
 
 -- what came of a message
-abbrev pub came_text : Came → List ℕ
+abbrev pub came_text : ProbeOutcome → List ℕ
 came_text came.Options = codes "200"
 came_text (came.Unchanged continued) = codes "204" ++ after_text continued
 came_text (came.Changed continued bytes) = ((codes "200" ++ after_text continued) ++ codes " with ") ++ size_text bytes

@@ -1,4 +1,4 @@
-use Rattle.edge_rows.proofs.exchanges.memory.outside.MemoryNotingMoment.refusal_page.Goals as goal
+use Rattle.edge_rows.proofs.exchanges.memory.outside.MemoryOutsideNotingRowMoment.refusal_page.Goals as goal
 
 pub returns-in-Ok : goal.returns-in-Ok
 returns-in-Ok g c = (

@@ -1,7 +1,7 @@
 use Rattle.std.proofs.Common.{rules, ◌≡◌, ◌⊎◌, ℕ, ◌-◌, ◌<◌, Some, sym, subst}
 use Rattle.shard_desk.specs.Kept.{IsFit, IsUnfit, IsUnsure}
 use Rattle.shard_desk.proofs.Sifting.{Walked, is_taken, walks_on, one_less, below, index_after}
-use Rattle.shard_desk.proofs.kept.Kept.take_by.Goals as goal
+use Rattle.shard_desk.proofs.kept.IdleConnections.take_by.Goals as goal
 
 pub returns-in-Some-clause-taken : goal.returns-in-Some-clause-taken
 returns-in-Some-clause-taken g c =
