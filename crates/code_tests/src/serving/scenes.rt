@@ -1,6 +1,9 @@
 //! What users, an origin, a service and the administrator do, in this order, and what they get.
 
 use super::loopback::LoopbackScene;
+use super::loopback::LoopbackScene::{
+    Adapted, AllAdapted, Apart, ByIcapd, Forwarded, HeldBack, OneConnection,
+};
 use super::player::Deed::{Ends, Gets, GetsOffer, HearsEnd, HearsNothing, Passes, Says};
 use super::player::ScenePeer::{Origin, Service, User};
 use super::player::SceneStep::{Admin, Awaits, Closes, New, On, Releases, Stops};
@@ -277,24 +280,20 @@ pub type Named = (&'static str, LoopbackScene, &'static str);
 
 /// Exchanges that a service adapts.
 pub const ADAPTED_ONES: &[Named] = &[
-    (
-        "the worked exchange",
-        LoopbackScene::Adapted(WORKED),
-        "allow_limit = 0\n",
-    ),
+    ("the worked exchange", Adapted(WORKED), "allow_limit = 0\n"),
     (
         "a changed request",
-        LoopbackScene::AllAdapted(CHANGED_REQUEST),
+        AllAdapted(CHANGED_REQUEST),
         "allow_limit = 0\n",
     ),
     (
         "a service that takes no connection",
-        LoopbackScene::Adapted(REFUSING),
+        Adapted(REFUSING),
         "allow_limit = 0\n",
     ),
     (
         "a service that closes after its options",
-        LoopbackScene::Adapted(CLOSED_OPTIONS),
+        Adapted(CLOSED_OPTIONS),
         "allow_limit = 0\n",
     ),
 ];
@@ -303,27 +302,27 @@ pub const ADAPTED_ONES: &[Named] = &[
 pub const LATE_ONES: &[Named] = &[
     (
         "nobody waits for ever",
-        LoopbackScene::Adapted(DEADLINES),
+        Adapted(DEADLINES),
         "deadline = 1\nallow_limit = 0\n",
     ),
     (
         "a head has a time in all",
-        LoopbackScene::Forwarded(SLOW_HEAD),
+        Forwarded(SLOW_HEAD),
         "deadline = 3600\nhead_deadline = 1\n",
     ),
     (
         "a silent service",
-        LoopbackScene::Adapted(SILENT_SERVICE),
+        Adapted(SILENT_SERVICE),
         "deadline = 1\nallow_limit = 0\n",
     ),
     (
         "a request begins anew after an idle connection",
-        LoopbackScene::Adapted(RETRY),
+        Adapted(RETRY),
         "",
     ),
     (
         "the options are asked anew after an idle connection",
-        LoopbackScene::Adapted(STALE_OPTIONS),
+        Adapted(STALE_OPTIONS),
         "",
     ),
 ];
@@ -332,71 +331,55 @@ pub const LATE_ONES: &[Named] = &[
 pub const CROWDED_ONES: &[Named] = &[
     (
         "no row beside another user",
-        LoopbackScene::Forwarded(CROWDED),
+        Forwarded(CROWDED),
         "rows = 1\nshards = 1\n",
     ),
-    (
-        "no room for one that waits",
-        LoopbackScene::Forwarded(WAITS_FOR_ROOM),
-        "",
-    ),
+    ("no room for one that waits", Forwarded(WAITS_FOR_ROOM), ""),
     (
         "no row for one that waits",
-        LoopbackScene::Forwarded(WAITS_FOR_A_ROW),
+        Forwarded(WAITS_FOR_A_ROW),
         "rows = 1\nshards = 2\n",
     ),
     (
         "no connection for one that waits",
-        LoopbackScene::AllAdapted(WAITS_FOR_THE_SERVICE),
+        AllAdapted(WAITS_FOR_THE_SERVICE),
         "shards = 1\n",
     ),
 ];
 
 /// What the administrator does, and what users do wrong.
 pub const CUT_ONES: &[Named] = &[
-    (
-        "the capacity changes",
-        LoopbackScene::Forwarded(CAPACITY),
-        "",
-    ),
+    ("the capacity changes", Forwarded(CAPACITY), ""),
     (
         "the capacity changes while bytes are held",
-        LoopbackScene::Adapted(HELD_BYTES),
+        Adapted(HELD_BYTES),
         "allow_limit = 0\n",
     ),
-    ("the proxy stops", LoopbackScene::Adapted(STOPPED), ""),
-    (
-        "heads that break off",
-        LoopbackScene::Forwarded(CUT_HEADS),
-        "",
-    ),
-    (
-        "two lengths",
-        LoopbackScene::Forwarded(TWO_LENGTHS_SAID),
-        "",
-    ),
+    ("the proxy stops", Adapted(STOPPED), ""),
+    ("heads that break off", Forwarded(CUT_HEADS), ""),
+    ("two lengths", Forwarded(TWO_LENGTHS_SAID), ""),
 ];
 
 /// Several shards.
 pub const SHARDED_ONES: &[Named] = &[
     (
         "one pool serves all shards",
-        LoopbackScene::OneConnection,
+        OneConnection,
         "allow_limit = 0\nshards = 2\n",
     ),
     (
         "one shard is held back",
-        LoopbackScene::HeldBack(HELD_BACK),
+        HeldBack(HELD_BACK),
         "allow_limit = 0\nshards = 2\n",
     ),
     (
         "a user, an origin and a service in a thread each",
-        LoopbackScene::Apart,
+        Apart,
         "allow_limit = 0\n",
     ),
     (
         "icapd adapts what many users ask, who share a small budget",
-        LoopbackScene::ByIcapd,
+        ByIcapd,
         "allow_limit = 0\nshards = 4\ncapacity = 20000\n",
     ),
 ];
