@@ -1,5 +1,5 @@
 -- A text is one script at most, and has one output at most.
-use Rattle.std.proofs.Common.{◌≡◌, ℕ, ◌+◌, ◌<◌, ◌^◌, Bool, true, false, if◌then◌else◌, subst, List}
+use Rattle.std.proofs.Common.{◌≡◌, ℕ, ◌+◌, ◌<◌, ◌^◌, Bool, true, false, subst, List}
 use Rattle.std.proofs.Common.{[], ◌∷◌, ◌++◌, length, Option, refl, sym, ap, ◌∙◌, inl, inr}
 use Rattle.trace_core.specs.declared.history.Plan.{Plan}
 use Rattle.std.specs.Option.{ForSome}

@@ -1,5 +1,5 @@
 -- What is said where a new configuration isn't taken over.
-use Rattle.std.proofs.Common.{◌≡◌, ◌⊎◌, ◌++◌, ℕ, List, [], Some, codes, inl, inr, subst}
+use Rattle.std.proofs.Common.{◌≡◌, ◌⊎◌, ◌++◌, ℕ, List, [], Some, codes, inl, inr, refl, subst}
 use Rattle.proxy_config.specs.Changes.{fixed_rows, IsFirstChange}
 use Rattle.proxy_config.specs.declared.config.Config.{Config as Configuration}
 use Rattle.proxy_commands.specs.Reloads.{Answers, IsNotTaken, IsReadFault, IsSourceFault}
@@ -11,6 +11,7 @@ use Rattle.proxy_commands.specs.declared.serve_error.ServeError.TheVariants as e
 use Rattle.proxy_commands.specs.declared.source.Source.{Source}
 use Rattle.proxy_commands.specs.declared.source.Source.TheVariants.{Path, Text}
 use Rattle.proxy_commands.specs.declared.whole.WholeFault.{WholeFault}
+use Rattle.proxy_commands.specs.declared.whole.WholeFault.TheVariants.{NoMemory as NothingLeft}
 
 -- what a source can't be read for is a fault of it
 pub unread : (source : Source) (error : ServeError) (fault : WholeFault) → IsUnread source error → IsReadFault error fault
@@ -38,17 +39,21 @@ pub not_taken : (source : Source) (old : Configuration) (fault : WholeFault) (li
 not_taken source old fault line is (inl none) = inl none
 not_taken source old fault line is (inr answers) = inr (inl (fault, is, answers))
 
--- a key that can't change is answered so
-pub restarts : (source : Source) (old new : Configuration) (text key line : List ℕ) (count : ℕ) → Says source text → IsWhole text new count
-    → IsFirstChange fixed_rows old new (Some key) → (line ≡ []) ⊎ (line ≡ codes "restart " ++ key) → IsNotTaken source old line
-restarts source old new text key line count said whole fixed (inl none) = inl none
-restarts source old new text key line count said whole fixed (inr is) = inr (inr (record {
-  text = text;
+-- a configuration that can't be taken over is answered so
+pub refused : (source : Source) (old new : Configuration) (count : ℕ) (line : List ℕ)
+    → ((text : List ℕ) × Says source text × IsWhole text new count)
+    → (line ≡ []) ⊎ Answers NothingLeft line
+    ⊎ ((key : List ℕ) × IsFirstChange fixed_rows old new (Some key) × (line ≡ codes "restart " ++ key))
+    → IsNotTaken source old line
+refused source old new count line whole (inl none) = inl none
+refused source old new count line whole (inr (inl answers)) = inr (inl (NothingLeft, inr (inl refl), answers))
+refused source old new count line whole (inr (inr restart)) = inr (inr (record {
+  text = whole.0;
   new = new;
   count = count;
-  key = key;
-  said = said;
-  whole = whole;
-  fixed = fixed;
-  says = is;
+  key = restart.0;
+  said = whole.1;
+  whole = whole.2;
+  fixed = restart.1;
+  says = restart.2;
 }))

@@ -1,7 +1,6 @@
 -- What `serve` reads and says.
-use Rattle.std.proofs.Common.{◌≡◌, ℕ, ◌+◌, ◌≤◌, List, ◌++◌, length, take, Option, Some, None, IfSome, Result, Ok, Err, IfOk, IfErr, sym, ap}
-use Rattle.std.proofs.Common.{◌∙◌, subst}
-use Rattle.std.proofs.lemmas.List.{append_assoc}
+use Rattle.std.proofs.Common.{◌≡◌, ℕ, ◌+◌, ◌≤◌, List, length, take, Option, Some, None, IfSome, Result, Ok, Err, IfOk, IfErr, OnOk, sym}
+use Rattle.std.proofs.Common.{subst}
 use Rattle.std.specs.Io.KnownBytes.{Appends}
 use Rattle.proxy_config.specs.Config.{Refuses}
 use Rattle.proxy_config.specs.declared.config.Config.{Config as Configuration}
@@ -15,18 +14,10 @@ use Rattle.proxy_commands.specs.declared.serve_error.ServeError.TheVariants.{Can
 use Rattle.proxy_commands.specs.Serve.{IsConfigured, IsRefusedAs, IsUnconfigured}
 use Rattle.proxy_commands.proofs.Runs.{whole, more}
 
--- three writes behind one another
-pub chain : (a b c d : Option (List ℕ)) (x y z text : List ℕ) → text ≡ (x ++ y) ++ z → Appends a b x → Appends b c y → Appends c d z
-    → Appends a d text
-chain None b c d x y z text e h i j = tt
-chain (Some xs) None c d x y z text e h i j = absurd h
-chain (Some xs) (Some ys) None d x y z text e h i j = absurd i
-chain (Some xs) (Some ys) (Some zs) None x y z text e h i j = absurd j
-chain (Some xs) (Some ys) (Some zs) (Some ws) x y z text e h i j =
-    j ∙ ap (λ t. t ++ z) (i ∙ ap (λ t. t ++ y) h)
-    ∙ append_assoc (xs ++ x) y z
-    ∙ append_assoc xs x (y ++ z)
-    ∙ ap (λ t. xs ++ t) (sym (append_assoc x y z) ∙ sym e)
+-- what is written is the text
+pub says : {E : Type 0} (a b : Option (List ℕ)) (written text : List ℕ) (r : Result (Unit {0}) E) → text ≡ written
+    → OnOk r (Appends a b written) → OnOk r (Appends a b text)
+says a b written text r e h = subst (λ (t : List ℕ). OnOk r (Appends a b t)) (sym e) h
 
 -- a configuration of the input is one of all that was there to read
 pub configured : (known : Option (List ℕ)) (input : List ℕ) (r : Result Configuration ServeError)

@@ -35,6 +35,35 @@ pub none_alone : (words : List (List ℕ)) (word : List ℕ) → words ≡ word 
 none_alone words word e (Some task) h = tt
 none_alone words word e None h = λ task is. h task (lone words word e task is)
 
+-- a word that may stand before a path may stand alone
+pub some_alone : (word : List ℕ) (found : Option Task) → IfSome found (IsTaskWithPath word) → IfSome found (IsTaskAlone word)
+some_alone word None h = tt
+some_alone word (Some Serve) h = h
+some_alone word (Some Check) h = h
+some_alone word (Some Probe) h = h
+some_alone word (Some Tell) h = absurd h
+some_alone word (Some Help) h = absurd h
+some_alone word (Some Version) h = absurd h
+
+-- a word that is none of these two stands alone only where it may stand before a path
+path_of_alone : (word : List ℕ) → word ≢ codes "--help" → word ≢ codes "--version" → (task : Task) → IsTaskAlone word task
+    → IsTaskWithPath word task
+path_of_alone word help version Serve is = is
+path_of_alone word help version Check is = is
+path_of_alone word help version Probe is = is
+path_of_alone word help version Tell is = absurd is
+path_of_alone word help version Help is = absurd (help is)
+path_of_alone word help version Version is = absurd (version is)
+
+pub none_with_path : (word : List ℕ) (found : Option Task) → word ≢ codes "--help" → word ≢ codes "--version"
+    → IfNone found ((task : Task) → IsTaskWithPath word task → ⊥) → IfNone found ((task : Task) → IsTaskAlone word task → ⊥)
+none_with_path word (Some task) help version h = tt
+none_with_path word None help version h = λ task is. h task (path_of_alone word help version task is)
+
+-- a word that compares unequal is another word
+pub differs : (word other : List ℕ) → bytes_eq word other ≡ false → word ≢ other
+differs word other unequal same = false≢true (sym unequal ∙ (bytes_eq-Decides word other).1 same)
+
 -- three words
 with_path : (words : List (List ℕ)) (word option path : List ℕ) → words ≡ word ∷ option ∷ path ∷ [] → option ≡ codes "--config"
     → (task : Task) → IsTaskWithPath word task → IsTask words task

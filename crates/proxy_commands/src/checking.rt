@@ -142,6 +142,20 @@ fn explain<E: Write>(
     }
 }
 
+/// Warns of what may be meant otherwise in a text that is this configuration. A warning that can't be written changes nothing.
+fn warn<E: Write>(
+    alloc: Global,
+    text: &[u8],
+    config: &Config,
+    machine: Machine<'_>,
+    errors: &mut E,
+) {
+    let _ = warn_of_needs(config, machine, errors);
+    let _ = warn_of_users(config, errors);
+    let _ = warn_of_hosts(alloc, text, errors);
+    let _ = warn_of_pages(config, errors);
+}
+
 /// Judges a text, says that it is a configuration, and warns of what may be meant otherwise.
 fn judge<O: Write, E: Write, R: Files>(
     rt: &R,
@@ -152,11 +166,9 @@ fn judge<O: Write, E: Write, R: Files>(
     machine: Machine<'_>,
 ) -> Result<(), ServeError> {
     let config = read_whole(rt, alloc, text)?;
-    // A warning that can't be written changes nothing.
-    let _ = warn_of_needs(&config, machine, errors);
-    let _ = warn_of_users(&config, errors);
-    let _ = warn_of_hosts(alloc, text, errors);
-    let _ = warn_of_pages(&config, errors);
+    warn(alloc, text, &config, machine, errors);
+    // Written as a call, the drop is proved once, and not at each place.
+    drop(config);
     say(output, b"ok\n")
 }
 

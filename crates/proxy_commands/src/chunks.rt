@@ -1,11 +1,12 @@
 //! `adaptproxy chunks`: reads a chunked body, and prints its bytes and its end.
 
-ghost use Rattle.std.specs.Prelude.{◌≡◌, ◌++◌, ◌<◌, ◌≤◌, length, IfOk, OnOk, MatchResult};
+ghost use Rattle.std.specs.Prelude.{◌≡◌, ◌++◌, ◌<◌, ◌≤◌, codes, length, IfOk, OnOk, MatchResult};
+ghost use Rattle.adapt_bytes.specs.Numeral.{numeral};
 ghost use Rattle.adapt_bytes.specs.declared.limits.TheConstants.{MAX_INPUT};
 ghost use Rattle.icap_chunks.specs.Reading.{number_of, IsReading};
 ghost use Rattle.proxy_commands.specs.Chunks.{body_text, fault_name, end_text, outcome_text, EndsWithin, IsChunksOutput, IsChunksRefused};
 
-use crate::answers::write_number;
+use crate::answers::{write_after, write_fault};
 use crate::error::Error;
 use adapt_bytes::MAX_INPUT;
 use icap_chunks::{ChunkFault, Outcome, read_in_pieces};
@@ -38,6 +39,15 @@ fn fault_name(fault: ChunkFault) -> &'static [u8]
     }
 }
 
+/// Adds the lines of an end: whether it had an `ieof`, and how many bytes came after it.
+fn write_end(out: &mut Vec<u8>, ieof: bool, rest: u64) -> Result<(), NoMemory>
+    ensures { OnOk result (out.new.items ≡ out.old.items ++ end_text ieof ++ codes "rest " ++ numeral 10 rest ++ codes "\n") }
+{
+    out.extend_from_slice(if ieof { b"end ieof\n" } else { b"end plain\n" })?;
+    write_after(out, b"rest ", rest)?;
+    out.extend_from_slice(b"\n")
+}
+
 /// Adds the lines that say how the reading of `count` bytes went.
 fn write_outcome(out: &mut Vec<u8>, count: usize, outcome: Outcome) -> Result<(), NoMemory>
     requires { EndsWithin count outcome }
@@ -45,19 +55,8 @@ fn write_outcome(out: &mut Vec<u8>, count: usize, outcome: Outcome) -> Result<()
 {
     match outcome {
         Outcome::More => out.extend_from_slice(b"more\n"),
-        Outcome::Ended { ieof, used } => {
-            out.extend_from_slice(if ieof { b"end ieof\n" } else { b"end plain\n" })?;
-            out.extend_from_slice(b"rest ")?;
-            write_number(out, (count - used) as u64)?;
-            out.extend_from_slice(b"\n")
-        }
-        Outcome::Faulted(fault) => {
-            out.extend_from_slice(b"fault ")?;
-            write_number(out, u64::from(fault.number()))?;
-            out.extend_from_slice(b" ")?;
-            out.extend_from_slice(fault_name(fault))?;
-            out.extend_from_slice(b"\n")
-        }
+        Outcome::Ended { ieof, used } => write_end(out, ieof, (count - used) as u64),
+        Outcome::Faulted(fault) => write_fault(out, u64::from(fault.number()), fault_name(fault)),
     }
 }
 

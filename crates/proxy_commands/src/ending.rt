@@ -3,7 +3,7 @@
 ghost use Rattle.std.specs.Prelude.{◌≡◌, IfOk};
 ghost use Rattle.proxy_commands.specs.Endings.{audit_text, serve_error_of};
 
-use crate::answers::write_number;
+use crate::answers::write_after;
 use crate::error::Error;
 use crate::serve_error::ServeError;
 use shard_report::{ProxyFault, StopAudit};
@@ -25,12 +25,10 @@ pub fn error_of(fault: ProxyFault) -> ServeError
 pub fn audit_line(alloc: Global, audit: StopAudit) -> Result<Vec<u8>, NoMemory>
     ensures { IfOk result (λ line. line.items ≡ audit_text audit) }
 {
-    let mut line = b"audit rows ".to_vec(alloc)?;
-    write_number(&mut line, audit.rows)?;
-    line.extend_from_slice(b" held ")?;
-    write_number(&mut line, audit.held)?;
-    line.extend_from_slice(b" leased ")?;
-    write_number(&mut line, audit.leased)?;
+    let mut line = Vec::new(alloc);
+    write_after(&mut line, b"audit rows ", audit.rows)?;
+    write_after(&mut line, b" held ", audit.held)?;
+    write_after(&mut line, b" leased ", audit.leased)?;
     line.extend_from_slice(b"\n")?;
     Ok(line)
 }

@@ -1,9 +1,11 @@
 //! What a line of a script says.
 
-ghost use Rattle.std.specs.Prelude.{◌≡◌};
+ghost use Rattle.std.specs.Prelude.{◌≡◌, None, Some, codes};
 ghost use Rattle.std.specs.Option.{option_copied};
 ghost use Rattle.std.specs.Str.{bytes_eq};
-ghost use Rattle.proxy_commands.specs.Reading.{decimal_of, behind, mark_of, cause_of, numbered_of, line_of};
+ghost use Rattle.proxy_commands.specs.Reading.{decimal_of, behind, mark_of, cause_of, numbered_of, or_number, line_of};
+ghost use Rattle.proxy_commands.specs.declared.script.Line.TheVariants.{Need};
+ghost use Rattle.trace_core.specs.declared.tape.Tape.TheVariants.{Original, Adapted};
 
 use crate::script::Line;
 use adapt_bytes::read_decimal;
@@ -79,6 +81,18 @@ fn cause(number: u64) -> Option<Cause>
     }
 }
 
+/// A line that asks for a continuation.
+fn read_need(line: &[u8]) -> Option<Line>
+    ensures { result ≡ or_number (behind (codes "need original ") line.now) (λ n. Some (Need Original n))
+        (or_number (behind (codes "need adapted ") line.now) (λ n. Some (Need Adapted n)) None) }
+{
+    if let Some(digits) = behind(line, b"need original ") {
+        return Some(Line::Need(Tape::Original, number(digits)?));
+    }
+    let digits = behind(line, b"need adapted ")?;
+    Some(Line::Need(Tape::Adapted, number(digits)?))
+}
+
 /// A line of words and a number.
 #[tactic(auto, unfolding(crate::specs::Reading::numbered_of))]
 fn read_numbered(line: &[u8]) -> Option<Line>
@@ -99,13 +113,7 @@ fn read_numbered(line: &[u8]) -> Option<Line>
     if let Some(digits) = behind(line, b"fail ") {
         return Some(Line::Step(Event::Fail(cause(number(digits)?)?)));
     }
-    if let Some(digits) = behind(line, b"need original ") {
-        return Some(Line::Need(Tape::Original, number(digits)?));
-    }
-    if let Some(digits) = behind(line, b"need adapted ") {
-        return Some(Line::Need(Tape::Adapted, number(digits)?));
-    }
-    None
+    read_need(line)
 }
 
 /// What a line after the plan says. `None` for a line of another form.

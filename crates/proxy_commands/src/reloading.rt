@@ -1,11 +1,15 @@
 //! A new configuration for a proxy that runs.
 
-ghost use Rattle.std.specs.Prelude.{◌≡◌, ◌++◌, ◌⊎◌, [], codes, IfOk, IfErr};
+ghost use Rattle.std.specs.Prelude.{◌≡◌, ◌++◌, ◌⊎◌, ℕ, List, [], None, Some, codes, IfOk, IfErr, IfNone, IfSome};
 ghost use Rattle.adapt_bytes.specs.Numeral.{numeral};
+ghost use Rattle.proxy_config.specs.Changes.{fixed_rows, IsFirstChange};
 ghost use Rattle.proxy_commands.specs.ServeErrors.{serve_error_text};
-ghost use Rattle.proxy_commands.specs.Reloads.{Answers, IsNotTaken, IsReadFault, IsTaken, said_in};
+ghost use Rattle.proxy_commands.specs.Reloads.{Answers, IsNotTaken, IsReadFault, IsSourceFault, IsTaken, said_in};
+ghost use Rattle.proxy_commands.specs.Sources.{Says};
+ghost use Rattle.proxy_commands.specs.Whole.{IsWhole};
+ghost use Rattle.proxy_commands.specs.declared.whole.WholeFault.TheVariants.{NoMemory as NothingLeft};
 
-use crate::answers::write_number;
+use crate::answers::write_after;
 use crate::checking::has_room;
 use crate::error::Error;
 use crate::serve_error::{ServeError, put_error};
@@ -44,8 +48,8 @@ fn said_of(alloc: Global, error: &ServeError) -> Result<Vec<u8>, NoMemory>
 fn bad_line(alloc: Global, number: u64) -> Result<Vec<u8>, NoMemory>
     ensures { IfOk result (λ text. text.items ≡ codes "bad line " ++ numeral 10 number) }
 {
-    let mut text = b"bad line ".to_vec(alloc)?;
-    write_number(&mut text, number)?;
+    let mut text = Vec::new(alloc);
+    write_after(&mut text, b"bad line ", number)?;
     Ok(text)
 }
 
@@ -101,6 +105,57 @@ fn source_fault(error: &ServeError) -> WholeFault
     }
 }
 
+/// The text of a source, which isn't waited for where it doesn't come at once.
+fn read_anew<R: Files>(rt: &R, alloc: Global, source: &Source) -> Result<Vec<u8>, WholeFault>
+    ensures text { IfOk result (λ text. Says source.now text.items) }
+    ensures fault { IfErr result (IsSourceFault source.now) }
+{
+    if !comes_at_once(rt, source) {
+        return Err(WholeFault::Hosts);
+    }
+    match read_source(rt, alloc, source) {
+        Ok(text) => Ok(text),
+        Err(error) => Err(source_fault(&error)),
+    }
+}
+
+/// The configuration that a source says, with its files, and how many names its hosts file has.
+fn whole_of_source<R: Files>(
+    rt: &R,
+    alloc: Global,
+    source: &Source,
+) -> Result<(Config, u64), WholeFault>
+    ensures ok { IfOk result (λ whole. (text : List ℕ) × Says source.now text × IsWhole text whole.0 whole.1) }
+    ensures err { IfErr result (IsSourceFault source.now) }
+{
+    match read_anew(rt, alloc, source) {
+        Ok(text) => whole_of(rt, alloc, &text),
+        Err(fault) => Err(fault),
+    }
+}
+
+/// What is said where a proxy that runs can't take a configuration over: it has a key that can't change, or needs more memory than the
+/// machine has.
+fn refusal<R: Files + AllocGlobal>(
+    rt: &R,
+    alloc: Global,
+    old: &Config,
+    new: &Config,
+) -> Option<Vec<u8>>
+    ensures none { IfNone result (IsFirstChange fixed_rows old.now new.now None) }
+    ensures some { IfSome result (λ line. (line.items ≡ []) ⊎ Answers NothingLeft line.items
+        ⊎ ((key : List ℕ) × IsFirstChange fixed_rows old.now new.now (Some key) × (line.items ≡ codes "restart " ++ key))) }
+{
+    if let Some(key) = fixed_change(old, new) {
+        return Some(restart_answer(alloc, key));
+    }
+    if has_room(rt, new) {
+        None
+    } else {
+        Some(answer_of(alloc, &WholeFault::NoMemory))
+    }
+}
+
 /// Reads the configuration of a source anew, with its files, for a proxy that runs with another one. Answers it, and how many names
 /// its hosts file has; or what is said of it, without LF, which is empty where no memory was found for that.
 ///
@@ -116,22 +171,15 @@ pub fn reload<R: Files + AllocGlobal>(
     ensures taken { IfOk result (λ taken. IsTaken source.now old.now taken.0 taken.1) }
     ensures not_taken { IfErr result (λ line. IsNotTaken source.now old.now line.items) }
 {
-    if !comes_at_once(rt, source) {
-        return Err(answer_of(alloc, &WholeFault::Hosts));
+    match whole_of_source(rt, alloc, source) {
+        Ok((config, count)) => match refusal(rt, alloc, old, &config) {
+            None => Ok((config, count)),
+            Some(line) => {
+                // Written as a call, the drop is proved once, and not at each place.
+                drop(config);
+                Err(line)
+            }
+        },
+        Err(fault) => Err(answer_of(alloc, &fault)),
     }
-    let text = match read_source(rt, alloc, source) {
-        Ok(text) => text,
-        Err(error) => return Err(answer_of(alloc, &source_fault(&error))),
-    };
-    let (config, count) = match whole_of(rt, alloc, &text) {
-        Ok(whole) => whole,
-        Err(fault) => return Err(answer_of(alloc, &fault)),
-    };
-    if let Some(key) = fixed_change(old, &config) {
-        return Err(restart_answer(alloc, key));
-    }
-    if !has_room(rt, &config) {
-        return Err(answer_of(alloc, &WholeFault::NoMemory));
-    }
-    Ok((config, count))
 }

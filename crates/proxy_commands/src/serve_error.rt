@@ -1,6 +1,6 @@
 //! Why `serve` ends though nobody stopped it.
 
-ghost use Rattle.std.specs.Prelude.{◌≡◌, OnOk};
+ghost use Rattle.std.specs.Prelude.{◌≡◌, ◌++◌, OnOk};
 ghost use Rattle.std.specs.Io.KnownBytes.{Appends};
 ghost use Rattle.proxy_commands.specs.ServeErrors.{line_end, serve_error_text, serve_status_of};
 
@@ -59,6 +59,15 @@ fn line_end(number: u64) -> Small
     text
 }
 
+/// Writes a name between words.
+fn put_named<W: Write>(out: &mut W, before: &[u8], name: &[u8], after: &[u8]) -> io::Result<()>
+    ensures { OnOk result (Appends (W.contents out.old) (W.contents out.new) ((before.now ++ name.now) ++ after.now)) }
+{
+    out.write_all(before)?;
+    out.write_all(name)?;
+    out.write_all(after)
+}
+
 /// Writes the line for standard error: `adaptproxy: `, the reason and LF.
 pub fn put_error<W: Write>(error: &ServeError, errors: &mut W) -> io::Result<()>
     ensures { OnOk result (Appends (W.contents errors.old) (W.contents errors.new) (serve_error_text error.now)) }
@@ -66,26 +75,26 @@ pub fn put_error<W: Write>(error: &ServeError, errors: &mut W) -> io::Result<()>
     match error {
         ServeError::Ended(error) => errors.write_all(error.text().as_slice()),
         ServeError::Config => errors.write_all(b"adaptproxy: config\n"),
-        ServeError::Key(key) => {
-            errors.write_all(b"adaptproxy: config ")?;
-            errors.write_all(key.as_bytes())?;
-            errors.write_all(b"\n")
-        }
+        ServeError::Key(key) => put_named(errors, b"adaptproxy: config ", key.as_bytes(), b"\n"),
         ServeError::KeyLine(key, number) => {
-            errors.write_all(b"adaptproxy: config ")?;
-            errors.write_all(key.as_bytes())?;
-            errors.write_all(line_end(*number).as_slice())
+            put_named(
+                errors,
+                b"adaptproxy: config ",
+                key.as_bytes(),
+                line_end(*number).as_slice(),
+            )
         }
         ServeError::CannotRead(path) => {
-            errors.write_all(b"adaptproxy: cannot read: ")?;
-            errors.write_all(path.as_bytes())?;
-            errors.write_all(b"\n")
+            put_named(errors, b"adaptproxy: cannot read: ", path.as_bytes(), b"\n")
         }
         ServeError::CannotListen => errors.write_all(b"adaptproxy: cannot listen\n"),
         ServeError::CannotListenOn(address) => {
-            errors.write_all(b"adaptproxy: cannot listen: ")?;
-            errors.write_all(address.as_bytes())?;
-            errors.write_all(b"\n")
+            put_named(
+                errors,
+                b"adaptproxy: cannot listen: ",
+                address.as_bytes(),
+                b"\n",
+            )
         }
         ServeError::NoAnswer => errors.write_all(b"adaptproxy: no answer\n"),
         ServeError::AuditMissing => errors.write_all(b"adaptproxy: audit missing\n"),

@@ -44,18 +44,12 @@ fn task_of(word: &str) -> Option<Task>
     ensures found { IfSome result (IsTaskAlone word.now) }
     ensures none { IfNone result ((task : AnyTask) → IsTaskAlone word.now task → ⊥) }
 {
-    if word == "serve" {
-        Some(Task::Serve)
-    } else if word == "check" {
-        Some(Task::Check)
-    } else if word == "probe" {
-        Some(Task::Probe)
-    } else if word == "--help" {
+    if word == "--help" {
         Some(Task::Help)
     } else if word == "--version" {
         Some(Task::Version)
     } else {
-        None
+        task_with_path(word)
     }
 }
 

@@ -1,15 +1,15 @@
 //! A configuration with the files that it names: its hosts file, and the pages of its refusals.
 
-ghost use Rattle.std.specs.Prelude.{◌≡◌, ℕ, ◌⊎◌, IfOk, IfErr, OnOk};
+ghost use Rattle.std.specs.Prelude.{◌≡◌, ◌<◌, ◌^◌, ℕ, ◌⊎◌, IfOk, IfErr, OnOk};
 ghost use Rattle.proxy_commands.specs.Whole.{EndsAs, HasFiles, HasNames, HasPages, IsHostsFault, IsOfKey, IsPageFault, IsRefused, IsWhole, IsWholeFault, Lacks};
-ghost use Rattle.proxy_commands.specs.declared.whole.WholeFault.TheVariants.{Hosts as NoFile, NoMemory as NothingLeft, Page as NoPage};
+ghost use Rattle.proxy_commands.specs.declared.whole.WholeFault.TheVariants.{NoMemory as NothingLeft};
 
 use crate::error::Error;
 use crate::serve::configuration_of;
 use crate::serve_error::ServeError;
 use crate::source::open_regular;
 use proxy_config::{Config, HostsFault, MAX_PAGE, OWN_STATUSES, Pages};
-use std::alloc::{AllocError, Global};
+use std::alloc::Global;
 use std::io::{self, ErrorKind, Read};
 use std::rt::Files;
 
@@ -31,14 +31,6 @@ pub(crate) enum WholeFault {
     NoMemory,
 }
 
-impl From<AllocError> for WholeFault {
-    ghost from_gives = { λ _ fault. fault ≡ NothingLeft };
-
-    fn from(_: AllocError) -> WholeFault {
-        WholeFault::NoMemory
-    }
-}
-
 /// The fault of a file that can't be read: the one that is given, unless memory ran out.
 fn file_fault(error: &io::Error, other: WholeFault) -> WholeFault
     ensures { (result ≡ other) ⊎ (result ≡ NothingLeft) }
@@ -50,20 +42,21 @@ fn file_fault(error: &io::Error, other: WholeFault) -> WholeFault
     }
 }
 
-/// Reads the text of a hosts file.
-fn read_hosts_file<R: Files>(rt: &R, alloc: Global, path: &str) -> Result<Vec<u8>, WholeFault>
-    ensures { IfErr result (λ fault. (fault ≡ NoFile) ⊎ (fault ≡ NothingLeft)) }
+/// Reads a file of at most so many bytes. `InvalidData` for a longer one.
+fn read_short<F: Read + Drop>(alloc: Global, file: F, most: usize) -> io::Result<Vec<u8>>
+    requires { most < 2 ^ 32 }
 {
-    let file = match open_regular(rt, path) {
-        Ok(file) => file,
-        Err(error) => return Err(file_fault(&error, WholeFault::Hosts)),
-    };
     let mut text = Vec::new(alloc);
-    match file.take(MAX_HOSTS_FILE as u64 + 1).read_to_end(&mut text) {
-        Ok(_) if text.len() <= MAX_HOSTS_FILE => Ok(text),
-        Ok(_) => Err(WholeFault::Hosts),
-        Err(error) => Err(file_fault(&error, WholeFault::Hosts)),
+    file.take(most as u64 + 1).read_to_end(&mut text)?;
+    if text.len() > most {
+        return Err(io::Error::from(ErrorKind::InvalidData));
     }
+    Ok(text)
+}
+
+/// Reads the text of a hosts file.
+fn read_hosts_file<R: Files>(rt: &R, alloc: Global, path: &str) -> io::Result<Vec<u8>> {
+    read_short(alloc, open_regular(rt, path)?, MAX_HOSTS_FILE)
 }
 
 /// Reads the hosts file, where there is one, and answers how many names it has.
@@ -74,7 +67,10 @@ fn take_hosts<R: Files>(rt: &R, alloc: Global, config: &mut Config) -> Result<u6
     let Some(path) = &config.hosts_file else {
         return Ok(0);
     };
-    let text = read_hosts_file(rt, alloc, path.as_str())?;
+    let text = match read_hosts_file(rt, alloc, path.as_str()) {
+        Ok(text) => text,
+        Err(error) => return Err(file_fault(&error, WholeFault::Hosts)),
+    };
     match config.name_hosts(alloc, &text) {
         Ok(count) => Ok(count),
         Err(HostsFault::Line(number)) => Err(WholeFault::HostsLine(number)),
@@ -88,34 +84,23 @@ fn read_page<R: Files>(
     alloc: Global,
     folder: &str,
     status: u16,
-) -> Result<Option<Vec<u8>>, WholeFault>
-    ensures { IfErr result (λ fault. (fault ≡ NoPage) ⊎ (fault ≡ NothingLeft)) }
-{
+) -> io::Result<Option<Vec<u8>>> {
     let path = format!(in alloc; "{folder}/{status}.html")?;
-    let file = match open_regular(rt, path.as_str()) {
-        Ok(file) => file,
-        Err(error) if error.kind() == ErrorKind::NotFound => return Ok(None),
-        Err(error) => return Err(file_fault(&error, WholeFault::Page)),
-    };
-    let mut page = Vec::new(alloc);
-    match file.take(MAX_PAGE as u64 + 1).read_to_end(&mut page) {
-        Ok(_) if page.len() <= MAX_PAGE => Ok(Some(page)),
-        Ok(_) => Err(WholeFault::Page),
-        Err(error) => Err(file_fault(&error, WholeFault::Page)),
+    match open_regular(rt, path.as_str()) {
+        Ok(file) => Ok(Some(read_short(alloc, file, MAX_PAGE)?)),
+        Err(error) if error.kind() == ErrorKind::NotFound => Ok(None),
+        Err(error) => Err(error),
     }
 }
 
-/// Reads the pages of a folder.
-fn read_pages<R: Files>(rt: &R, alloc: Global, folder: &str) -> Result<Pages, WholeFault>
-    ensures { IfErr result (λ fault. (fault ≡ NoPage) ⊎ (fault ≡ NothingLeft)) }
-{
-    let mut pages = Pages::new();
+/// Reads the pages of a folder, each in the place of the one of its status.
+fn read_pages<R: Files>(rt: &R, alloc: Global, folder: &str, pages: &mut Pages) -> io::Result<()> {
     for status in OWN_STATUSES {
         if let Some(page) = read_page(rt, alloc, folder, status)? {
             pages.set(status, page);
         }
     }
-    Ok(pages)
+    Ok(())
 }
 
 /// Reads the pages of refusals, where there are some.
@@ -126,9 +111,10 @@ fn take_pages<R: Files>(rt: &R, alloc: Global, config: &mut Config) -> Result<()
     let Some(folder) = &config.refusal_pages else {
         return Ok(());
     };
-    let pages = read_pages(rt, alloc, folder.as_str())?;
-    config.pages = pages;
-    Ok(())
+    match read_pages(rt, alloc, folder.as_str(), &mut config.pages) {
+        Ok(()) => Ok(()),
+        Err(error) => Err(file_fault(&error, WholeFault::Page)),
+    }
 }
 
 /// Reads the files that a configuration names, and answers how many names its hosts file has.
@@ -141,8 +127,26 @@ fn take_files<R: Files>(rt: &R, alloc: Global, config: &mut Config) -> Result<u6
     Ok(count)
 }
 
+/// A configuration with the files that it names, and how many names its hosts file has.
+fn with_files<R: Files>(
+    rt: &R,
+    alloc: Global,
+    mut config: Config,
+) -> Result<(Config, u64), WholeFault>
+    ensures ok { IfOk result (λ whole. HasFiles config whole.0 whole.1) }
+    ensures err { IfErr result (Lacks config) }
+{
+    match take_files(rt, alloc, &mut config) {
+        Ok(count) => Ok((config, count)),
+        Err(fault) => {
+            // Written as a call, the drop is proved once, and not at each place.
+            drop(config);
+            Err(fault)
+        }
+    }
+}
+
 /// The configuration that a text says, with the files that it names, and how many names its hosts file has.
-#[tactic(auto, using(crate::proofs::WholeForms::lacks_file))]
 pub(crate) fn whole_of<R: Files>(
     rt: &R,
     alloc: Global,
@@ -151,13 +155,9 @@ pub(crate) fn whole_of<R: Files>(
     ensures ok { IfOk result (λ whole. IsWhole text.now whole.0 whole.1) }
     ensures err { IfErr result (IsWholeFault text.now) }
 {
-    let mut config = match configuration_of(alloc, text) {
-        Ok(config) => config,
-        Err(error) => return Err(WholeFault::Refused(error)),
-    };
-    match take_files(rt, alloc, &mut config) {
-        Ok(count) => Ok((config, count)),
-        Err(fault) => Err(fault),
+    match configuration_of(alloc, text) {
+        Ok(config) => with_files(rt, alloc, config),
+        Err(error) => Err(WholeFault::Refused(error)),
     }
 }
 
