@@ -2,26 +2,24 @@
 
 use crate::bench::Bench;
 use crate::finding::{Fault, Finding, ProbeOutcome};
-use crate::lane::{Lane, connection_of};
 use crate::line::{ProbeLine, ProbedConnection};
-use crate::prepared::{Prepared, prepare};
-use crate::samples::Trial;
-use crate::stage::{TransactionRemains, end, judged, move_on, set_out};
+use crate::prepared::Prepared;
+use crate::stage::{BankedCourse, ProbeCourse, TransactionRemains, end, move_on, set_out};
 use crate::tap::Tap;
-use crate::text_stream::{TextWire, wire_of};
+use crate::text_stream::TextWire;
 use crate::verdict::left_over;
 use adapt_sides::Scratch;
 use plan_rules::Pace;
-use proxy_config::ServicePoint;
-use proxy_rules::{Incoming, Offer, Running, Way, Wires, limits_of};
-use socket_wire::{Dial, ServiceWire, Unread};
+use proxy_config::Config;
+use proxy_rules::{Incoming, Offer, Way, Wires, limits_of};
+use socket_wire::{ServiceWire, Unread};
 use span_bank::Ledgers;
-use std::alloc::{AllocError, Global};
+use std::alloc::Global;
 use std::boxed::Box;
 use std::io;
-use std::net::Net;
 use std::sync::Wait;
 use std::time::{Clock, Instant};
+use wire_kit::Wire;
 
 /// The wires of a message: from its source over the service to where it goes.
 type Ways = (TextWire, Tap<ServiceWire>, TextWire);
@@ -60,46 +58,74 @@ pub fn micros_since<R: Clock>(rt: &R, start: Instant) -> u64 {
     }
 }
 
-/// Runs a transaction to its end, or until the clock or the poll fails.
-fn play<B: Ledgers, R: Wait + Clock, W: Wires>(
-    bench: &Bench<'_, B, R>,
-    running: &mut Running<B, W>,
-    scratch: &mut Scratch,
+/// The pace of a message's transaction, which begins at 0 seconds.
+fn pace_of(config: &Config) -> Pace {
+    Pace::new(config.deadline.saturating_add(1), 0, false)
+}
+
+/// Runs a transaction to its end, or until the clock or the poll fails. How many microseconds passed since a start.
+fn play<R: Clock, T: ProbeCourse>(
+    rt: &R,
+    course: &mut T,
     line: &mut ProbeLine,
     start: Instant,
-) -> io::Result<()> {
+) -> io::Result<u64> {
     for _ in 0..u64::MAX {
-        let now = start.elapsed(bench.rt)?.as_secs();
-        if move_on(bench.rt, bench.bank, running, scratch, now) {
+        let now = start.elapsed(rt)?.as_secs();
+        if move_on(course, now) {
             break;
         }
         line.wait()?;
     }
-    Ok(())
+    Ok(micros_since(rt, start))
 }
 
-/// Runs the transaction of a message to its end. What is left of it, and how many microseconds it took; `None` where this machine failed it.
-fn run<B: Ledgers, R: Wait + Clock, W: Wires<ServiceWire = Tap<ServiceWire>>>(
+/// Runs a transaction to its end. What is left of it, and how many microseconds it took; `None` where this machine failed it.
+fn finish<B: Ledgers, R: Wait + Clock, W: Wires<ServiceWire = Tap<C>>, C: Wire + Drop>(
+    alloc: Global,
+    course: BankedCourse<'_, B, W, R>,
+    line: &mut ProbeLine,
+    start: Instant,
+) -> io::Result<Option<(TransactionRemains<C>, u64)>> {
+    let mut course = course;
+    let played = play(course.rt, &mut course, line, start);
+    match (played, end(alloc, course)?) {
+        (Ok(micros), Some(left)) => Ok(Some((left, micros))),
+        _ => Ok(None),
+    }
+}
+
+/// Runs the transaction of a message to its end, as [`finish`] does. `None` where it can't begin, too.
+fn run<B: Ledgers, R: Wait + Clock, W: Wires<ServiceWire = Tap<C>>, C: Wire + Drop>(
     bench: &Bench<'_, B, R>,
     offer: Box<Offer>,
     message: Box<Incoming>,
     way: Way<W>,
     scratch: &mut Scratch,
     line: &mut ProbeLine,
-) -> io::Result<Option<(TransactionRemains<ServiceWire>, u64)>> {
-    let (rt, alloc, bank) = (bench.rt, bench.alloc, bench.bank);
-    let start = Instant::now(rt)?;
-    let pace = Pace::new(bench.config.deadline.saturating_add(1), 0, false);
-    let limits = limits_of(bench.config);
-    let Some(running) = set_out(rt, alloc, bank, offer, message, way, limits, pace) else {
-        return Ok(None);
-    };
-    let mut running = running;
-    let played = play(bench, &mut running, scratch, line, start);
-    let micros = micros_since(rt, start);
-    match (played, judged(alloc, end(rt, bank, running))?) {
-        (Ok(()), Some(left)) => Ok(Some((left, micros))),
-        _ => Ok(None),
+) -> io::Result<Option<(TransactionRemains<C>, u64)>> {
+    let start = Instant::now(bench.rt)?;
+    let (limits, pace) = (limits_of(bench.config), pace_of(bench.config));
+    match set_out(
+        bench.rt,
+        bench.alloc,
+        bench.bank,
+        offer,
+        message,
+        way,
+        limits,
+        pace,
+    ) {
+        Some(running) => {
+            let course = BankedCourse {
+                rt: bench.rt,
+                bank: bench.bank,
+                scratch,
+                running,
+            };
+            finish(bench.alloc, course, line, start)
+        }
+        None => Ok(None),
     }
 }
 
@@ -129,20 +155,10 @@ fn conclude(
     }
 }
 
-/// The way of a message from its source over a connection.
-fn way_of(alloc: Global, source: TextWire, tap: Tap<ServiceWire>) -> Result<Way<Ways>, AllocError> {
-    Ok(Way {
-        source,
-        service: Some(tap),
-        next: wire_of(alloc, Vec::new(alloc))?,
-    })
-}
-
 /// Sends a message over a connection.
-fn send<B: Ledgers, R: Wait + Clock>(
+pub fn send<B: Ledgers, R: Wait + Clock>(
     bench: &Bench<'_, B, R>,
-    prepared: Prepared,
-    scratch: &mut Scratch,
+    prepared: Box<Prepared>,
     connection: &mut ProbedConnection,
 ) -> io::Result<ProbeAttempt> {
     let alloc = bench.alloc;
@@ -154,33 +170,23 @@ fn send<B: Ledgers, R: Wait + Clock>(
         offer,
         message,
         source,
-    } = prepared;
-    let way = way_of(alloc, source, tap)?;
-    match run(bench, offer, message, way, scratch, &mut connection.line)? {
+        next,
+        mut scratch,
+    } = Box::into_inner(prepared);
+    let way: Way<Ways> = Way {
+        source,
+        service: Some(tap),
+        next,
+    };
+    match run(
+        bench,
+        offer,
+        message,
+        way,
+        &mut scratch,
+        &mut connection.line,
+    )? {
         Some((left, micros)) => Ok(conclude(alloc, left, micros, connection)),
         None => Ok(failed(alloc, Fault::System)),
     }
-}
-
-/// Tries a service with a sample, over the connection that is kept or over a fresh one, which is kept where it may carry another request.
-pub fn try_sample<B: Ledgers, R: Wait + Net + Dial + Clock>(
-    bench: &Bench<'_, B, R>,
-    service: &ServicePoint,
-    trial: &Trial,
-    lane: &mut Lane,
-) -> io::Result<ProbeAttempt> {
-    let alloc = bench.alloc;
-    let mut scratch = Scratch::new(alloc)?;
-    let Some(prepared) = prepare(alloc, service, trial, &mut scratch.wire)? else {
-        return Ok(failed(alloc, Fault::System));
-    };
-    let Some(connection) = connection_of(bench, service, lane.take()) else {
-        return Ok(failed(alloc, Fault::Refused));
-    };
-    let mut connection = connection;
-    let attempt = send(bench, prepared, &mut scratch, &mut connection)?;
-    if attempt.serves {
-        lane.keep(connection);
-    }
-    Ok(attempt)
 }

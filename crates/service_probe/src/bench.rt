@@ -5,12 +5,12 @@ ghost use Rattle.std.specs.Option.{ForSome};
 ghost use Rattle.adapt_bytes.specs.declared.limits.TheConstants.{MAX_PREVIEW};
 ghost use Rattle.service_probe.specs.ProbeOutcome.{counted_text, tally_text};
 
-use crate::attempt::{ProbeAttempt, try_sample};
+use crate::attempt::ProbeAttempt;
 use crate::choice::SampleChoice;
-use crate::lane::Lane;
-use crate::options::{OptionsAnswer, ask};
+use crate::options::OptionsAnswer;
 use crate::report::{ConnectionUse, put_attempt, put_spread};
 use crate::samples::{SAMPLES, Sample, Trial};
+use crate::service::{BenchedService, ProbedService};
 use crate::text::put_number;
 use plan_rules::Limits;
 use proxy_config::{Config, ServicePoint};
@@ -80,16 +80,15 @@ fn put_tally(out: &mut Vec<u8>, all: u64, broken: u64) -> Result<(), AllocError>
     put_counted(out, broken, b" broke a rule\n")
 }
 
-/// A service of a point, and the size of the previews that it wants, if it wants some.
+/// What a service is tried with: the messages of a point, for previews of the size that it wants, if it wants some.
 #[derive(Clone, Copy)]
-struct Target<'a> {
-    service: &'a ServicePoint,
+struct Target {
     point: Point,
     preview: Option<u64>,
     ghost small: { ForSome preview (λ most. most ≤ MAX_PREVIEW) },
 }
 
-impl Target<'_> {
+impl Target {
     /// A sample's message for this service. `None` where it has none.
     fn trial(&self, sample: Sample) -> Option<Trial> {
         let most = match self.preview {
@@ -113,6 +112,15 @@ fn preview_of(wanted: Option<u64>, limits: &Limits) -> Option<u64>
         Some(size) => Some(size.min(limits.preview_limit)),
         None => None,
     }
+}
+
+/// What a service is tried with by what it said of its options. `None` where it doesn't serve.
+fn target_of(point: Point, told: &OptionsAnswer, limits: &Limits) -> Option<Target> {
+    let said = told.said.as_ref()?;
+    Some(Target {
+        point,
+        preview: preview_of(said.preview, limits),
+    })
 }
 
 /// Prints the line of an attempt.
@@ -145,42 +153,59 @@ fn print_spread<O: Write>(alloc: Global, times: &mut [u64], output: &mut O) -> i
     output.write_all(&line)
 }
 
-/// Tries a service with a sample as often as is chosen over connections of one kind, and prints a line of the first answer and of each
-/// other one that broke a rule.
-fn try_over<B: Ledgers, R: Wait + Net + Dial + Clock, O: Write>(
-    bench: &Bench<'_, B, R>,
-    service: &ServicePoint,
+/// Tries a service with a sample once more, and prints a line of the first answer and of each other one that broke a rule.
+fn try_once<S: ProbedService, O: Write>(
+    alloc: Global,
+    service: &mut S,
     trial: &Trial,
-    lane: &mut Lane,
+    way: ConnectionUse,
+    tally: &mut Tally,
+    times: &mut Vec<u64>,
+    output: &mut O,
+) -> io::Result<()> {
+    let attempt = service.try_sample(trial, way)?;
+    let is_told = times.is_empty() || !attempt.came.is_good();
+    tally.count(&attempt);
+    times.push(attempt.micros)?;
+    if is_told {
+        print_attempt(alloc, way, trial, &attempt, output)?;
+    }
+    Ok(())
+}
+
+/// Tries a service with a sample so many times over connections of one kind, and prints the spread of the times.
+fn try_over<S: ProbedService, O: Write>(
+    alloc: Global,
+    count: u64,
+    service: &mut S,
+    trial: &Trial,
+    way: ConnectionUse,
     tally: &mut Tally,
     output: &mut O,
 ) -> io::Result<()> {
-    let mut times = Vec::new(bench.alloc);
-    for number in 0..bench.choice.count {
-        let attempt = try_sample(bench, service, trial, lane)?;
-        tally.count(&attempt);
-        times.push(attempt.micros)?;
-        if number == 0 || !attempt.came.is_good() {
-            print_attempt(bench.alloc, lane.way(), trial, &attempt, output)?;
-        }
+    let mut times = Vec::new(alloc);
+    for _ in 0..count {
+        try_once(alloc, service, trial, way, tally, &mut times, output)?;
     }
-    print_spread(bench.alloc, &mut times, output)?;
+    print_spread(alloc, &mut times, output)?;
     output.flush()
 }
 
 /// Tries a service with all samples that are chosen, over connections of one kind.
-fn try_samples<B: Ledgers, R: Wait + Net + Dial + Clock, O: Write>(
-    bench: &Bench<'_, B, R>,
-    target: &Target<'_>,
-    lane: &mut Lane,
+fn try_samples<S: ProbedService, O: Write>(
+    alloc: Global,
+    choice: SampleChoice,
+    service: &mut S,
+    target: Target,
+    way: ConnectionUse,
     tally: &mut Tally,
     output: &mut O,
 ) -> io::Result<()> {
     for sample in SAMPLES.iter() {
-        if bench.choice.has(*sample)
+        if choice.has(*sample)
             && let Some(trial) = target.trial(*sample)
         {
-            try_over(bench, target.service, &trial, lane, tally, output)?;
+            try_over(alloc, choice.count, service, &trial, way, tally, output)?;
         }
     }
     Ok(())
@@ -197,6 +222,19 @@ fn put_service(out: &mut Vec<u8>, point: Point, place: &str, path: &str) -> Resu
     out.extend_from_slice(b"\n")
 }
 
+/// Adds the line of a service, and that of what came of asking for its options.
+fn put_told(
+    out: &mut Vec<u8>,
+    alloc: Global,
+    service: &ServicePoint,
+    point: Point,
+    attempt: &ProbeAttempt,
+) -> Result<(), AllocError> {
+    let place = format!(in alloc; "{}", service.address)?;
+    put_service(out, point, place.as_str(), service.path.as_str())?;
+    put_attempt(out, ConnectionUse::Fresh, b"options", None, attempt)
+}
+
 /// Prints a service, what came of asking for its options, and what they say.
 fn print_told<O: Write>(
     alloc: Global,
@@ -206,15 +244,7 @@ fn print_told<O: Write>(
     output: &mut O,
 ) -> io::Result<()> {
     let mut text = Vec::new(alloc);
-    let place = format!(in alloc; "{}", service.address)?;
-    put_service(&mut text, point, place.as_str(), service.path.as_str())?;
-    put_attempt(
-        &mut text,
-        ConnectionUse::Fresh,
-        b"options",
-        None,
-        &told.attempt,
-    )?;
+    put_told(&mut text, alloc, service, point, &told.attempt)?;
     output.write_all(&text)?;
     if let Some(said) = &told.said {
         output.write_all(&said.words)?;
@@ -222,31 +252,37 @@ fn print_told<O: Write>(
     output.flush()
 }
 
-/// Tries the service of a point.
-fn try_service<B: Ledgers, R: Wait + Net + Dial + Clock, O: Write>(
-    bench: &Bench<'_, B, R>,
-    service: &ServicePoint,
-    point: Point,
+/// Tries a service: its options, and then all samples that are chosen, over one connection and over a fresh one for each.
+fn try_service<S: ProbedService, O: Write>(
+    alloc: Global,
+    choice: SampleChoice,
+    limits: &Limits,
+    service: &mut S,
     tally: &mut Tally,
     output: &mut O,
 ) -> io::Result<()> {
-    let mut lane = Lane::new(ConnectionUse::Kept);
-    let told = ask(bench, service, point, &mut lane)?;
+    let told = service.ask()?;
     tally.count(&told.attempt);
-    print_told(bench.alloc, service, point, &told, output)?;
-    let Some(said) = &told.said else {
+    let (place, point) = service.place();
+    print_told(alloc, place, point, &told, output)?;
+    let Some(target) = target_of(point, &told, limits) else {
         return Ok(());
     };
-    let target = Target {
-        service,
-        point,
-        preview: preview_of(said.preview, &limits_of(bench.config)),
-    };
-    try_samples(bench, &target, &mut lane, tally, output)?;
     try_samples(
-        bench,
-        &target,
-        &mut Lane::new(ConnectionUse::Fresh),
+        alloc,
+        choice,
+        service,
+        target,
+        ConnectionUse::Kept,
+        tally,
+        output,
+    )?;
+    try_samples(
+        alloc,
+        choice,
+        service,
+        target,
+        ConnectionUse::Fresh,
         tally,
         output,
     )
@@ -255,15 +291,38 @@ fn try_service<B: Ledgers, R: Wait + Net + Dial + Clock, O: Write>(
 /// Tries the service of a point, if there is one.
 fn try_point<B: Ledgers, R: Wait + Net + Dial + Clock, O: Write>(
     bench: &Bench<'_, B, R>,
-    service: &Option<ServicePoint>,
+    place: &Option<ServicePoint>,
     point: Point,
     tally: &mut Tally,
     output: &mut O,
 ) -> io::Result<()> {
-    match service {
-        Some(service) => try_service(bench, service, point, tally, output),
-        None => Ok(()),
-    }
+    let Some(place) = place else {
+        return Ok(());
+    };
+    let mut service = BenchedService {
+        bench,
+        service: place,
+        point,
+        kept: None,
+    };
+    let limits = limits_of(bench.config);
+    try_service(
+        bench.alloc,
+        bench.choice,
+        &limits,
+        &mut service,
+        tally,
+        output,
+    )
+}
+
+/// Prints the last line. Whether answers came, and all of them were by the rules.
+fn print_tally<O: Write>(alloc: Global, tally: Tally, output: &mut O) -> io::Result<bool> {
+    let mut line = Vec::new(alloc);
+    put_tally(&mut line, tally.all, tally.broken)?;
+    output.write_all(&line)?;
+    output.flush()?;
+    Ok(tally.is_good())
 }
 
 /// Tries each configured service, and prints what came. Whether answers came, and all of them were by the rules.
@@ -277,9 +336,5 @@ pub fn probe<B: Ledgers, R: Wait + Net + Dial + Clock, O: Write>(
     let config = bench.config;
     try_point(bench, &config.reqmod, Point::Reqmod, &mut tally, output)?;
     try_point(bench, &config.respmod, Point::Respmod, &mut tally, output)?;
-    let mut line = Vec::new(bench.alloc);
-    put_tally(&mut line, tally.all, tally.broken)?;
-    output.write_all(&line)?;
-    output.flush()?;
-    Ok(tally.is_good())
+    print_tally(bench.alloc, tally, output)
 }

@@ -2,6 +2,7 @@
 
 use crate::tap::Tap;
 use mio::{Events, Poll, Token};
+use proxy_config::Config;
 use socket_wire::{Dial, Readiness, Service, ServiceWire, SocketWire, Unread};
 use std::alloc::Global;
 use std::boxed::Box;
@@ -37,6 +38,21 @@ impl ProbeLine {
         self.wait_for(Duration::from_millis(PAUSE))
     }
 
+    /// Waits for news of the connection, for a while. False where so many seconds have passed since a moment: then it doesn't wait.
+    pub fn wait_within<R: Clock>(
+        &mut self,
+        rt: &R,
+        since: Instant,
+        seconds: u64,
+    ) -> io::Result<bool> {
+        if since.elapsed(rt)?.as_secs() >= seconds {
+            return Ok(false);
+        }
+        self.wait()?;
+        Ok(true)
+    }
+
+    /// Waits for news of the connection for so long, and notes them.
     fn wait_for(&mut self, most: Duration) -> io::Result<()> {
         match self.poll.poll(&mut self.events, Some(most)) {
             Ok(()) => {}
@@ -63,10 +79,9 @@ impl ProbeLine {
             if !self.ready.is_on_its_way() {
                 return Ok(());
             }
-            if start.elapsed(rt)?.as_secs() >= seconds {
+            if !self.wait_within(rt, start, seconds)? {
                 break;
             }
-            self.wait()?;
         }
         Err(io::Error::from(ErrorKind::TimedOut))
     }
@@ -135,4 +150,28 @@ pub fn connect<R: Net + Dial + Clock>(
         Ok(connection) => Box::new(alloc, connection).ok(),
         Err(_) => None,
     }
+}
+
+/// How many seconds a connection may be on its way.
+pub fn connect_seconds(config: &Config) -> u64 {
+    match config.connect_deadline {
+        0 => config.deadline,
+        seconds => seconds,
+    }
+}
+
+/// The connection to use: the one that is kept, where nothing came on it since, or a fresh one.
+pub fn connection_of<R: Net + Dial + Clock>(
+    rt: &R,
+    alloc: Global,
+    address: SocketAddrV4,
+    seconds: u64,
+    kept: Option<Box<ProbedConnection>>,
+) -> Option<Box<ProbedConnection>> {
+    if let Some(mut kept) = kept
+        && kept.is_quiet()
+    {
+        return Some(kept);
+    }
+    connect(rt, alloc, address, seconds)
 }

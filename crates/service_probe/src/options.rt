@@ -1,11 +1,9 @@
 //! A service's options: asked for, and said in words (RFC 3507, section 4.10).
 
 use crate::attempt::{ProbeAttempt, failed, micros_since};
-use crate::bench::Bench;
 use crate::excerpt::{find, find_in_options};
 use crate::finding::{Fault, Finding, ProbeOutcome};
-use crate::lane::{Lane, connection_of};
-use crate::line::{ProbeLine, ProbedConnection};
+use crate::line::{ProbeLine, ProbedConnection, connect, connect_seconds};
 use crate::tap::Tap;
 use crate::text::put_value;
 use adapt_bytes::has_item;
@@ -13,11 +11,11 @@ use adapt_sides::{Scratch, WIRE_ROOM};
 use icap_client::OptionsSide;
 use icap_head::{Fields, IcapResponse};
 use options_book::{Record, read_record};
-use proxy_config::ServicePoint;
+use proxy_config::{Config, ServicePoint};
 use proxy_rules::{ask_options, is_reusable_after_options};
 use socket_wire::{Dial, ServiceWire};
-use span_bank::Ledgers;
 use std::alloc::{AllocError, Global};
+use std::boxed::Box;
 use std::io;
 use std::net::Net;
 use std::time::{Clock, Instant};
@@ -83,12 +81,8 @@ fn hear<R: Clock>(
             Ok(Some(answer)) => return Ok(OptionsReply::Answer(answer)),
             Err(fault) => return Ok(OptionsReply::Fault(Fault::of_side(fault))),
             Ok(None) if tap.counts() != before => moved = Instant::now(rt)?,
-            Ok(None) => {
-                if moved.elapsed(rt)?.as_secs() >= seconds {
-                    break;
-                }
-                line.wait()?;
-            }
+            Ok(None) if line.wait_within(rt, moved, seconds)? => {}
+            Ok(None) => break,
         }
     }
     Ok(OptionsReply::Fault(Fault::Deadline))
@@ -153,49 +147,59 @@ fn told_of(judged: Judged, micros: u64) -> OptionsAnswer {
     }
 }
 
-/// Asks a service for its options over a connection.
-fn ask_over<B: Ledgers, R: Clock>(
-    bench: &Bench<'_, B, R>,
-    service: &ServicePoint,
+/// Asks for the options of a point over a wire, and judges what comes.
+fn answer_over<R: Clock>(
+    rt: &R,
+    alloc: Global,
     point: Point,
-    connection: &mut ProbedConnection,
+    side: &mut OptionsSide,
+    tap: &mut Tap<ServiceWire>,
+    line: &mut ProbeLine,
+    seconds: u64,
 ) -> io::Result<OptionsAnswer> {
-    let (rt, alloc) = (bench.rt, bench.alloc);
-    let mut side = ask_options(alloc, service)?;
     let mut scratch = Scratch::new(alloc)?;
-    let Some(tap) = &mut connection.wire else {
-        return Ok(untold(failed(alloc, Fault::System)));
-    };
     let start = Instant::now(rt)?;
-    let heard = hear(
-        rt,
-        &mut side,
-        tap,
-        &mut scratch.wire,
-        &mut connection.line,
-        bench.config.deadline,
-    );
+    let heard = hear(rt, side, tap, &mut scratch.wire, line, seconds);
     let micros = micros_since(rt, start);
     match heard {
-        Ok(heard) => Ok(told_of(judge(alloc, heard, point, &side, tap)?, micros)),
+        Ok(heard) => Ok(told_of(judge(alloc, heard, point, side, tap)?, micros)),
         Err(_) => Ok(untold(failed(alloc, Fault::System))),
     }
 }
 
-/// Asks a service for its options over a fresh connection, which is kept where it may carry another request.
-pub fn ask<B: Ledgers, R: Net + Dial + Clock>(
-    bench: &Bench<'_, B, R>,
+/// Asks a service for its options over a connection.
+fn ask_over<R: Clock>(
+    rt: &R,
+    alloc: Global,
     service: &ServicePoint,
     point: Point,
-    lane: &mut Lane,
+    connection: &mut ProbedConnection,
+    seconds: u64,
 ) -> io::Result<OptionsAnswer> {
-    let Some(connection) = connection_of(bench, service, None) else {
-        return Ok(untold(failed(bench.alloc, Fault::Refused)));
+    let mut side = ask_options(alloc, service)?;
+    let ProbedConnection { line, wire } = connection;
+    match wire {
+        Some(tap) => answer_over(rt, alloc, point, &mut side, tap, line, seconds),
+        None => Ok(untold(failed(alloc, Fault::System))),
+    }
+}
+
+/// Asks a service for its options over a fresh connection, which is kept where it may carry another request.
+pub fn ask<R: Net + Dial + Clock>(
+    rt: &R,
+    alloc: Global,
+    config: &Config,
+    service: &ServicePoint,
+    point: Point,
+    kept: &mut Option<Box<ProbedConnection>>,
+) -> io::Result<OptionsAnswer> {
+    let Some(connection) = connect(rt, alloc, service.address, connect_seconds(config)) else {
+        return Ok(untold(failed(alloc, Fault::Refused)));
     };
     let mut connection = connection;
-    let told = ask_over(bench, service, point, &mut connection)?;
+    let told = ask_over(rt, alloc, service, point, &mut connection, config.deadline)?;
     if told.attempt.serves {
-        lane.keep(connection);
+        *kept = Some(connection);
     }
     Ok(told)
 }

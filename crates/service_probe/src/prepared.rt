@@ -3,7 +3,7 @@
 use crate::message::{REQUEST, message_of};
 use crate::samples::Trial;
 use crate::text_stream::{TextWire, wire_of};
-use adapt_sides::WIRE_ROOM;
+use adapt_sides::{Scratch, WIRE_ROOM};
 use http_relay::{HeadProgress, SourceSide};
 use http_side::{Encapsulated, Message, encapsulated_head};
 use proxy_config::ServicePoint;
@@ -23,6 +23,15 @@ pub struct Prepared {
     pub message: Box<Incoming>,
     /// Where its body comes from.
     pub source: TextWire,
+    /// Where what comes of it goes.
+    pub next: TextWire,
+    /// The buffers of its turns.
+    pub scratch: Box<Scratch>,
+}
+
+/// A value on the heap.
+fn on_heap<T: Drop>(alloc: Global, value: T) -> Result<Box<T>, AllocError> {
+    Ok(Box::new(alloc, value)?)
 }
 
 /// Reads a message's head. False where there is none.
@@ -51,10 +60,28 @@ fn before(
     alloc: Global,
     point: Point,
     buffer: &mut [u8; WIRE_ROOM],
-) -> Result<Incoming, AllocError> {
-    match point {
-        Point::Reqmod => Ok(Incoming::request(alloc)),
-        Point::Respmod => Ok(Incoming::response(alloc, user_side(alloc, buffer)?, Vec::new(alloc))),
+) -> Result<Box<Incoming>, AllocError> {
+    let message = match point {
+        Point::Reqmod => Incoming::request(alloc),
+        Point::Respmod => Incoming::response(alloc, user_side(alloc, buffer)?, Vec::new(alloc)),
+    };
+    on_heap(alloc, message)
+}
+
+/// The message of a trial, whose head was read, and where its body comes from. `None` where no head was read.
+fn arrive(
+    alloc: Global,
+    trial: &Trial,
+    buffer: &mut [u8; WIRE_ROOM],
+) -> Result<Option<(Box<Incoming>, TextWire)>, AllocError> {
+    let point = trial.plan.point;
+    let text = message_of(alloc, point, trial.sample, trial.size)?;
+    let mut source = wire_of(alloc, text)?;
+    let mut message = before(alloc, point, buffer)?;
+    if reads_head(&mut message, &mut source, buffer) {
+        Ok(Some((message, source)))
+    } else {
+        Ok(None)
     }
 }
 
@@ -81,13 +108,16 @@ fn offer_of(
     service: &ServicePoint,
     plan: Plan,
     message: &Incoming,
-) -> Result<Option<Offer>, AllocError> {
+) -> Result<Option<Box<Offer>>, AllocError> {
     let Some((req, res)) = heads_of(alloc, message)? else {
         return Ok(None);
     };
     let (host, path) = (service.host.as_bytes(), service.path.as_bytes());
     let port = service.address.port();
-    Offer::new(alloc, plan, None, &[], host, port, path, &req, &res)
+    match Offer::new(alloc, plan, None, &[], host, port, path, &req, &res)? {
+        Some(offer) => Ok(Some(on_heap(alloc, offer)?)),
+        None => Ok(None),
+    }
 }
 
 /// The message of a trial, and its offer to a service. `None` where there is none.
@@ -95,21 +125,20 @@ pub fn prepare(
     alloc: Global,
     service: &ServicePoint,
     trial: &Trial,
-    buffer: &mut [u8; WIRE_ROOM],
-) -> Result<Option<Prepared>, AllocError> {
-    let point = trial.plan.point;
-    let text = message_of(alloc, point, trial.sample, trial.size)?;
-    let mut source = wire_of(alloc, text)?;
-    let mut message = before(alloc, point, buffer)?;
-    if !reads_head(&mut message, &mut source, buffer) {
+) -> Result<Option<Box<Prepared>>, AllocError> {
+    let mut scratch = Scratch::new(alloc)?;
+    let Some((message, source)) = arrive(alloc, trial, &mut scratch.wire)? else {
         return Ok(None);
-    }
+    };
     let Some(offer) = offer_of(alloc, service, trial.plan, &message)? else {
         return Ok(None);
     };
-    Ok(Some(Prepared {
-        offer: Box::new(alloc, offer)?,
-        message: Box::new(alloc, message)?,
+    let prepared = Prepared {
+        offer,
+        message,
         source,
-    }))
+        next: wire_of(alloc, Vec::new(alloc))?,
+        scratch,
+    };
+    Ok(Some(on_heap(alloc, prepared)?))
 }

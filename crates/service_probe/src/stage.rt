@@ -31,9 +31,27 @@ pub struct TransactionRemains<W> {
     pub tap: Tap<W>,
 }
 
+/// A transaction that was begun. The loops that run it to its end are functions of any such: they see no side of it, no wire and no
+/// budget.
+pub trait ProbeCourse {
+    /// Takes a turn of a side, at a moment in seconds. Whether it didn't just wait.
+    fn turn(&mut self, side: Side, now: u64) -> bool;
+
+    /// Whether it is over, or the service's connection broke before a byte of a reply.
+    fn is_over(&self) -> bool;
+}
+
+/// A transaction of the proxy's own sides, and what its turns need.
+pub struct BankedCourse<'a, B: Ledgers, W: Wires, R> {
+    pub rt: &'a R,
+    pub bank: &'a Bank<B>,
+    pub scratch: &'a mut Scratch,
+    pub running: Box<Running<B, W>>,
+}
+
 /// How a transaction ended, and the service's side with its connection.
 #[derive(Drop)]
-pub struct EndedTransaction<V, W> {
+struct EndedTransaction<V, W> {
     outcome: Outcome,
     seen: Seen,
     service: Option<(V, W)>,
@@ -109,20 +127,14 @@ fn boxed<B: Ledgers, W: Wires>(
 }
 
 /// Takes turns of all sides up to the first round in which nothing moves. Whether the transaction is over.
-pub fn move_on<B: Ledgers, W: Wires>(
-    rt: &impl Wait,
-    bank: &Bank<B>,
-    running: &mut Running<B, W>,
-    scratch: &mut Scratch,
-    now: u64,
-) -> bool {
+pub fn move_on<T: ProbeCourse>(course: &mut T, now: u64) -> bool {
     for _ in 0..u64::MAX {
         let mut moved = false;
         for side in [Side::Source, Side::Service, Side::NextHop] {
-            if running.turn(rt, bank, scratch, side, now) != TurnAnswer::Waiting {
+            if course.turn(side, now) {
                 moved = true;
             }
-            if running.outcome().is_some() || running.is_broken() {
+            if course.is_over() {
                 return true;
             }
         }
@@ -150,31 +162,12 @@ where
 {
     let mut tx = tx;
     tx.halt(rt, bank);
-    take_apart(rt, bank, tx.into_parts())
-}
-
-/// Closes the reservation of a transaction that ended.
-fn take_apart<B: Ledgers, E: EndTypes>(
-    rt: &impl Wait,
-    bank: &Bank<B>,
-    parts: TxParts<B, E>,
-) -> EndedTransaction<E::Client, E::ServiceWire>
-where
-    E::Reader: Drop,
-    E::Client: Drop,
-    E::Writer: Drop,
-    E::Maker: Drop,
-    E::SourceWire: Drop,
-    E::ServiceWire: Drop,
-    E::NextWire: Drop,
-    requires { (parts.stake.held ≡ 0) × (parts.stake.pages ≡ 0) }
-{
     let TxParts {
         stake,
         ends,
         outcome,
         seen,
-    } = parts;
+    } = tx.into_parts();
     bank.close(rt, stake, Pages::none());
     let Ends {
         source: _,
@@ -199,7 +192,7 @@ fn line_of<V: Drop, W: Drop>(service: Option<ServiceEnd<V, W>>) -> Option<(V, W)
 }
 
 /// Judges what came of a message. `None` where its connection was given up.
-pub fn judged<V: HeardService + Drop, W: Drop>(
+fn judged<V: HeardService + Drop, W: Drop>(
     alloc: Global,
     ended: EndedTransaction<V, Tap<W>>,
 ) -> Result<Option<TransactionRemains<W>>, AllocError> {
@@ -219,14 +212,28 @@ pub fn judged<V: HeardService + Drop, W: Drop>(
     }))
 }
 
-/// Ends a transaction: one that isn't over fails. Its reservation is closed.
-pub fn end<B: Ledgers, W: Wires>(
-    rt: &impl Wait,
-    bank: &Bank<B>,
-    running: Box<Running<B, W>>,
-) -> EndedTransaction<icap_client::ServiceSide, W::ServiceWire>
-where
-    W::ServiceWire: Drop,
-{
-    close(rt, bank, Box::into_inner(running).into_tx())
+impl<'a, B: Ledgers, W: Wires, R: Wait> ProbeCourse for BankedCourse<'a, B, W, R> {
+    fn turn(&mut self, side: Side, now: u64) -> bool {
+        self.running
+            .turn(self.rt, self.bank, self.scratch, side, now)
+            != TurnAnswer::Waiting
+    }
+
+    fn is_over(&self) -> bool {
+        self.running.outcome().is_some() || self.running.is_broken()
+    }
+}
+
+/// Ends a transaction, which fails where it isn't over, and judges what came of its message. `None` where its connection was given up.
+pub fn end<B: Ledgers, R: Wait, W: Wires<ServiceWire = Tap<C>>, C: Wire + Drop>(
+    alloc: Global,
+    course: BankedCourse<'_, B, W, R>,
+) -> Result<Option<TransactionRemains<C>>, AllocError> {
+    let BankedCourse {
+        rt,
+        bank,
+        scratch: _,
+        running,
+    } = course;
+    judged(alloc, close(rt, bank, Box::into_inner(running).into_tx()))
 }
