@@ -66,7 +66,12 @@ pub fn probe_from<I: Read + Drop, O: Write, R: Wait + Net + Dial + Clock>(
     let choice = choice_of(args)?;
     let config = read_configuration(alloc, reader)?;
     let blanks = Blanks::new(2);
-    match probe_on::<Brand, Brand, Brand, Brand, O, R>(rt, alloc, blanks, &config, choice, output) {
+    let probed = probe_on::<Brand, Brand, Brand, Brand, O, R>(
+        rt, alloc, blanks, &config, choice, output,
+    );
+    // Written as a call, the drop is proved once, and not at each place.
+    drop(config);
+    match probed {
         Ok(true) => Ok(0),
         Ok(false) => Ok(1),
         Err(error) if error.kind() == ErrorKind::OutOfMemory => {

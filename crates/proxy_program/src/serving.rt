@@ -116,11 +116,16 @@ fn fitting<R: Files + AllocGlobal>(
 ) -> Result<Arc<Config>, ServeError> {
     let config = read_whole(rt, alloc, text)?;
     if !has_room(rt, &config) {
+        // Written as a call, the drop is proved once, and not at each place.
+        drop(config);
         return Err(ServeError::Ended(Error::NoMemory));
     }
     match Arc::new(alloc, config) {
         Ok(config) => Ok(config),
-        Err(_) => Err(ServeError::Ended(Error::NoMemory)),
+        Err(failed) => {
+            drop(failed.value);
+            Err(ServeError::Ended(Error::NoMemory))
+        }
     }
 }
 

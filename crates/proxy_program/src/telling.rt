@@ -43,7 +43,10 @@ fn line_of(alloc: Global, words: &[String]) -> Result<Vec<u8>, ServeError> {
 fn admin_of<R: Files>(rt: &R, alloc: Global, source: &Source) -> Result<SocketAddrV4, ServeError> {
     let text = read_source(rt, alloc, source)?;
     let config = configuration_of(alloc, &text)?;
-    Ok(config.admin)
+    let admin = config.admin;
+    // Written as a call, the drop is proved once, and not at each place.
+    drop(config);
+    Ok(admin)
 }
 
 /// Says words to the administrator's port that the configuration of a source names, prints the answer, and answers its exit status.

@@ -22,7 +22,11 @@ fn put_refusal(alloc: Global, error: &ServeError, out: &mut Vec<u8>) -> Result<(
 /// Adds whether a configuration is taken, or what is said of it.
 fn put_judged(alloc: Global, reader: Feed<'_>, out: &mut Vec<u8>) -> Result<(), NoMemory> {
     match read_configuration(alloc, reader) {
-        Ok(_) => put_line(out, b"taken"),
+        Ok(config) => {
+            // Written as a call, the drop is proved once, and not at each place.
+            drop(config);
+            put_line(out, b"taken")
+        }
         Err(error) => put_refusal(alloc, &error, out),
     }
 }
@@ -86,8 +90,48 @@ fn put_whole<R: Files>(
         Err(error) => return put_refusal(alloc, &error, out),
     };
     match read_whole(rt, alloc, &text) {
-        Ok(config) => put_files(&config, row, out),
+        Ok(config) => {
+            let put = put_files(&config, row, out);
+            // Written as a call, the drop is proved once, and not at each place.
+            drop(config);
+            put
+        }
         Err(error) => put_refusal(alloc, &error, out),
+    }
+}
+
+/// Adds what is said of a configuration that is taken over, with so many names in its hosts file.
+fn put_taken(
+    config: &Config,
+    names: u64,
+    row: &Row<'_>,
+    out: &mut Vec<u8>,
+) -> Result<(), NoMemory> {
+    put_number(out, b"ok", names)?;
+    put_files(config, row, out)
+}
+
+/// Adds what a proxy that runs with an old configuration answers to that of the row's source.
+fn put_answered<R: Files + AllocGlobal>(
+    rt: &R,
+    alloc: Global,
+    old: &Config,
+    row: &Row<'_>,
+    out: &mut Vec<u8>,
+) -> Result<(), NoMemory> {
+    let source = match source_of(alloc, &arguments_of(alloc, row)?, feed_of(row)) {
+        Ok(source) => source,
+        Err(error) => return put_refusal(alloc, &error, out),
+    };
+    match reload(rt, alloc, &source, old) {
+        Ok((config, names)) => {
+            let put = put_taken(&config, names, row, out);
+            // Written as a call, the drop is proved once, and not at each place.
+            drop(config);
+            put
+        }
+        Err(answer) if answer.is_empty() => Err(NoMemory),
+        Err(answer) => put_line(out, &answer),
     }
 }
 
@@ -98,21 +142,14 @@ fn put_reloaded<R: Files + AllocGlobal>(
     row: &Row<'_>,
     out: &mut Vec<u8>,
 ) -> Result<(), NoMemory> {
-    let old = match read_configuration(alloc, whole(row.get(b"old"))) {
-        Ok(old) => old,
-        Err(error) => return put_refusal(alloc, &error, out),
-    };
-    let source = match source_of(alloc, &arguments_of(alloc, row)?, feed_of(row)) {
-        Ok(source) => source,
-        Err(error) => return put_refusal(alloc, &error, out),
-    };
-    match reload(rt, alloc, &source, &old) {
-        Ok((config, count)) => {
-            put_number(out, b"ok", count)?;
-            put_files(&config, row, out)
+    match read_configuration(alloc, whole(row.get(b"old"))) {
+        Ok(old) => {
+            let put = put_answered(rt, alloc, &old, row, out);
+            // Written as a call, the drop is proved once, and not at each place.
+            drop(old);
+            put
         }
-        Err(answer) if answer.is_empty() => Err(NoMemory),
-        Err(answer) => put_line(out, &answer),
+        Err(error) => put_refusal(alloc, &error, out),
     }
 }
 

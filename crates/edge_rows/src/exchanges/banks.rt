@@ -262,7 +262,7 @@ pub fn put_exchange<R: Wait>(
 ) -> Result<(), NoMemory> {
     match read_config(alloc, scene.get(b"config")) {
         Ok(config) => {
-            put_on_bank::<Brand, Brand, Brand, Brand, R>(
+            let put = put_on_bank::<Brand, Brand, Brand, Brand, R>(
                 rt,
                 alloc,
                 Blanks::new(2),
@@ -270,7 +270,10 @@ pub fn put_exchange<R: Wait>(
                 scene,
                 values,
                 out,
-            )
+            );
+            // Written as a call, the drop is proved once, and not at each place.
+            drop(config);
+            put
         }
         Err(ConfigFault::NoMemory) => Err(NoMemory),
         Err(_) => put_line(out, b"no configuration"),

@@ -14,7 +14,12 @@ use trace_core::State;
 /// The limits of the row's configuration.
 fn limits(alloc: Global, scene: Scene<'_>) -> Option<Limits> {
     match read_config(alloc, scene.get(b"config")) {
-        Ok(config) => Some(limits_of(&config)),
+        Ok(config) => {
+            let limits = limits_of(&config);
+            // Written as a call, the drop is proved once, and not at each place.
+            drop(config);
+            Some(limits)
+        }
         Err(_) => None,
     }
 }

@@ -13,7 +13,12 @@ use wire_kit::{MemoryWire, ReadAnswer, Wire, WriteAnswer};
 /// The service of responses that the row configures.
 pub fn service_of(alloc: Global, scene: Scene<'_>) -> Option<ServicePoint> {
     match read_config(alloc, scene.get(b"config")) {
-        Ok(mut config) => config.respmod.take(),
+        Ok(mut config) => {
+            let service = config.respmod.take();
+            // Written as a call, the drop is proved once, and not at each place.
+            drop(config);
+            service
+        }
         Err(_) => None,
     }
 }

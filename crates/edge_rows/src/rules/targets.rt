@@ -35,10 +35,13 @@ fn put_target(alloc: Global, scene: Scene<'_>, out: &mut Vec<u8>) -> Result<(), 
     let Ok(config) = read_config(alloc, scene.get(b"config")) else {
         return put_line(out, b"no configuration");
     };
-    match read_request(alloc, &text, false) {
+    let put = match read_request(alloc, &text, false) {
         Ok(user) => put_origin(out, &config, &user.value),
         Err(_) => put_line(out, b"no request"),
-    }
+    };
+    // Written as a call, the drop is proved once, and not at each place.
+    drop(config);
+    put
 }
 
 /// Adds whether the row's user waits for `100 Continue`, and whether it wants a head alone.
