@@ -63,7 +63,7 @@ pub parts_same : (buf : List ℕ) (headers : List HeaderSpan) (spans : RequestSp
 parts_same buf headers spans h at = rw (at.method, at.path, at.version, at.fields) refl
 
 pub few_fields : (buf : List ℕ) (headers : List HeaderSpan) (spans : RequestSpans) (h : RequestHead) → IsParsedAt buf headers spans h
-    → length headers ≡ 100 → length h.fields ≤ 100
+    → length headers ≤ 100 → length h.fields ≤ 100
 few_fields buf headers spans h at l =
     let e = ap length at.fields in
     omega (
@@ -75,7 +75,7 @@ few_fields buf headers spans h at l =
 
 -- a head at the parser's offsets that is refused
 pub refused_at : (adapted : Bool) (text front : List ℕ) (headers : List HeaderSpan) (spans : RequestSpans) (f : HttpFault)
-    → front ≡ judged text → length headers ≡ 100
+    → front ≡ judged text → length headers ≤ 100
     → IsRequestOf front headers spans → Refuses adapted (parts_at front spans (take spans.headers headers)) f
     → MayRefuseRequest adapted text f
 refused_at adapted text front headers spans f is l of why =
@@ -92,7 +92,7 @@ refused_at adapted text front headers spans f is l of why =
 
 -- a head at the parser's offsets that is taken
 pub read_at : (adapted : Bool) (text front : List ℕ) (headers : List HeaderSpan) (spans : RequestSpans) (r : RequestParts)
-    → front ≡ judged text → length headers ≡ 100
+    → front ≡ judged text → length headers ≤ 100
     → IsRequestOf front headers spans → r ≡ parts_at front spans (take spans.headers headers) → IsTaken adapted r
     → IsRead adapted text r spans.len
 read_at adapted text front headers spans r is l of parts taken =

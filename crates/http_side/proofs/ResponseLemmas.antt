@@ -46,7 +46,7 @@ parts_same : (buf : List ℕ) (headers : List HeaderSpan) (spans : ResponseSpans
 parts_same buf headers spans to_head h at = rw (at.code, at.reason, at.version, at.fields) refl
 
 few_fields : (buf : List ℕ) (headers : List HeaderSpan) (spans : ResponseSpans) (h : ResponseHead) → IsParsedAt buf headers spans h
-    → length headers ≡ 100 → length h.fields ≤ 100
+    → length headers ≤ 100 → length h.fields ≤ 100
 few_fields buf headers spans h at l =
     let e = ap length at.fields in
     omega (
@@ -72,7 +72,7 @@ same_refusal h to_head NoMemory w = w
 
 -- a head at the parser's offsets that is refused
 pub refused_at : (to_head : Bool) (text front : List ℕ) (headers : List HeaderSpan) (spans : ResponseSpans) (f : HttpFault)
-    → front ≡ judged text → length headers ≡ 100
+    → front ≡ judged text → length headers ≤ 100
     → IsResponseOf front headers spans → RefusesAnswer (response_at front spans (take spans.headers headers) to_head) f
     → MayRefuseResponse text f
 refused_at to_head text front headers spans f is l of why =
@@ -84,7 +84,7 @@ refused_at to_head text front headers spans f is l of why =
 
 -- a head at the parser's offsets that is taken
 pub read_at : (to_head : Bool) (text front : List ℕ) (headers : List HeaderSpan) (spans : ResponseSpans) (r : ResponseParts)
-    → front ≡ judged text → length headers ≡ 100
+    → front ≡ judged text → length headers ≤ 100
     → IsResponseOf front headers spans → r ≡ response_at front spans (take spans.headers headers) to_head → response_fault r ≡ None
     → IsResponseRead to_head text r spans.len
 read_at to_head text front headers spans r is l of parts none =

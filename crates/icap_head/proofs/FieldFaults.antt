@@ -1,9 +1,11 @@
 -- From the lines that `httparse` is shown to the whole text behind the start line.
 use Rattle.std.proofs.Common.{◌≡◌, ℕ, zero, suc, get_or, length-drop, length-append, ◌-◌, ◌+◌, ◌<◌, ◌≤◌, inl, inr, List, [], ◌∷◌, ◌++◌}
 use Rattle.std.proofs.Common.{length, take, drop, refl, sym, ap, ◌∙◌, subst, arith, append_assoc, take-append-drop, length-take-le, Result}
-use Rattle.std.proofs.Common.{Ok, Err, IfOk, IfErr}
-use Rattle.std.proofs.lemmas.List.{drop-append-le, take_more}
+use Rattle.std.proofs.Common.{Ok, Err, IfOk, IfErr, map, length-take}
+use Rattle.std.proofs.lemmas.List.{drop-append-le, take_more, length-map}
 use Rattle.httparse.specs.Grammar.{ReadsSection, NeverHasSection}
+use Rattle.httparse.specs.Spans.{IsSectionOf, name_and_value, header_bytes}
+use Rattle.httparse.specs.declared.spans.HeaderSpan.{HeaderSpan}
 use Rattle.httparse.proofs.GrammarLemmas.{ReadsSection-append}
 use Rattle.icap_head.specs.declared.reading.HeadFault.{HeadFault}
 use Rattle.icap_head.specs.declared.reading.HeadFault.TheVariants.{TooMany}
@@ -29,6 +31,21 @@ never-append text more never again fields last rest r =
 
 pub has_fields-append : (text more : List ℕ) → HasFields text → HasFields (text ++ more)
 has_fields-append text more h = (h.0, h.1 ++ more, fields-append text more h.0 h.1 h.2, h.3)
+
+-- a text that nothing makes a section has no fields
+pub no_fields : (text : List ℕ) → NeverHasSection text → ¬ (HasFields text)
+no_fields text never has = never [] has.2.0 has.2.1 (has.1 ++ []) (ReadsSection-append text has.2.0 has.2.1 has.1 [] has.2.2)
+
+-- fields that were read into at most 100 places
+pub counted_fields : (seen : List ℕ) (start : ℕ) (places : List HeaderSpan) (len count : ℕ) → length places ≤ 100
+    → IsSectionOf seen start places (len, count) → HasFields (drop start seen)
+counted_fields seen start places len count few of =
+    let e = ap length of.2.fields_are in (
+      map name_and_value of.0,
+      drop len seen,
+      (of.0, of.1, of.2.reads, refl),
+      omega (arith, e, few, length-map (take count places) (header_bytes seen), length-take count places),
+    )
 
 -- the faults of a text whose 101st line is its last, in a longer text
 pub cut_fault : (fault : HeadFault) (len : ℕ) (text more init : List ℕ) → text ≡ init ++ 10 ∷ [] → line_count text ≡ 101

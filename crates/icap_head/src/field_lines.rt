@@ -3,6 +3,7 @@ ghost use Rattle.std.specs.Prelude.{◌≡◌, ℕ, ◌+◌, ◌-◌, ◌<◌, �
 ghost use Rattle.std.specs.List.{AllByRecursion};
 ghost use Rattle.adapt_bytes.specs.declared.limits.TheConstants.{MAX_FIELDS};
 ghost use Rattle.httparse.specs.Grammar.{is_value_byte, AllPass};
+ghost use Rattle.httparse.specs.Spans.{SectionExceeds};
 ghost use Rattle.icap_head.specs.FieldLines.{ReadsFields, HasFields, RefusesFields, RefusesFieldLines, line_count, unended};
 ghost use Rattle.icap_head.specs.Fields.{field_list};
 ghost use Rattle.icap_head.specs.Written.{fields_text, field_text, IsFieldPair};
@@ -10,9 +11,13 @@ ghost use Rattle.icap_head.specs.Written.{fields_text, field_text, IsFieldPair};
 use crate::reading::{HeadFault, unended};
 use crate::{Fields, NoMemory};
 use adapt_bytes::{MAX_FIELDS, is_token, trim};
-use httparse::spans::{EMPTY_HEADER_SPAN, parse_headers_from};
+use httparse::spans::{EMPTY_HEADER_SPAN, HeaderSpan, parse_headers_from};
 use httparse::{Error, Status};
 use std::alloc::Global;
+
+/// How many field lines of a head are read at first. A place is cleared for each, so a longer head is read anew, with
+/// [`MAX_FIELDS`] places.
+const USUAL_FIELDS: usize = 24;
 
 /// The fields after `start`, and where their empty line ends, in a prefix of a text of `whole` bytes.
 pub(crate) fn read_fields(
@@ -27,15 +32,62 @@ pub(crate) fn read_fields(
     ensures err { IfErr result (λ fault. ((fault ≡ HeadFault.NoMemory) × HasFields (drop start seen.now))
         ⊎ RefusesFields fault whole (drop start seen.now)) }
 {
-    let mut headers = [EMPTY_HEADER_SPAN; MAX_FIELDS];
-    match parse_headers_from(seen, start, &mut headers) {
-        Ok(Status::Complete((len, count))) => {
-            let fields = Fields::of_lines(alloc, seen, len, &headers[..count])?;
-            Ok((fields, len))
-        }
-        Ok(Status::Partial) => Err(first_fault(seen, start, unended(whole))),
-        Err(Error::TooManyHeaders) => Err(HeadFault::TooMany),
-        Err(_) => Err(first_fault(seen, start, HeadFault::Field)),
+    let mut usual = [EMPTY_HEADER_SPAN; USUAL_FIELDS];
+    match read_within(alloc, seen, start, whole, &mut usual) {
+        Some(found) => found,
+        None => read_many(alloc, seen, start, whole),
+    }
+}
+
+fn read_many(
+    alloc: Global,
+    seen: &[u8],
+    start: usize,
+    whole: usize,
+) -> Result<(Fields, usize), HeadFault>
+    requires { start ≤ length seen.now }
+    ensures found { IfOk result (λ r. (start ≤ r.1) × (r.1 ≤ length seen.now) × (length (field_list r.0) ≤ MAX_FIELDS)
+        × ReadsFields (drop start seen.now) (field_list r.0) (drop r.1 seen.now)) }
+    ensures err { IfErr result (λ fault. ((fault ≡ HeadFault.NoMemory) × HasFields (drop start seen.now))
+        ⊎ RefusesFields fault whole (drop start seen.now)) }
+{
+    let mut places = [EMPTY_HEADER_SPAN; MAX_FIELDS];
+    match read_within(alloc, seen, start, whole, &mut places) {
+        Some(found) => found,
+        None => Err(HeadFault::TooMany),
+    }
+}
+
+/// The same, unless there are more fields than places.
+#[tactic(auto, using(crate::proofs::FieldFaults::no_fields))]
+fn read_within(
+    alloc: Global,
+    seen: &[u8],
+    start: usize,
+    whole: usize,
+    places: &mut [HeaderSpan],
+) -> Option<Result<(Fields, usize), HeadFault>>
+    requires inside { start ≤ length seen.now }
+    requires few { length places.now ≤ MAX_FIELDS }
+    ensures found { IfSome result (λ found. IfOk found (λ r. (start ≤ r.1) × (r.1 ≤ length seen.now)
+        × (length (field_list r.0) ≤ MAX_FIELDS) × ReadsFields (drop start seen.now) (field_list r.0) (drop r.1 seen.now))) }
+    ensures err { IfSome result (λ found. IfErr found (λ fault. ((fault ≡ HeadFault.NoMemory) × HasFields (drop start seen.now))
+        ⊎ RefusesFields fault whole (drop start seen.now))) }
+    ensures none { IfNone result (SectionExceeds (length places.old) (drop start seen.now)) }
+{
+    match parse_headers_from(seen, start, places) {
+        Ok(Status::Complete((len, count))) => match Fields::of_lines(
+            alloc,
+            seen,
+            len,
+            &places[..count],
+        ) {
+            Ok(fields) => Some(Ok((fields, len))),
+            Err(NoMemory) => Some(Err(HeadFault::NoMemory)),
+        },
+        Ok(Status::Partial) => Some(Err(first_fault(seen, start, unended(whole)))),
+        Err(Error::TooManyHeaders) => None,
+        Err(_) => Some(Err(first_fault(seen, start, HeadFault::Field))),
     }
 }
 

@@ -1,12 +1,12 @@
-use Rattle.std.proofs.Common.{List, ℕ, subst}
+use Rattle.std.proofs.Common.{ℕ, List, subst, arith}
 use Rattle.httparse.specs.Grammar.{HasNoResponse, MayBecomeResponse}
 use Rattle.http_side.proofs.ResponseLemmas.{refused_at}
-use Rattle.http_side.proofs.response.find_response.Goals as goal
+use Rattle.http_side.proofs.response.find_within.Goals as goal
 
 pub returns-in-Err-judge-clause-fault : goal.returns-in-Err-judge-clause-fault
 returns-in-Err-judge-clause-fault c =
     refused_at c.args.to_head c.args.text.now c.judged-front.result.now c.parse_response.new.headers c.in-Ok-Complete.spans
-    c.in-Err-judge.fault c.judged-front.ensures c.parse_response.auto.headers
+    c.in-Err-judge.fault c.judged-front.ensures (omega (arith, c.parse_response.auto.headers, c.requires))
     (rw c.in-Ok-Complete.field-0-is at c.in-Ok-Complete.ensures.complete) c.in-Err-judge.ensures.refused
 
 pub returns-else-text-lt-MAX_HEAD-clause-fault : goal.returns-else-text-lt-MAX_HEAD-clause-fault
