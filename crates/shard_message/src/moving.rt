@@ -21,7 +21,7 @@ use crate::outside::{Kinds, Outside};
 use crate::room::MessageRoom;
 use crate::settled::{Settled, settle_request, settle_response};
 use crate::start::{Manner, set_out};
-use crate::taken::stake_of;
+use crate::taken::{stake_of, tx_of};
 use crate::turns::round_of;
 use adapt_sides::Scratch;
 use adapt_turn::FreedConnection;
@@ -286,20 +286,8 @@ impl<O: Kinds> Moving<O> {
         ensures wires { (result.remains.connections.user ≡ ⟦<Self as Accounted<O>>⟧.user self) × (result.remains.connections.service ≡ ⟦<Self as Accounted<O>>⟧.service self) × (result.remains.connections.origin ≡ ⟦<Self as Accounted<O>>⟧.origin self) }
     {
         match self {
-            Moving::Request(tx) => {
-                settle_request(
-                    rt,
-                    at,
-                    out,
-                    Box::into_inner(tx).into_tx(),
-                    by,
-                    before,
-                    course,
-                )
-            }
-            Moving::Response(tx) => {
-                settle_response(rt, at, out, Box::into_inner(tx).into_tx(), by)
-            }
+            Moving::Request(tx) => settle_request(rt, at, out, tx_of(tx), by, before, course),
+            Moving::Response(tx) => settle_response(rt, at, out, tx_of(tx), by),
         }
     }
 
@@ -308,8 +296,8 @@ impl<O: Kinds> Moving<O> {
         ensures { (result.held ≡ 0) × (result.pages ≡ 0) }
     {
         match self {
-            Moving::Request(tx) => stake_of(rt, bank, Box::into_inner(tx).into_tx()),
-            Moving::Response(tx) => stake_of(rt, bank, Box::into_inner(tx).into_tx()),
+            Moving::Request(tx) => stake_of(rt, bank, tx_of(tx)),
+            Moving::Response(tx) => stake_of(rt, bank, tx_of(tx)),
         }
     }
 }

@@ -8,8 +8,9 @@ ghost use Rattle.shard_message.specs.Ended.{ended_as};
 use crate::room::{MessageRoom, room_of};
 use adapt_turn::{EndTypes, Ends, ServiceEnd, Tx, TxParts};
 use plan_rules::Limits;
-use proxy_rules::{Way, Wires};
+use proxy_rules::{OwnEnds, Running, Way, Wires};
 use span_bank::{Bank, Ledgers, Stake};
+use std::boxed::Box;
 use std::sync::Wait;
 
 /// What is left of a transaction, which fails where it isn't closed yet.
@@ -28,6 +29,14 @@ pub(crate) fn parts_of<B: Ledgers, E: EndTypes, R: Wait>(
     let mut tx = tx;
     tx.halt(rt, bank);
     tx.into_parts()
+}
+
+/// The transaction that lies in a box, to be taken apart. Here it is moved out, in a function of its own: where several lie in one,
+/// room is cleared for all of them each time.
+pub(crate) fn tx_of<B: Ledgers, W: Wires>(running: Box<Running<B, W>>) -> Tx<B, OwnEnds<W>>
+    ensures { result ≡ running.value.tx }
+{
+    Box::into_inner(running).into_tx()
 }
 
 /// The connection of a service's side that has ended. None where it was given up before.
