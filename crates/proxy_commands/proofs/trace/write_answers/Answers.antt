@@ -7,7 +7,8 @@ use Rattle.proxy_commands.proofs.trace.write_answers.Goals as goal
 
 pub returns : goal.returns
 returns c =
-    let lines = c.args.script.now.lines.items in
-    let plan = c.args.script.now.plan in
+    let script = c.args.script.now in
+    let lines = script.lines.items in
+    let plan = script.plan in
     let done = at_drop_all (output_from (shows c.loop-line.state)) lines c.loop-line.line-index (search rules) in
     sym (ap (λ t. c.loop-line.out.items ++ t) done ∙ append-nil c.loop-line.out.items) ∙ c.loop-line.invariant ∙ output_same plan [] lines

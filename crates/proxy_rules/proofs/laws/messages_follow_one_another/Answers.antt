@@ -9,7 +9,9 @@ returns-clause-meanwhile g c = λ first old new texts left more grown gave.
     gave_meanwhile g.W.SourceWire.Wire first old new texts left more grown gave
 
 pub returns-clause-further : goal.returns-clause-further
-returns-clause-further g c = λ s first texts since gave.
-    gave_message g.W.SourceWire.Wire g.W.ServiceWire.Wire g.W.NextWire.Wire s c.args.running.now.tx.ends c.args.running.now.tx.hold _ first
+returns-clause-further g c =
+    let tx = c.args.running.now.tx in
+    λ s first texts since gave.
+    gave_message g.W.SourceWire.Wire g.W.ServiceWire.Wire g.W.NextWire.Wire s tx.ends tx.hold _ first
     texts
     (c.a_running_transaction_takes_one_message.ensures.took s since) gave

@@ -42,22 +42,28 @@ returns-in-Err-clause-reports g c =
 
 pub returns-in-Ok-clause-reason : goal.returns-in-Ok-clause-reason
 returns-in-Ok-clause-reason g c =
+    let fault = c.in-Ok.ensures.turn.fault in
     let new = c.write_turn.new.self in
     subst (λ (y : History). HasFaultReason (g.K.Hop.fault c.args.hop.now) (g.K.Hop.fault new)
     (FailsGiving (g.K.Hop.breaks_length (shows y) (g.K.Hop.body_framing new)))) c.state-state.ensures.state
-    (cause_weaker _ _ _ _ (giving_weaker _ _) (cause_of _ _ _ _ c.in-Ok.ensures.turn.fault c.in-Ok.ensures.reason))
+    (cause_weaker _ _ _ _ (giving_weaker _ _) (cause_of _ _ _ _ fault c.in-Ok.ensures.reason))
 
 pub returns-in-Err-clause-reason : goal.returns-in-Err-clause-reason
 returns-in-Err-clause-reason g c =
+    let fault = c.in-Err.ensures.turn.fault in
     let new = c.write_turn.new.self in
     subst (λ (y : History). HasFaultReason (g.K.Hop.fault c.args.hop.now) (g.K.Hop.fault new)
     (FailsGiving (g.K.Hop.breaks_length (shows y) (g.K.Hop.body_framing new)))) c.state-state.ensures.state
-    (cause_weaker _ _ _ _ (giving_weaker _ _) (cause_of _ _ _ _ c.in-Err.ensures.turn.fault c.in-Err.ensures.reason))
+    (cause_weaker _ _ _ _ (giving_weaker _ _) (cause_of _ _ _ _ fault c.in-Err.ensures.reason))
 
 pub returns-in-Ok-clause-again : goal.returns-in-Ok-clause-again
-returns-in-Ok-clause-again g c = λ had e. never_err c.in-Ok.turn had _ (c.in-Ok.ensures.turn.fault.again had e)
+returns-in-Ok-clause-again g c =
+    let fault = c.in-Ok.ensures.turn.fault in
+    λ had e. never_err c.in-Ok.turn had _ (fault.again had e)
 
 pub returns-in-Err-clause-again : goal.returns-in-Err-clause-again
-returns-in-Err-clause-again g c = λ had e. ap (λ (z : PassAnswer). z.failed) c.close.ensures.passed
+returns-in-Err-clause-again g c =
+    let fault = c.in-Err.ensures.turn.fault in
+    λ had e. ap (λ (z : PassAnswer). z.failed) c.close.ensures.passed
     ∙ ap (λ (f : Cause). Some f) (c.hop_cause.ensures ∙ ap hop_cause (same_err c.in-Err.fault had
-    (c.in-Err.ensures.turn.fault.again had e)))
+    (fault.again had e)))

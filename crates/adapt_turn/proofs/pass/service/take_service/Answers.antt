@@ -36,18 +36,22 @@ returns-in-Err-clause-reports g c =
     c.service_failed.ensures.closed
 
 pub returns-in-Err-clause-unbroken : goal.returns-in-Err-clause-unbroken
-returns-in-Err-clause-unbroken g c = passes.unbroken_by c.args.hold.now c.service_failed.new.hold c.args.reused c.in-Err.fault _
-    c.service_failed.result c.service_failed.result.broken refl (c.in-Err.ensures.turn.fault.stays c.in-Err.fault refl)
+returns-in-Err-clause-unbroken g c =
+    let fault = c.in-Err.ensures.turn.fault in
+    passes.unbroken_by c.args.hold.now c.service_failed.new.hold c.args.reused c.in-Err.fault _
+    c.service_failed.result c.service_failed.result.broken refl (fault.stays c.in-Err.fault refl)
     c.service_failed.ensures.broken c.service_failed.ensures.unbroken
 
 pub returns-in-Ok-clause-reason : goal.returns-in-Ok-clause-reason
 returns-in-Ok-clause-reason g c =
+    let turn_fault = c.in-Ok.ensures.turn.fault in
     subst (λ (y : History). HasFaultReason (g.V.Service.fault c.args.service.now) (g.V.Service.fault c.read_turn.new.self)
     (λ fault. g.V.Service.has_reason fault (shows y) c.read_turn.new.self)) c.state-state.ensures.state
-    (cause_of _ _ _ _ c.in-Ok.ensures.turn.fault c.in-Ok.ensures.reason)
+    (cause_of _ _ _ _ turn_fault c.in-Ok.ensures.reason)
 
 pub returns-in-Err-clause-reason : goal.returns-in-Err-clause-reason
 returns-in-Err-clause-reason g c =
+    let turn_fault = c.in-Err.ensures.turn.fault in
     subst (λ (y : History). HasFaultReason (g.V.Service.fault c.args.service.now) (g.V.Service.fault c.read_turn.new.self)
     (λ fault. g.V.Service.has_reason fault (shows y) c.read_turn.new.self)) c.state-state.ensures.state
-    (cause_of _ _ _ _ c.in-Err.ensures.turn.fault c.in-Err.ensures.reason)
+    (cause_of _ _ _ _ turn_fault c.in-Err.ensures.reason)

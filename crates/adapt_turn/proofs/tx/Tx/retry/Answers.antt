@@ -5,7 +5,11 @@ use Rattle.adapt_turn.proofs.Together.{views_by, others_by, line_again, none_aga
 use Rattle.adapt_turn.proofs.tx.Tx.retry.Goals as goal
 
 pub returns-in-Some-clause-anew : goal.returns-in-Some-clause-anew
-returns-in-Some-clause-anew g c = λ request t s.
+returns-in-Some-clause-anew g c =
+    let service_laws = g.met.E.Client.Service in
+    let source_laws = g.met.E.Reader.Source in
+    let hop_laws = g.met.E.Writer.Hop in
+    λ request t s.
     let tx = c.args.self.now in
     let unmodified = none_modified_before tx.hold.history c.state-state.ensures.tied.legal c.requires.may in
     line_again g.E.Client.Service tx.ends.service c.in-Some.line (record { side = c.restart.new.self; wire = Some c.args.wire }) tx.hold
@@ -27,19 +31,23 @@ returns-in-Some-clause-anew g c = λ request t s.
       refuses = λ r. r;
     })
     (others_by g.E.Reader.Source g.E.Client.Service g.E.Writer.Hop (g.E.Maker.MakesHead.makes tx.ends.maker)
-    g.met.E.Reader.Source.others_agree g.met.E.Reader.Source.others g.met.E.Client.Service.others_sent
-    g.met.E.Client.Service.others_heard g.met.E.Writer.Hop.others tx.ends.source
+    source_laws.others_agree source_laws.others service_laws.others_sent
+    service_laws.others_heard hop_laws.others tx.ends.source
     (Some (record { side = c.restart.new.self; wire = Some c.args.wire })) tx.ends.next tx.ends.back tx.refusing)
     c.state-state.ensures.tied tx.roomy c.requires.may c.go_on.ensures.stepped c.restart.ensures.sent c.restart.ensures.heard
-    g.met.E.Client.Service.unheard s
+    service_laws.unheard s
 
 pub returns-in-None-clause-anew : goal.returns-in-None-clause-anew
-returns-in-None-clause-anew g c = λ request t s.
+returns-in-None-clause-anew g c =
+    let service_laws = g.met.E.Client.Service in
+    let source_laws = g.met.E.Reader.Source in
+    let hop_laws = g.met.E.Writer.Hop in
+    λ request t s.
     let tx = c.args.self.now in
     none_again g.E.Client.Service tx.ends.service tx.hold c.go_on.new.hold
     (views_by g.E.Reader.Source g.E.Client.Service g.E.Writer.Hop (g.E.Maker.MakesHead.makes tx.ends.maker) tx.ends.source
     tx.ends.service tx.ends.next tx.ends.back tx.refusing) request t c.in-None.is
     (others_by g.E.Reader.Source g.E.Client.Service g.E.Writer.Hop (g.E.Maker.MakesHead.makes tx.ends.maker)
-    g.met.E.Reader.Source.others_agree g.met.E.Reader.Source.others g.met.E.Client.Service.others_sent
-    g.met.E.Client.Service.others_heard g.met.E.Writer.Hop.others tx.ends.source tx.ends.service tx.ends.next tx.ends.back tx.refusing)
+    source_laws.others_agree source_laws.others service_laws.others_sent
+    service_laws.others_heard hop_laws.others tx.ends.source tx.ends.service tx.ends.next tx.ends.back tx.refusing)
     c.state-state.ensures.tied tx.roomy c.requires.may c.go_on.ensures.stepped s

@@ -50,108 +50,119 @@ pub returns-then-is_broken-clause-goes : goal.returns-then-is_broken-clause-goes
 returns-then-is_broken-clause-goes g c = goes_none
 
 pub returns-clause-goes : goal.returns-clause-goes
-returns-clause-goes g c = goes_then c.pass-passed.ensures.goes c.after_pass.ensures.goes
+returns-clause-goes g c =
+    let pass = c.pass-passed.ensures in
+    goes_then pass.goes c.after_pass.ensures.goes
 
 pub returns-clause-answers : goal.returns-clause-answers
-returns-clause-answers g c = by_answer c.after_pass.result _
+returns-clause-answers g c =
+    let ends = c.args.self.now.ends in
+    let passed = c.pass-passed.new.self.ends in
+    let after = c.after_pass.new.self.ends in
+    let held = c.args.self.now.hold in
+    let said = c.after_pass.ensures.said in
+    let pace = c.args.self.now.pace in
+    let pass = c.pass-passed.ensures in
+    by_answer c.after_pass.result _
     (λ w. record {
-      hold = c.after_pass.ensures.hold ∙ c.pass-passed.ensures.any.still (c.after_pass.ensures.said.waiting w).0;
-      still = moves_of g.E.SourceWire.Wire.past g.E.ServiceWire.Wire.past g.E.NextWire.Wire.past c.args.self.now.ends.source_wire
-          c.pass-passed.new.self.ends.source_wire c.after_pass.new.self.ends.source_wire
-          c.args.self.now.ends.service c.pass-passed.new.self.ends.service c.after_pass.new.self.ends.service c.args.self.now.ends.next_wire
-          c.pass-passed.new.self.ends.next_wire c.after_pass.new.self.ends.next_wire _ _ _ _ _ _ 0
+      hold = c.after_pass.ensures.hold ∙ pass.any.still (said.waiting w).0;
+      still = moves_of g.E.SourceWire.Wire.past g.E.ServiceWire.Wire.past g.E.NextWire.Wire.past ends.source_wire
+          passed.source_wire after.source_wire
+          ends.service passed.service after.service ends.next_wire
+          passed.next_wire after.next_wire _ _ _ _ _ _ 0
           c.counts-before.ensures.source c.counts.ensures.source c.counts-before.ensures.service c.counts.ensures.service
           c.counts-before.ensures.next c.counts.ensures.next
-          c.pass-passed.ensures.served c.after_pass.ensures.kept.1 c.after_pass.ensures.kept.2 c.after_pass.ensures.kept.3
-          (sym (c.after_pass.ensures.said.waiting w).1 ∙ c.since-moved.ensures);
+          pass.served c.after_pass.ensures.kept.1 c.after_pass.ensures.kept.2 c.after_pass.ensures.kept.3
+          (sym (said.waiting w).1 ∙ c.since-moved.ensures);
       refusal = λ k. absurd (false≢true (sym (sym c.is_closed.ensures ∙ c.if-is_closed.false) ∙ k));
       side = λ k. for_side c.args.side _ _ _
           (λ s. record {
             waited = waits_kept (λ z. g.E.Reader.Source.rests
-                (original_room (shows c.args.self.now.hold.history) c.args.self.now.hold.claim c.args.self.now.hold.limits.window
-                c.args.self.now.hold.limits.turn) z) g.E.SourceWire.Wire.past _ _ c.pass-passed.new.self.ends.source
-                c.after_pass.new.self.ends.source c.pass-passed.new.self.ends.source_wire c.after_pass.new.self.ends.source_wire
-                c.after_pass.ensures.kept.0 c.after_pass.ensures.kept.1 ((c.pass-passed.ensures.source s).waits
-                (c.after_pass.ensures.said.waiting w).0);
-            framed = subst (λ z. g.E.Reader.Source.is_framed (original_room (shows c.args.self.now.hold.history)
-                c.args.self.now.hold.claim c.args.self.now.hold.limits.window c.args.self.now.hold.limits.turn) z)
-                (sym c.after_pass.ensures.kept.0) ((c.pass-passed.ensures.source s).framed (c.after_pass.ensures.said.waiting w).0);
+                (original_room (shows held.history) held.claim held.limits.window
+                held.limits.turn) z) g.E.SourceWire.Wire.past _ _ passed.source
+                after.source passed.source_wire after.source_wire
+                c.after_pass.ensures.kept.0 c.after_pass.ensures.kept.1 ((pass.source s).waits
+                (said.waiting w).0);
+            framed = subst (λ z. g.E.Reader.Source.is_framed (original_room (shows held.history)
+                held.claim held.limits.window held.limits.turn) z)
+                (sym c.after_pass.ensures.kept.0) ((pass.source s).framed (said.waiting w).0);
           })
           (λ s. record {
-            waited = both_kept (λ l. g.E.Client.Service.rests_writing (shows c.args.self.now.hold.history) l.side)
-                (λ l. g.E.Client.Service.rests_reading (shows c.args.self.now.hold.history)
-                (adapted_room (shows c.args.self.now.hold.history) c.args.self.now.hold.limits.window c.args.self.now.hold.limits.turn)
-                l.side) (λ l p. MatchOption l.wire ⊥ (λ w. g.E.ServiceWire.Wire.past w p)) _ c.pass-passed.new.self.ends.service
-                c.after_pass.new.self.ends.service c.after_pass.ensures.kept.2
-                ((line_told (c.pass-passed.ensures.service s)).waits (c.after_pass.ensures.said.waiting w).0);
+            waited = both_kept (λ l. g.E.Client.Service.rests_writing (shows held.history) l.side)
+                (λ l. g.E.Client.Service.rests_reading (shows held.history)
+                (adapted_room (shows held.history) held.limits.window held.limits.turn)
+                l.side) (λ l p. MatchOption l.wire ⊥ (λ w. g.E.ServiceWire.Wire.past w p)) _ passed.service
+                after.service c.after_pass.ensures.kept.2
+                ((line_told (pass.service s)).waits (said.waiting w).0);
             framed =
                 subst (λ z. MatchOption z ⊤ (λ l. MatchOption l.wire ⊤ (λ w.
-                g.E.Client.Service.is_framed (adapted_room (shows c.args.self.now.hold.history) c.args.self.now.hold.limits.window
-                c.args.self.now.hold.limits.turn) l.side))) (sym c.after_pass.ensures.kept.2)
-                ((line_told (c.pass-passed.ensures.service s)).framed (c.after_pass.ensures.said.waiting w).0);
+                g.E.Client.Service.is_framed (adapted_room (shows held.history) held.limits.window
+                held.limits.turn) l.side))) (sym c.after_pass.ensures.kept.2)
+                ((line_told (pass.service s)).framed (said.waiting w).0);
           })
-          (λ s. elim ((c.pass-passed.ensures.next s).waits (c.after_pass.ensures.said.waiting w).0) [
+          (λ s. elim ((pass.next s).waits (said.waiting w).0) [
             | inl u ↦ inl u
             | inr v ↦ inr (record {
               begun = λ n b. v.0 (sym (ap g.E.Writer.Hop.gift (c.after_pass.ensures.same
-                  (c.pass-passed.ensures.any.idle (c.after_pass.ensures.said.waiting w).0)).0) ∙ n)
+                  (pass.any.idle (said.waiting w).0)).0) ∙ n)
                   (sym (ap g.E.Writer.Hop.gift (c.after_pass.ensures.same
-                  (c.pass-passed.ensures.any.idle (c.after_pass.ensures.said.waiting w).0)).1) ∙ b);
+                  (pass.any.idle (said.waiting w).0)).1) ∙ b);
               waited = of_either _ _ _ _ _ _ (ap g.E.Writer.Hop.gift (c.after_pass.ensures.same
-                  (c.pass-passed.ensures.any.idle (c.after_pass.ensures.said.waiting w).0)).1)
-                  (λ z. waits_kept (λ k. g.E.Writer.Hop.rests (shows c.args.self.now.hold.history) k) g.E.NextWire.Wire.past _ _
-                  c.pass-passed.new.self.ends.next c.after_pass.new.self.ends.next c.pass-passed.new.self.ends.next_wire
-                  c.after_pass.new.self.ends.next_wire (c.after_pass.ensures.same
-                  (c.pass-passed.ensures.any.idle (c.after_pass.ensures.said.waiting w).0)).0 c.after_pass.ensures.kept.3 z)
-                  (λ z. waits_kept (λ k. g.E.Writer.Hop.rests (shows c.args.self.now.hold.history) k) g.E.SourceWire.Wire.past _ _
-                  c.pass-passed.new.self.ends.back c.after_pass.new.self.ends.back c.pass-passed.new.self.ends.source_wire
-                  c.after_pass.new.self.ends.source_wire (c.after_pass.ensures.same
-                  (c.pass-passed.ensures.any.idle (c.after_pass.ensures.said.waiting w).0)).1 c.after_pass.ensures.kept.1 z)
+                  (pass.any.idle (said.waiting w).0)).1)
+                  (λ z. waits_kept (λ k. g.E.Writer.Hop.rests (shows held.history) k) g.E.NextWire.Wire.past _ _
+                  passed.next after.next passed.next_wire
+                  after.next_wire (c.after_pass.ensures.same
+                  (pass.any.idle (said.waiting w).0)).0 c.after_pass.ensures.kept.3 z)
+                  (λ z. waits_kept (λ k. g.E.Writer.Hop.rests (shows held.history) k) g.E.SourceWire.Wire.past _ _
+                  passed.back after.back passed.source_wire
+                  after.source_wire (c.after_pass.ensures.same
+                  (pass.any.idle (said.waiting w).0)).1 c.after_pass.ensures.kept.1 z)
                   v.1;
             })
           ]);
     })
     (λ n m. record {
-      bytes = moves_of g.E.SourceWire.Wire.past g.E.ServiceWire.Wire.past g.E.NextWire.Wire.past c.args.self.now.ends.source_wire
-          c.pass-passed.new.self.ends.source_wire c.after_pass.new.self.ends.source_wire
-          c.args.self.now.ends.service c.pass-passed.new.self.ends.service c.after_pass.new.self.ends.service c.args.self.now.ends.next_wire
-          c.pass-passed.new.self.ends.next_wire c.after_pass.new.self.ends.next_wire _ _ _ _ _ _ n
+      bytes = moves_of g.E.SourceWire.Wire.past g.E.ServiceWire.Wire.past g.E.NextWire.Wire.past ends.source_wire
+          passed.source_wire after.source_wire
+          ends.service passed.service after.service ends.next_wire
+          passed.next_wire after.next_wire _ _ _ _ _ _ n
           c.counts-before.ensures.source c.counts.ensures.source c.counts-before.ensures.service c.counts.ensures.service
           c.counts-before.ensures.next c.counts.ensures.next
-          c.pass-passed.ensures.served c.after_pass.ensures.kept.1 c.after_pass.ensures.kept.2 c.after_pass.ensures.kept.3
-          (c.after_pass.ensures.said.moved n m ∙ c.since-moved.ensures);
+          pass.served c.after_pass.ensures.kept.1 c.after_pass.ensures.kept.2 c.after_pass.ensures.kept.3
+          (said.moved n m ∙ c.since-moved.ensures);
       active = λ z p q r a b d.
           let o = (sym c.is_closed.ensures ∙ c.if-is_closed.false) in
           let e = m ∙ ap answers.Moved z in record {
             running = o;
             advances =
-                let w = waiting_not c.pass-passed.result.waiting (c.after_pass.ensures.said.active 0 e).0 in
+                let w = waiting_not c.pass-passed.result.waiting (said.active 0 e).0 in
                 let k = none_over _ 0 refl (moves_of g.E.SourceWire.Wire.past g.E.ServiceWire.Wire.past g.E.NextWire.Wire.past
-                c.args.self.now.ends.source_wire c.pass-passed.new.self.ends.source_wire c.pass-passed.new.self.ends.source_wire
-                c.args.self.now.ends.service c.pass-passed.new.self.ends.service c.pass-passed.new.self.ends.service
-                c.args.self.now.ends.next_wire c.pass-passed.new.self.ends.next_wire c.pass-passed.new.self.ends.next_wire _ _ _ _ _ _ 0
+                ends.source_wire passed.source_wire passed.source_wire
+                ends.service passed.service passed.service
+                ends.next_wire passed.next_wire passed.next_wire _ _ _ _ _ _ 0
                 c.counts-before.ensures.source c.counts.ensures.source c.counts-before.ensures.service c.counts.ensures.service
                 c.counts-before.ensures.next c.counts.ensures.next
-                c.pass-passed.ensures.served refl refl refl (c.after_pass.ensures.said.moved 0 e ∙ c.since-moved.ensures)) in
-                subst (λ h. Advances (may_step c.args.side) c.args.self.now.hold h) (sym c.after_pass.ensures.hold)
-                (by_side c.args.side (λ side. Advances (may_step side) c.args.self.now.hold c.pass-passed.new.self.hold)
-                (λ s. let v = (c.pass-passed.ensures.source s).active w p a in v.4 (k.0 p v.0 a v.1))
-                (λ s. some_line g.E.ServiceWire.Wire.past c.args.self.now.ends.service c.pass-passed.new.self.ends.service _ q b k.1
-                (λ n. false≢true (sym w ∙ (line_told (c.pass-passed.ensures.service s)).absent n))
-                ((line_told (c.pass-passed.ensures.service s)).active w (c.after_pass.ensures.said.active 0 e).1))
+                pass.served refl refl refl (said.moved 0 e ∙ c.since-moved.ensures)) in
+                subst (λ h. Advances (may_step c.args.side) held h) (sym c.after_pass.ensures.hold)
+                (by_side c.args.side (λ side. Advances (may_step side) held c.pass-passed.new.self.hold)
+                (λ s. let v = (pass.source s).active w p a in v.4 (k.0 p v.0 a v.1))
+                (λ s. some_line g.E.ServiceWire.Wire.past ends.service passed.service _ q b k.1
+                (λ n. false≢true (sym w ∙ (line_told (pass.service s)).absent n))
+                ((line_told (pass.service s)).active w (said.active 0 e).1))
                 (λ s. of_one _ _ _ _ (λ act. let v = act r d in v.4 (k.2 r v.0 d v.1)) (λ act. let v = act p a in v.4 (k.0 p v.0 a v.1))
-                ((c.pass-passed.ensures.next s).active w)));
+                ((pass.next s).active w)));
           };
     })
-    (λ b. let w = c.pass-passed.ensures.any.breaks (c.after_pass.ensures.said.broken b) in
-    let k = breaks_kept (λ l. g.E.Client.Service.fault l.side) c.args.self.now.pace.reused c.pass-passed.new.self.hold
-    c.after_pass.new.self.hold c.pass-passed.new.self.ends.service c.after_pass.new.self.ends.service c.after_pass.ensures.kept.2
+    (λ b. let w = pass.any.breaks (said.broken b) in
+    let k = breaks_kept (λ l. g.E.Client.Service.fault l.side) pace.reused c.pass-passed.new.self.hold
+    c.after_pass.new.self.hold passed.service after.service c.after_pass.ensures.kept.2
     c.after_pass.ensures.hold w.2 in
     record { of_service = w.0; running = sym c.is_closed.ensures ∙ c.if-is_closed.false; may = k.0; why = inr k.1 })
-    (λ outcome e. absurd (c.after_pass.ensures.said.unfinished outcome e))
+    (λ outcome e. absurd (said.unfinished outcome e))
 
 pub returns-then-is_closed-clause-answers : goal.returns-then-is_closed-clause-answers
 returns-then-is_closed-clause-answers g c =
+    let held = c.args.self.now.hold in
     let over = sym c.is_closed.ensures ∙ c.if-is_closed.true in
     let kept = c.closed_turn.ensures.kept in
     answer_on c.closed_turn.result _ _ c.closed_turn.ensures.answers
@@ -161,7 +172,7 @@ returns-then-is_closed-clause-answers g c =
       active = λ z p q r a b d.
           absurd (let k = none_over _ n z m.0 in
           let w = m.1 z in
-          by_point c.args.self.now.hold.history.plan.point ⊥
+          by_point held.history.plan.point ⊥
           (λ s. let v = w.0 s r d in v.4 (k.2 r v.0 d v.1))
           (λ s. let v = w.1 s p a in v.4 (k.0 p v.0 a v.1)));
     })
@@ -170,36 +181,46 @@ returns-then-is_closed-clause-answers g c =
       closed = over;
       ended = f.0;
       refusal = f.1;
-      done = λ d. done_told c.args.self.now.hold c.closed_turn.new.self.hold c.args.self.now.outcome c.args.self.now.told kept.0 over
+      done = λ d. done_told held c.closed_turn.new.self.hold c.args.self.now.outcome c.args.self.now.told kept.0 over
           (sym d ∙ f.0);
     })
 
 pub returns-then-is_late-clause-answers : goal.returns-then-is_late-clause-answers
-returns-then-is_late-clause-answers g c = record {
-  bytes = moves_none g.E.SourceWire.Wire.past g.E.ServiceWire.Wire.past g.E.NextWire.Wire.past c.args.self.now.ends.source_wire
-      c.fail_by.new.self.ends.source_wire
-      c.args.self.now.ends.service c.fail_by.new.self.ends.service c.args.self.now.ends.next_wire c.fail_by.new.self.ends.next_wire _ _ _ 0
-      c.counts-before.ensures.source c.counts-before.ensures.service c.counts-before.ensures.next c.fail_by.ensures.kept.0
-      c.fail_by.ensures.kept.1 c.fail_by.ensures.kept.2 refl;
-  active = λ z p q r a b d. record {
-    running = sym c.is_closed.ensures ∙ c.if-is_closed.false;
-    advances = fail_advances c.args.side c.args.self.now.hold c.fail_by.new.self.hold Deadline
-        (sym c.is_closed.ensures ∙ c.if-is_closed.false) c.fail_by.ensures.hold;
-  };
-}
+returns-then-is_late-clause-answers g c =
+    let ends = c.args.self.now.ends in
+    let failed = c.fail_by.new.self.ends in
+    let held = c.args.self.now.hold in
+    record {
+      bytes = moves_none g.E.SourceWire.Wire.past g.E.ServiceWire.Wire.past g.E.NextWire.Wire.past ends.source_wire
+          failed.source_wire
+          ends.service failed.service ends.next_wire failed.next_wire _ _ _ 0
+          c.counts-before.ensures.source c.counts-before.ensures.service c.counts-before.ensures.next c.fail_by.ensures.kept.0
+          c.fail_by.ensures.kept.1 c.fail_by.ensures.kept.2 refl;
+      active = λ z p q r a b d. record {
+        running = sym c.is_closed.ensures ∙ c.if-is_closed.false;
+        advances = fail_advances c.args.side held c.fail_by.new.self.hold Deadline
+            (sym c.is_closed.ensures ∙ c.if-is_closed.false) c.fail_by.ensures.hold;
+      };
+    }
 
 pub returns-clause-fails : goal.returns-clause-fails
-returns-clause-fails g c = λ o.
+returns-clause-fails g c =
+    let ends = c.args.self.now.ends in
+    let passed = c.pass-passed.new.self.ends in
+    let after = c.after_pass.new.self.ends in
+    let pace = c.args.self.now.pace in
+    let pass = c.pass-passed.ensures in
+    λ o.
     let why : (cause : Cause) → c.after_pass.new.self.outcome ≡ outcomes.Fail cause → c.pass-passed.result.failed ≡ Some cause =
     λ cause e. outcome_fails c.pass-passed.result.failed c.after_pass.new.self.outcome cause
-    (c.after_pass.ensures.outcome ∙ c.pass-passed.ensures.outcome) e in
+    (c.after_pass.ensures.outcome ∙ pass.outcome) e in
     record {
       refuses = λ cause e. c.after_pass.ensures.refuses cause (why cause e);
-      timely = λ e. elim (c.pass-passed.ensures.any.of_side Deadline (why Deadline e)) [
+      timely = λ e. elim (pass.any.of_side Deadline (why Deadline e)) [
         | inl b ↦ absurd b
         | inr m ↦ inr m
       ];
-      unstopped = λ e. elim (c.pass-passed.ensures.any.of_side Stopping (why Stopping e)) [
+      unstopped = λ e. elim (pass.any.of_side Stopping (why Stopping e)) [
         | inl b ↦ absurd b
         | inr m ↦ m
       ];
@@ -212,22 +233,22 @@ returns-clause-fails g c = λ o.
           (λ s. record {
             blames = λ a. blamed_kept g.E.Reader.Source g.E.SourceWire.Wire (lending old.hold old.ends.source old.ends.source_wire)
                 (lending mid.hold mid.ends.source mid.ends.source_wire) (lending new.hold new.ends.source new.ends.source_wire) cause
-                c.after_pass.ensures.kept.0 c.after_pass.ensures.kept.1 (((c.pass-passed.ensures.source s).blames cause f).0 a);
-            disagrees = ((c.pass-passed.ensures.source s).blames cause f).1;
-            reason = cause_kept (λ z fault. g.E.Reader.Source.has_reason fault z) _ _ _ c.pass-passed.new.self.ends.source
-                c.after_pass.new.self.ends.source (ap g.E.Reader.Source.fault c.after_pass.ensures.kept.0) c.after_pass.ensures.kept.0
-                ((c.pass-passed.ensures.source s).reason);
+                c.after_pass.ensures.kept.0 c.after_pass.ensures.kept.1 (((pass.source s).blames cause f).0 a);
+            disagrees = ((pass.source s).blames cause f).1;
+            reason = cause_kept (λ z fault. g.E.Reader.Source.has_reason fault z) _ _ _ passed.source
+                after.source (ap g.E.Reader.Source.fault c.after_pass.ensures.kept.0) c.after_pass.ensures.kept.0
+                ((pass.source s).reason);
           })
           (λ s. record {
-            held = λ n. none_some (sym (c.pass-passed.ensures.any.idle ((line_told (c.pass-passed.ensures.service s)).absent n)) ∙ f);
+            held = λ n. none_some (sym (pass.any.idle ((line_told (pass.service s)).absent n)) ∙ f);
             blames = line_blamed_kept g.E.Client.Service g.E.ServiceWire.Wire old.ends.service mid.ends.service new.ends.service cause
-                c.after_pass.ensures.kept.2 ((line_told (c.pass-passed.ensures.service s)).blames cause f);
-            unbroken = fails_kept g.E.Client.Service cause c.args.self.now.pace.reused (side_of c.args.self.now.ends.service)
-                c.pass-passed.new.self.hold c.after_pass.new.self.hold c.pass-passed.new.self.ends.service
-                c.after_pass.new.self.ends.service c.after_pass.ensures.hold c.after_pass.ensures.kept.2
-                ((line_told (c.pass-passed.ensures.service s)).unbroken cause f);
+                c.after_pass.ensures.kept.2 ((line_told (pass.service s)).blames cause f);
+            unbroken = fails_kept g.E.Client.Service cause pace.reused (side_of ends.service)
+                c.pass-passed.new.self.hold c.after_pass.new.self.hold passed.service
+                after.service c.after_pass.ensures.hold c.after_pass.ensures.kept.2
+                ((line_told (pass.service s)).unbroken cause f);
           })
-          (λ s. elim ((c.pass-passed.ensures.next s).blames cause f) [
+          (λ s. elim ((pass.next s).blames cause f) [
             | inl u ↦ inl (record { chosen = u.0; next_idle = u.1; back_idle = u.2; reason = u.3 })
             | inr (inl v) ↦ inr (inl (writer_kept g.E.Writer.Hop g.E.NextWire.Wire (lending old.hold old.ends.next old.ends.next_wire)
                 (lending mid.hold mid.ends.next mid.ends.next_wire) (lending new.hold new.ends.next new.ends.next_wire) cause
@@ -239,9 +260,11 @@ returns-clause-fails g c = λ o.
     }
 
 pub returns-then-is_broken-clause-fails : goal.returns-then-is_broken-clause-fails
-returns-then-is_broken-clause-fails g c = λ o.
+returns-then-is_broken-clause-fails g c =
+    let held = c.args.self.now.hold in
+    λ o.
     let never : (cause : Cause) → c.args.self.now.outcome ≡ outcomes.Fail cause → ⊥ =
-    λ cause e. false≢true (sym o ∙ failed_over c.args.self.now.hold.history c.args.self.now.outcome cause c.args.self.now.told e) in
+    λ cause e. false≢true (sym o ∙ failed_over held.history c.args.self.now.outcome cause c.args.self.now.told e) in
     record {
       fails = λ cause e. absurd (never cause e);
       refuses = λ cause e. absurd (never cause e);
@@ -250,10 +273,12 @@ returns-then-is_broken-clause-fails g c = λ o.
     }
 
 pub returns-then-is_late-clause-fails : goal.returns-then-is_late-clause-fails
-returns-then-is_late-clause-fails g c = λ o.
+returns-then-is_late-clause-fails g c =
+    let pace = c.args.self.now.pace in
+    λ o.
     let n = c.fail_by.new.self in
     let p = n.hold.history.plan.point in
-    let due : c.args.self.now.pace.last_moved + c.args.self.now.pace.deadline ≤ c.args.now = c.is_late.ensures.0 c.if-is_late.true in
+    let due : pace.last_moved + pace.deadline ≤ c.args.now = c.is_late.ensures.0 c.if-is_late.true in
     let of_it : (cause : Cause) → c.fail_by.new.self.outcome ≡ outcomes.Fail cause → Deadline ≡ cause =
     λ cause e. same_cause (sym c.fail_by.ensures.outcome ∙ e) in
     record {
@@ -266,9 +291,13 @@ returns-then-is_late-clause-fails g c = λ o.
 
 pub returns-clause-paces : goal.returns-clause-paces
 returns-clause-paces g c =
+    let ends = c.args.self.now.ends in
+    let passed = c.pass-passed.new.self.ends in
+    let after = c.after_pass.new.self.ends in
+    let pass = c.pass-passed.ensures in
     let a = c.after_pass.ensures in
-    let before = ap (λ (z : Pace). z.last_moved) c.pass-passed.ensures.pace in
-    let was = ap (λ (z : Pace). z.broken) c.pass-passed.ensures.pace in
+    let before = ap (λ (z : Pace). z.last_moved) pass.pace in
+    let was = ap (λ (z : Pace). z.broken) pass.pace in
     record {
       moment = elim a.clock.2 [
         | inl e ↦ inl (e ∙ before)
@@ -276,21 +305,21 @@ returns-clause-paces g c =
       ];
       clock = λ o. (
         c.since-moved.result,
-        moves_of g.E.SourceWire.Wire.past g.E.ServiceWire.Wire.past g.E.NextWire.Wire.past c.args.self.now.ends.source_wire
-            c.pass-passed.new.self.ends.source_wire c.after_pass.new.self.ends.source_wire
-            c.args.self.now.ends.service c.pass-passed.new.self.ends.service c.after_pass.new.self.ends.service
-            c.args.self.now.ends.next_wire c.pass-passed.new.self.ends.next_wire c.after_pass.new.self.ends.next_wire _ _ _ _ _ _
+        moves_of g.E.SourceWire.Wire.past g.E.ServiceWire.Wire.past g.E.NextWire.Wire.past ends.source_wire
+            passed.source_wire after.source_wire
+            ends.service passed.service after.service
+            ends.next_wire passed.next_wire after.next_wire _ _ _ _ _ _
             c.since-moved.result
             c.counts-before.ensures.source c.counts.ensures.source c.counts-before.ensures.service c.counts.ensures.service
             c.counts-before.ensures.next c.counts.ensures.next
-            c.pass-passed.ensures.served a.kept.1 a.kept.2 a.kept.3 c.since-moved.ensures,
+            pass.served a.kept.1 a.kept.2 a.kept.3 c.since-moved.ensures,
         λ z. a.clock.0 z ∙ before,
         a.clock.1,
         λ m e. a.said.moved m e,
       );
       still = λ w. a.clock.0 (a.said.waiting w).1 ∙ before;
       rests = λ k. absurd (false≢true (sym (sym c.is_closed.ensures ∙ c.if-is_closed.false) ∙ k));
-      limit = a.clock.3 ∙ ap (λ (z : Pace). z.deadline) c.pass-passed.ensures.pace;
+      limit = a.clock.3 ∙ ap (λ (z : Pace). z.deadline) pass.pace;
       marked = (
         λ t. elim (a.marked.0.0 t) [
           | inl b ↦ inl (sym was ∙ b)
@@ -301,7 +330,7 @@ returns-clause-paces g c =
           | inr s ↦ a.marked.0.1 (inr s)
         ],
       );
-      reused = a.marked.1 ∙ ap (λ (z : Pace). z.reused) c.pass-passed.ensures.pace;
+      reused = a.marked.1 ∙ ap (λ (z : Pace). z.reused) pass.pace;
     }
 
 pub returns-then-is_closed-clause-paces : goal.returns-then-is_closed-clause-paces
@@ -314,11 +343,14 @@ returns-then-is_closed-clause-closed g c = λ k. let e = c.closed_turn.ensures i
     record { hold = e.kept.0; outcome = e.kept.1; refusing = e.kept.2; finishes = e.finished; refuses = e.refuses }
 
 pub returns-then-is_late-clause-paces : goal.returns-then-is_late-clause-paces
-returns-then-is_late-clause-paces g c = paces_still _ _ _ _ _ (answers.Moved 0) c.fail_by.ensures.pace (λ b. absurd (moved_not_broken b))
+returns-then-is_late-clause-paces g c =
+    let ends = c.args.self.now.ends in
+    let failed = c.fail_by.new.self.ends in
+    paces_still _ _ _ _ _ (answers.Moved 0) c.fail_by.ensures.pace (λ b. absurd (moved_not_broken b))
     (λ o. (
-      moves_none g.E.SourceWire.Wire.past g.E.ServiceWire.Wire.past g.E.NextWire.Wire.past c.args.self.now.ends.source_wire
-          c.fail_by.new.self.ends.source_wire
-          c.args.self.now.ends.service c.fail_by.new.self.ends.service c.args.self.now.ends.next_wire c.fail_by.new.self.ends.next_wire _ _
+      moves_none g.E.SourceWire.Wire.past g.E.ServiceWire.Wire.past g.E.NextWire.Wire.past ends.source_wire
+          failed.source_wire
+          ends.service failed.service ends.next_wire failed.next_wire _ _
           _ 0
           c.counts-before.ensures.source c.counts-before.ensures.service c.counts-before.ensures.next c.fail_by.ensures.kept.0
           c.fail_by.ensures.kept.1 c.fail_by.ensures.kept.2 refl,
@@ -326,66 +358,72 @@ returns-then-is_late-clause-paces g c = paces_still _ _ _ _ _ (answers.Moved 0) 
     ))
 
 pub returns-then-is_broken-clause-paces : goal.returns-then-is_broken-clause-paces
-returns-then-is_broken-clause-paces g c = paces_still _ _ _ _ _ answers.Broken refl (λ b. (c.is_broken.ensures.0 c.if-is_broken.true).0)
+returns-then-is_broken-clause-paces g c =
+    let ends = c.args.self.now.ends in
+    paces_still _ _ _ _ _ answers.Broken refl (λ b. (c.is_broken.ensures.0 c.if-is_broken.true).0)
     (λ o. (
-      moves_none g.E.SourceWire.Wire.past g.E.ServiceWire.Wire.past g.E.NextWire.Wire.past c.args.self.now.ends.source_wire
-          c.args.self.now.ends.source_wire c.args.self.now.ends.service c.args.self.now.ends.service c.args.self.now.ends.next_wire
-          c.args.self.now.ends.next_wire _ _ _ 0
+      moves_none g.E.SourceWire.Wire.past g.E.ServiceWire.Wire.past g.E.NextWire.Wire.past ends.source_wire
+          ends.source_wire ends.service ends.service ends.next_wire
+          ends.next_wire _ _ _ 0
           c.counts-before.ensures.source c.counts-before.ensures.service c.counts-before.ensures.next refl refl refl refl,
       λ m e. absurd (moved_not_broken (sym e)),
     ))
 
 pub returns-clause-keeps : goal.returns-clause-keeps
-returns-clause-keeps g c = record {
-  running = λ o. record {
-    took = subst (λ h. TookBy (may_step c.args.side) c.args.self.now.hold h) (sym c.after_pass.ensures.hold)
-        (by_side c.args.side (λ side. TookBy (may_step side) c.args.self.now.hold c.pass-passed.new.self.hold)
-        (λ s. (c.pass-passed.ensures.source s).took) (λ s. (line_told (c.pass-passed.ensures.service s)).took)
-        (λ s. (c.pass-passed.ensures.next s).took));
-    others = for_side c.args.side _ _ _
-        (λ s. let a = c.pass-passed.ensures.apart_source s in record {
-          service = c.after_pass.ensures.kept.2 ∙ a.0;
-          next_wire = c.after_pass.ensures.kept.3 ∙ a.1;
-          few = paced_kept _ (λ x. x.received) c.pass-passed.new.self.hold c.after_pass.new.self.hold c.after_pass.ensures.hold
-              ((c.pass-passed.ensures.source s).paced);
-          writers = λ n. let w = c.after_pass.ensures.same (unfailed c.pass-passed.result.failed c.after_pass.new.self.outcome
-              (c.after_pass.ensures.outcome ∙ c.pass-passed.ensures.outcome) n) in record { next = w.0 ∙ a.2; back = w.1 ∙ a.3 };
-        })
-        (λ s. let a = c.pass-passed.ensures.apart_service s in record {
-          source = c.after_pass.ensures.kept.0 ∙ a.0;
-          source_wire = c.after_pass.ensures.kept.1 ∙ a.1;
-          next_wire = c.after_pass.ensures.kept.3 ∙ a.2;
-          few = paced_kept _ (λ x. x.adapted_received) c.pass-passed.new.self.hold c.after_pass.new.self.hold c.after_pass.ensures.hold
-              ((line_told (c.pass-passed.ensures.service s)).paced);
-          writers = λ n. let w = c.after_pass.ensures.same (unfailed c.pass-passed.result.failed c.after_pass.new.self.outcome
-              (c.after_pass.ensures.outcome ∙ c.pass-passed.ensures.outcome) n) in record { next = w.0 ∙ a.3; back = w.1 ∙ a.4 };
-        })
-        (λ s. let a = c.pass-passed.ensures.apart_next s in record {
-          source = c.after_pass.ensures.kept.0 ∙ a.0;
-          service = c.after_pass.ensures.kept.2 ∙ a.1;
-          one_wire = of_one _ _ _ _ (λ w. inl (c.after_pass.ensures.kept.1 ∙ w)) (λ w. inr (c.after_pass.ensures.kept.3 ∙ w))
-              ((c.pass-passed.ensures.next s).elsewhere);
-          other_wire = λ n.
-              let w = c.after_pass.ensures.same (unfailed c.pass-passed.result.failed c.after_pass.new.self.outcome
-              (c.after_pass.ensures.outcome ∙ c.pass-passed.ensures.outcome) n) in
-              of_either _ _ _ _ _ _ (ap g.E.Writer.Hop.gift w.1) (λ v. c.after_pass.ensures.kept.1 ∙ v)
-              (λ v. c.after_pass.ensures.kept.3 ∙ v) ((c.pass-passed.ensures.next s).elsewhere);
-        });
-    back = λ n m. let w = c.after_pass.ensures.writers.3 m in
-        by_side c.args.side (λ side. answers_user (shows c.args.self.now.hold.history)
-        (response_of g.E.Client.Service.is_response c.args.self.now.ends.service) ≡ true)
-        (λ s. absurd (idle_no_message _ n (sym (ap g.E.Writer.Hop.gift (c.pass-passed.ensures.apart_source s).3) ∙ w)))
-        (λ s. absurd (idle_no_message _ n (sym (ap g.E.Writer.Hop.gift (c.pass-passed.ensures.apart_service s).4) ∙ w)))
-        (λ s. (c.pass-passed.ensures.next s).way.0 n w);
-    next = λ n m. let w = c.after_pass.ensures.writers.2 m in
-        by_side c.args.side (λ side. answers_user (shows c.args.self.now.hold.history)
-        (response_of g.E.Client.Service.is_response c.args.self.now.ends.service) ≡ false)
-        (λ s. absurd (idle_no_message _ n (sym (ap g.E.Writer.Hop.gift (c.pass-passed.ensures.apart_source s).2) ∙ w)))
-        (λ s. absurd (idle_no_message _ n (sym (ap g.E.Writer.Hop.gift (c.pass-passed.ensures.apart_service s).3) ∙ w)))
-        (λ s. (c.pass-passed.ensures.next s).way.1 n w);
-  };
-  closed = λ k. absurd (false≢true (sym (sym c.is_closed.ensures ∙ c.if-is_closed.false) ∙ k));
-}
+returns-clause-keeps g c =
+    let ends = c.args.self.now.ends in
+    let held = c.args.self.now.hold in
+    let pass = c.pass-passed.ensures in
+    record {
+      running = λ o. record {
+        took = subst (λ h. TookBy (may_step c.args.side) held h) (sym c.after_pass.ensures.hold)
+            (by_side c.args.side (λ side. TookBy (may_step side) held c.pass-passed.new.self.hold)
+            (λ s. (pass.source s).took) (λ s. (line_told (pass.service s)).took)
+            (λ s. (pass.next s).took));
+        others = for_side c.args.side _ _ _
+            (λ s. let a = pass.apart_source s in record {
+              service = c.after_pass.ensures.kept.2 ∙ a.0;
+              next_wire = c.after_pass.ensures.kept.3 ∙ a.1;
+              few = paced_kept _ (λ x. x.received) c.pass-passed.new.self.hold c.after_pass.new.self.hold c.after_pass.ensures.hold
+                  ((pass.source s).paced);
+              writers = λ n. let w = c.after_pass.ensures.same (unfailed c.pass-passed.result.failed c.after_pass.new.self.outcome
+                  (c.after_pass.ensures.outcome ∙ pass.outcome) n) in record { next = w.0 ∙ a.2; back = w.1 ∙ a.3 };
+            })
+            (λ s. let a = pass.apart_service s in record {
+              source = c.after_pass.ensures.kept.0 ∙ a.0;
+              source_wire = c.after_pass.ensures.kept.1 ∙ a.1;
+              next_wire = c.after_pass.ensures.kept.3 ∙ a.2;
+              few = paced_kept _ (λ x. x.adapted_received) c.pass-passed.new.self.hold c.after_pass.new.self.hold c.after_pass.ensures.hold
+                  ((line_told (pass.service s)).paced);
+              writers = λ n. let w = c.after_pass.ensures.same (unfailed c.pass-passed.result.failed c.after_pass.new.self.outcome
+                  (c.after_pass.ensures.outcome ∙ pass.outcome) n) in record { next = w.0 ∙ a.3; back = w.1 ∙ a.4 };
+            })
+            (λ s. let a = pass.apart_next s in record {
+              source = c.after_pass.ensures.kept.0 ∙ a.0;
+              service = c.after_pass.ensures.kept.2 ∙ a.1;
+              one_wire = of_one _ _ _ _ (λ w. inl (c.after_pass.ensures.kept.1 ∙ w)) (λ w. inr (c.after_pass.ensures.kept.3 ∙ w))
+                  ((pass.next s).elsewhere);
+              other_wire = λ n.
+                  let w = c.after_pass.ensures.same (unfailed c.pass-passed.result.failed c.after_pass.new.self.outcome
+                  (c.after_pass.ensures.outcome ∙ pass.outcome) n) in
+                  of_either _ _ _ _ _ _ (ap g.E.Writer.Hop.gift w.1) (λ v. c.after_pass.ensures.kept.1 ∙ v)
+                  (λ v. c.after_pass.ensures.kept.3 ∙ v) ((pass.next s).elsewhere);
+            });
+        back = λ n m. let w = c.after_pass.ensures.writers.3 m in
+            by_side c.args.side (λ side. answers_user (shows held.history)
+            (response_of g.E.Client.Service.is_response ends.service) ≡ true)
+            (λ s. absurd (idle_no_message _ n (sym (ap g.E.Writer.Hop.gift (pass.apart_source s).3) ∙ w)))
+            (λ s. absurd (idle_no_message _ n (sym (ap g.E.Writer.Hop.gift (pass.apart_service s).4) ∙ w)))
+            (λ s. (pass.next s).way.0 n w);
+        next = λ n m. let w = c.after_pass.ensures.writers.2 m in
+            by_side c.args.side (λ side. answers_user (shows held.history)
+            (response_of g.E.Client.Service.is_response ends.service) ≡ false)
+            (λ s. absurd (idle_no_message _ n (sym (ap g.E.Writer.Hop.gift (pass.apart_source s).2) ∙ w)))
+            (λ s. absurd (idle_no_message _ n (sym (ap g.E.Writer.Hop.gift (pass.apart_service s).3) ∙ w)))
+            (λ s. (pass.next s).way.1 n w);
+      };
+      closed = λ k. absurd (false≢true (sym (sym c.is_closed.ensures ∙ c.if-is_closed.false) ∙ k));
+    }
 
 pub returns-then-is_closed-clause-keeps : goal.returns-then-is_closed-clause-keeps
 returns-then-is_closed-clause-keeps g c =
@@ -397,11 +435,12 @@ returns-then-is_closed-clause-keeps g c =
 
 pub returns-then-is_late-clause-keeps : goal.returns-then-is_late-clause-keeps
 returns-then-is_late-clause-keeps g c =
+    let held = c.args.self.now.hold in
     let k = c.fail_by.ensures.kept in
     let failed : HasNotFailed c.fail_by.new.self.outcome → ⊥ = λ n. n Deadline c.fail_by.ensures.outcome in
     record {
       running = λ o. record {
-        took = took_fail c.args.side c.args.self.now.hold c.fail_by.new.self.hold Deadline (sym c.is_closed.ensures ∙ c.if-is_closed.false)
+        took = took_fail c.args.side held c.fail_by.new.self.hold Deadline (sym c.is_closed.ensures ∙ c.if-is_closed.false)
             c.fail_by.ensures.hold;
         others = for_side c.args.side _ _ _
             (λ s. record { service = k.1; next_wire = k.2; few = c.fail_by.ensures.paced.0; writers = λ n. absurd (failed n) })
@@ -440,8 +479,11 @@ returns-then-is_broken-clause-keeps g c = record {
 }
 
 pub returns-clause-faultless : goal.returns-clause-faultless
-returns-clause-faultless g c = λ o f.
-    let p = c.pass-passed.ensures in
+returns-clause-faultless g c =
+    let pace_after = c.after_pass.new.self.pace in
+    let pass = c.pass-passed.ensures in
+    λ o f.
+    let p = pass in
     let a = c.after_pass.ensures in
     let mid = c.pass-passed.new.self in
     let n = not_failed c.pass-passed.result.failed _ p.any.over (ap (λ (h : Holding). (shows h.history).closed) (sym a.hold) ∙ o) in
@@ -450,12 +492,12 @@ returns-clause-faultless g c = λ o f.
           (λ s. (p.source s).sound n) (λ s. ap g.E.Reader.Source.fault (p.apart_service s).0 ∙ f.0)
           (λ s. ap g.E.Reader.Source.fault (p.apart_next s).0 ∙ f.0),
       λ b. ap of_line a.kept.2 ∙ (
-          let before = f.1 (sym (ap (λ (z : Pace). z.broken) p.pace) ∙ unmarked_before mid.pace.broken c.after_pass.new.self.pace.broken _
+          let before = f.1 (sym (ap (λ (z : Pace). z.broken) p.pace) ∙ unmarked_before mid.pace.broken pace_after.broken _
           a.marked.0 b) in
           by_side c.args.side (λ side. of_line mid.ends.service ≡ None)
           (λ s. ap of_line (p.apart_source s).0 ∙ before)
           (λ s. (line_told (p.service s)).sound n (unmarked_now c.pass-passed.result.broken mid.pace.broken
-          c.after_pass.new.self.pace.broken _ a.said.breaks a.marked.0 b) before)
+          pace_after.broken _ a.said.breaks a.marked.0 b) before)
           (λ s. ap of_line (p.apart_next s).1 ∙ before)),
       ap g.E.Writer.Hop.fault (a.same n).0 ∙ by_side c.args.side (λ side. g.E.Writer.Hop.fault mid.ends.next ≡ None)
           (λ s. ap g.E.Writer.Hop.fault (p.apart_source s).2 ∙ f.2) (λ s. ap g.E.Writer.Hop.fault (p.apart_service s).3 ∙ f.2)
@@ -477,11 +519,13 @@ pub returns-then-is_late-clause-faultless : goal.returns-then-is_late-clause-fau
 returns-then-is_late-clause-faultless g c = λ o f. absurd (false≢true (sym o ∙ c.fail_by.ensures.over))
 
 pub returns-clause-told : goal.returns-clause-told
-returns-clause-told g c = λ o s b n v.
+returns-clause-told g c =
+    let pass = c.pass-passed.ensures in
+    λ o s b n v.
     let m = unfailed c.pass-passed.result.failed c.after_pass.new.self.outcome
-    (c.after_pass.ensures.outcome ∙ c.pass-passed.ensures.outcome) n in
+    (c.after_pass.ensures.outcome ∙ pass.outcome) n in
     ap (λ (h : Holding). (shows h.history).ended) c.after_pass.ensures.hold
-    ∙ (c.pass-passed.ensures.source s).told m (subst (λ z. g.E.Reader.Source.is_over z) c.after_pass.ensures.kept.0 v)
+    ∙ (pass.source s).told m (subst (λ z. g.E.Reader.Source.is_over z) c.after_pass.ensures.kept.0 v)
 
 pub returns-then-is_closed-clause-told : goal.returns-then-is_closed-clause-told
 returns-then-is_closed-clause-told g c = λ o s b n v. absurd (false≢true (sym o ∙ (sym c.is_closed.ensures ∙ c.if-is_closed.true)))
@@ -493,4 +537,6 @@ pub returns-then-is_broken-clause-told : goal.returns-then-is_broken-clause-told
 returns-then-is_broken-clause-told g c = λ o s b n v. absurd (b refl)
 
 pub after_pass-requires-clause-over : goal.after_pass-requires-clause-over
-after_pass-requires-clause-over g c = c.pass-passed.ensures.any.over
+after_pass-requires-clause-over g c =
+    let pass = c.pass-passed.ensures in
+    pass.any.over

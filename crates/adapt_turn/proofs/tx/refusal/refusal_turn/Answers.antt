@@ -33,19 +33,23 @@ returns-then-is_some-clause-over g c =
     λ e. inr (wire_failed (g.K.Hop.fault c.args.hop.now) some c.requires.fault)
 
 pub returns-in-Ok-clause-fault : goal.returns-in-Ok-clause-fault
-returns-in-Ok-clause-fault g c = let n = c.in-Ok.ensures.turn.fault.sound _ refl in n ∙ sym (ap wire_fault n)
+returns-in-Ok-clause-fault g c =
+    let fault = c.in-Ok.ensures.turn.fault in
+    let n = fault.sound _ refl in n ∙ sym (ap wire_fault n)
 
 pub returns-in-Err-clause-over : goal.returns-in-Err-clause-over
 returns-in-Err-clause-over g c =
+    let fault = c.in-Err.ensures.turn.fault in
     let none : g.K.Hop.fault c.args.hop.now ≡ None = search rules in
-    λ e. inr (c.in-Err.ensures.turn.fault.stays _ refl ∙ ap (λ (f : RelayFault). Some f)
+    λ e. inr (fault.stays _ refl ∙ ap (λ (f : RelayFault). Some f)
     (first_failed _ _ c.in-Err.field-0 (λ m. c.requires.message (sym c.in-Err.ensures.gift ∙ m))
     (c.in-Err.ensures.reason none c.in-Err.field-0 refl)))
 
 pub returns-in-Err-clause-fault : goal.returns-in-Err-clause-fault
 returns-in-Err-clause-fault g c =
+    let fault = c.in-Err.ensures.turn.fault in
     let none : g.K.Hop.fault c.args.hop.now ≡ None = search rules in
-    let d = c.in-Err.ensures.turn.fault.stays _ refl ∙ ap (λ (f : RelayFault). Some f)
+    let d = fault.stays _ refl ∙ ap (λ (f : RelayFault). Some f)
     (first_failed _ _ c.in-Err.field-0 (λ m. c.requires.message (sym c.in-Err.ensures.gift ∙ m))
     (c.in-Err.ensures.reason none c.in-Err.field-0 refl)) in
     d ∙ sym (ap wire_fault d)

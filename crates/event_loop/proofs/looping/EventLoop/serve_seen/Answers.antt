@@ -8,7 +8,8 @@ use Rattle.event_loop.proofs.looping.EventLoop.serve_seen.Goals.{then-event, els
 
 pub loop-at-preserved : goal.loop-at-preserved
 loop-at-preserved g c =
-    let xs = c.args.self.now.reports.seen.items in
+    let reports = c.args.self.now.reports in
+    let xs = reports.seen.items in
     let same = c.loop-at.invariant.does.reports in
     let less : c.loop-at.at < length xs = subst (λ (n : ℕ). c.loop-at.at < n) (c.count-at-end.ensures) c.loop-at-test.true in
     let is : (d : Event) → c.get-event.result ≡ get_or xs c.loop-at.at d =
@@ -32,4 +33,6 @@ loop-at-preserved g c =
     ]
 
 pub loop-at-init : goal.loop-at-init
-loop-at-init g c = did_start g.K.Work c.args.self.now (served_none c.args.self.now.reports.seen.items c.args.self.now.ready, tt)
+loop-at-init g c =
+    let reports = c.args.self.now.reports in
+    did_start g.K.Work c.args.self.now (served_none reports.seen.items c.args.self.now.ready, tt)

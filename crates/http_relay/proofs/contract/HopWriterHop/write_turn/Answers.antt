@@ -6,7 +6,9 @@ use Rattle.http_relay.proofs.Gives.{as_gives, fails_giving}
 use Rattle.http_relay.proofs.contract.HopWriterHop.write_turn.Goals as goal
 
 pub returns-clause-gift : goal.returns-clause-gift
-returns-clause-gift g c = c.write_turn.ensures.turn.goes_on.gift
+returns-clause-gift g c =
+    let turn = c.write_turn.ensures.turn in
+    turn.goes_on.gift
 
 pub returns-clause-turn : goal.returns-clause-turn
 returns-clause-turn g c =
@@ -19,7 +21,8 @@ returns-clause-turn g c =
     (λ f e. subst (λ (r : Result Turn RelayFault). IfErr r (λ h. c.write_turn.new.self.fault ≡ Some h)) e o.keeps)
 
 pub returns-clause-reason : goal.returns-clause-reason
-returns-clause-reason g c = λ none fault e.
+returns-clause-reason g c =
     let t = c.write_turn.ensures.turn in
+    λ none fault e.
     fails_giving (shows c.args.state.now) c.args.self.now c.write_turn.new.self t.answer c.write_turn.result (t.fits none) t.goes_on.framing
     t.goes_on.gift fault e

@@ -11,30 +11,33 @@ use Rattle.trace_core.specs.declared.history.Event.{Event}
 
 pub returns-in-Err-clause-turn : goal.returns-in-Err-clause-turn
 returns-in-Err-clause-turn g c =
-    turn_refused (length c.args.out.now) c.args.self.now c.frame_raw.new.self (g.W.Wire.past c.args.wire.now) c.frame_raw.new.out
+    let framed = c.frame_raw.new.self in
+    turn_refused (length c.args.out.now) c.args.self.now framed (g.W.Wire.past c.args.wire.now) c.frame_raw.new.out
     c.in-Err.fault c.in-Err.ensures.err c.in-Err.ensures.refuses
 
 pub returns-then-has_ended-clause-turn : goal.returns-then-has_ended-clause-turn
 returns-then-has_ended-clause-turn g c =
+    let framed = c.frame_raw.new.self in
     let none : c.in-Ok.events.items ≡ [] = search rules in
     let t : Turn = record { events = c.in-Ok.events; waiting = true } in
     let long : length c.frame_raw.new.out ≡ length c.args.out.now = c.frame_raw.auto.out in
-    let rests : (c.frame_raw.new.self.body.ended ≡ true) ⊎ (length c.args.out.now ≡ 0) = elim c.then-has_ended.branch [
+    let rests : (framed.body.ended ≡ true) ⊎ (length c.args.out.now ≡ 0) = elim c.then-has_ended.branch [
       | then-has_ended-via-then-has_ended w ↦ inl (sym c.has_ended.ensures ∙ w.if-has_ended.true)
       | then-has_ended-via-else-has_ended+then-is_empty w ↦
           inr (sym long ∙ eqb-true (length c.frame_raw.new.out) 0 (sym w.is_empty-else-has_ended.ensures ∙ w.if-is_empty.true))
     ] in
-    turn_idle (length c.args.out.now) c.args.self.now c.frame_raw.new.self (g.W.Wire.past c.args.wire.now) c.frame_raw.new.out t
+    turn_idle (length c.args.out.now) c.args.self.now framed (g.W.Wire.past c.args.wire.now) c.frame_raw.new.out t
     c.in-Ok.ensures.reads c.in-Ok.ensures.ends c.in-Ok.ensures.room refl none (c.in-Ok.ensures.waits none) rests
 
 pub returns-clause-turn : goal.returns-clause-turn
 returns-clause-turn g c =
+    let framed = c.frame_raw.new.self in
     let none : c.in-Ok.events.items ≡ [] = search rules in
-    let still : SideReads c.args.self.now c.frame_raw.new.self [] [] [] false =
-    subst (λ (es : List Event). SideReads c.args.self.now c.frame_raw.new.self es [] (take (in_sum es) c.frame_raw.new.out) false) none
+    let still : SideReads c.args.self.now framed [] [] [] false =
+    subst (λ (es : List Event). SideReads c.args.self.now framed es [] (take (in_sum es) c.frame_raw.new.out) false) none
     c.in-Ok.ensures.reads in
-    let going : c.frame_raw.new.self.body.ended ≡ false = search rules in
-    turn_behind (length c.args.out.now) c.args.self.now c.frame_raw.new.self c.read_wire.new.self (g.W.Wire.past c.args.wire.now)
+    let going : framed.body.ended ≡ false = search rules in
+    turn_behind (length c.args.out.now) c.args.self.now framed c.read_wire.new.self (g.W.Wire.past c.args.wire.now)
     (g.W.Wire.past c.read_wire.new.wire) c.read_wire.new.out c.read_wire.result still going
-    (subst (λ (n : ℕ). ReadTurn n c.frame_raw.new.self c.read_wire.new.self (g.W.Wire.past c.args.wire.now)
+    (subst (λ (n : ℕ). ReadTurn n framed c.read_wire.new.self (g.W.Wire.past c.args.wire.now)
     (g.W.Wire.past c.read_wire.new.wire) c.read_wire.new.out c.read_wire.result) c.frame_raw.auto.out c.read_wire.ensures.turn)

@@ -7,23 +7,26 @@ use Rattle.http_relay.proofs.side.SourceSide.frame_raw.Goals as goal
 
 pub returns-in-Ok-clause-reads : goal.returns-in-Ok-clause-reads
 returns-in-Ok-clause-reads c =
+    let before = c.args.self.now in
     let new : SourceSide = record {
-      alloc = c.args.self.now.alloc;
-      asks = c.args.self.now.asks;
-      head = c.args.self.now.head;
-      head_fault = c.args.self.now.head_fault;
+      alloc = before.alloc;
+      asks = before.asks;
+      head = before.head;
+      head_fault = before.head_fault;
       body = c.frame.new.self;
       raw = c.advance.new.self;
-      judged = c.args.self.now.judged;
-      interims = c.args.self.now.interims;
-      fault = c.args.self.now.fault;
+      judged = before.judged;
+      interims = before.interims;
+      fault = before.fault;
     } in
-    framed_raw c.args.self.now new c.in-Ok.framed.events.items c.in-Ok.framed.used
+    framed_raw before new c.in-Ok.framed.events.items c.in-Ok.framed.used
     (take (in_sum c.in-Ok.framed.events.items) c.frame.new.out) false
     (record { asks = refl; head = refl; way = c.in-Ok.ensures.framing })
-    (subst (λ (t : List ℕ). BodyReads c.args.self.now.body c.frame.new.self c.in-Ok.framed.events.items (take c.in-Ok.framed.used t)
+    (subst (λ (t : List ℕ). BodyReads before.body c.frame.new.self c.in-Ok.framed.events.items (take c.in-Ok.framed.used t)
     (take (in_sum c.in-Ok.framed.events.items) c.frame.new.out) false) c.as_slice.ensures c.in-Ok.ensures.reads)
     c.advance.ensures.items
 
 pub returns-in-Ok-clause-kept : goal.returns-in-Ok-clause-kept
-returns-in-Ok-clause-kept c = omega (arith, ap length c.advance.ensures.items, length-drop c.in-Ok.framed.used c.args.self.now.raw.items)
+returns-in-Ok-clause-kept c =
+    let before = c.args.self.now in
+    omega (arith, ap length c.advance.ensures.items, length-drop c.in-Ok.framed.used before.raw.items)

@@ -21,6 +21,7 @@ use Rattle.icap_server.proofs.side.ServerSide.judge_head.Goals.{then-call-eq0+in
 pub returns-in_ok-refuse-in-Refused-clause-served : goal.returns-in_ok-refuse-in-Refused-clause-served
 returns-in_ok-refuse-in-Refused-clause-served c =
     let old = c.args.self.now in
+    let refused = c.refuse.new.self in
     let new = c.if-had-eq0.self in
     let s = shown old.settings in
     let i = old.input.items in
@@ -41,7 +42,7 @@ returns-in_ok-refuse-in-Refused-clause-served c =
     let text = c.in_ok-refuse-in-Refused.ensures.text ∙ ap (λ x. c.args.out.now.items ++ error_text x status) came.settings in
     served_at c.args.out.now.items (error_text s status) c.requires.stage c.in_ok-refuse-in-Refused.ensures.stage refl refl
     (c.refuse.ensures.settings ∙ came.settings) (take_all (length piece) piece (omega arith)) text
-    (head_refused s status i c.refuse.new.self.input.items old.body.items c.refuse.new.self.body.items piece came.taken came.rest came.cut
+    (head_refused s status i refused.input.items old.body.items refused.body.items piece came.taken came.rest came.cut
     (subst P c.in-Refused.is came.is))
 
 pub returns-in_ok-put_options-in-Describes-clause-served : goal.returns-in_ok-put_options-in-Describes-clause-served
@@ -126,8 +127,9 @@ returns-else-had-eq0-2-clause-served c =
     (head_more s i old.body.items new.body.items piece (subst S all stands))
 
 pub returns-in_ok-put_options-in-Describes-clause-moves : goal.returns-in_ok-put_options-in-Describes-clause-moves
-returns-in_ok-put_options-in-Describes-clause-moves c = λ h.
+returns-in_ok-put_options-in-Describes-clause-moves c =
     let old = c.args.self.now in
+    λ h.
     let new = c.if-had-eq0.self in
     let s = shown old.settings in
     let i = old.input.items in
@@ -152,8 +154,9 @@ returns-in_ok-put_options-in-Describes-clause-moves c = λ h.
     came.cut judged used h.2.text h.2.due (subst Q c.requires.stage h.2.at)).1
 
 pub returns-after-call-eq0-clause-moves : goal.returns-after-call-eq0-clause-moves
-returns-after-call-eq0-clause-moves c = λ h.
+returns-after-call-eq0-clause-moves c =
     let old = c.args.self.now in
+    λ h.
     let new = c.if-had-eq0.self in
     let s = shown old.settings in
     let i = old.input.items in

@@ -7,12 +7,14 @@ use Rattle.proxy_rules.proofs.running.Running.retry.Goals as goal
 
 pub invariant_of-self : goal.invariant_of-self
 invariant_of-self g c =
+    let retried = c.retry.new.self.ends in
+    let before = c.args.self.now.tx in
     let e = c.retry.ensures in
     record {
       runs = ∥∥₁_map c.args.self.now.runs (λ r. record {
-        start = anew_on (wire_of c.retry.new.self.ends.service) r.start;
+        start = anew_on (wire_of retried.service) r.start;
         since_is = since_anew g.W.SourceWire.Wire g.W.ServiceWire.Wire g.W.NextWire.Wire r.start _ _ _ _
-            c.args.self.now.tx.ends.service c.retry.new.self.ends.service
+            before.ends.service retried.service
             _ _ e.anew e.others.0 e.others.1 r.since_is;
         faultless_is = λ going. e.faultless (r.faultless_is c.requires.may.0);
         refused_is = λ over. not_both _ over (retry_open _ _ c.seen.ensures.tied c.requires.may e.hold);
@@ -20,7 +22,10 @@ invariant_of-self g c =
     }
 
 pub returns-clause-lasts : goal.returns-clause-lasts
-returns-clause-lasts g c = λ s h.
+returns-clause-lasts g c =
+    let retried = c.retry.new.self.ends in
+    let before = c.args.self.now.tx in
+    λ s h.
     let e = c.retry.ensures in
     since_anew g.W.SourceWire.Wire g.W.ServiceWire.Wire g.W.NextWire.Wire s _ _ _ _
-    c.args.self.now.tx.ends.service c.retry.new.self.ends.service _ _ e.anew e.others.0 e.others.1 h
+    before.ends.service retried.service _ _ e.anew e.others.0 e.others.1 h

@@ -59,11 +59,13 @@ moving_on stays rounds frees held holds deeds (Moving point offered) old moved p
 moving_on stays rounds frees held holds deeds _ old moved passes gives takes does = cc
 
 pub returns-in-Step-clause-same : goal.returns-in-Step-clause-same
-returns-in-Step-clause-same g c = λ moved moving.
+returns-in-Step-clause-same g c =
+    let course = c.args.self.now.course in
+    λ moved moving.
     let held = c.args.self.now.holdings in
     let holds = c.step.new.self.holdings in
     moving_on g.H.Holder.stays (λ held turned later round. g.H.Effects.rounds held turned c.args.out.now later c.args.at.now round)
-    (λ turned usable. g.H.Holder.frees turned holds usable) held holds _ c.args.self.now.course.phase c.args.self.now.course moved
+    (λ turned usable. g.H.Holder.frees turned holds usable) held holds _ course.phase course moved
     (λ gated. passed (λ later passes. g.H.Effects.lets_pass c.args.out.now later c.args.at.now passes) _ _ _ _ _ _ _ _ gated moving)
-    (λ given. went_back _ _ _ (g.H.Holder.has_line held) c.args.self.now.course c.step.new.self.course given)
+    (λ given. went_back _ _ _ (g.H.Holder.has_line held) course c.step.new.self.course given)
     (λ turned. took_turns _ _ _ _ _ _ _ _ _ _ _ turned moving) c.step.ensures.does
