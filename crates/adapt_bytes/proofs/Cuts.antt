@@ -4,13 +4,16 @@ use Rattle.std.proofs.Common.{take-append-drop, length-take-le, get_or-take}
 use Rattle.std.proofs.lemmas.List.{drop_more}
 use Rattle.adapt_bytes.specs.Text.{Lacks}
 
+-- a text that lacks a byte lacks it after its first byte too
 pub Lacks-tail : (c b : ℕ) (behind : List ℕ) → Lacks c (b ∷ behind) → Lacks c behind
 Lacks-tail c b behind lacks k inside = lacks (suc k) (omega arith)
 
+-- the text after its first byte, and nothing of an empty one
 tail_of : List ℕ → List ℕ
 tail_of [] = []
 tail_of (b ∷ behind) = behind
 
+-- two cuts of one text at a byte that neither prefix has are the same cut
 pub first_cut : (c : ℕ) (a b x y : List ℕ) → Lacks c a → Lacks c b → a ++ c ∷ x ≡ b ++ c ∷ y → (a ≡ b) × (x ≡ y)
 first_cut c [] [] x y na nb e = (refl, cc)
 first_cut c [] (b ∷ behind) x y na nb e = let same : b ≡ c = cc in absurd (nb 0 (omega arith) same)
@@ -27,6 +30,7 @@ pub cut_here : (text : List ℕ) (at c : ℕ) → at < length text → get_or te
 cut_here text at c inside is =
     sym (take-append-drop at text) ∙ ap (λ t. take at text ++ t) (drop_more text at 0 inside ∙ ap (λ b. b ∷ drop (at + 1) text) is)
 
+-- a prefix lacks a byte that stands at none of its places
 pub Lacks-take : (c : ℕ) (text : List ℕ) (at : ℕ) → at ≤ length text → ((k : ℕ) → k < at → get_or text k 0 ≢ c) → Lacks c (take at text)
 Lacks-take c text at fits before k inside is =
     let len = length-take-le at text fits in

@@ -12,6 +12,7 @@ use Rattle.std.proofs.lemmas.Int.Digits.{digits_value_is, all_below_base_digits_
 use Rattle.adapt_bytes.specs.Numeral.{Writes, numeral, HasNoLeadingZero, IsLowerCase}
 use Rattle.adapt_bytes.proofs.Written.{numeral_zero, numeral_more, zero_value}
 
+-- a text writes at most one number in a base
 pub spells_one : (base m n : ℕ) (text : List ℕ) → Writes base text m → Writes base text n → m ≡ n
 spells_one base m n text v w = sym v.value ∙ w.value
 
@@ -31,6 +32,7 @@ digits_behind base n (d ∷ ds) two pos below =
     digits_behind base (n * base + d) ds two grown below.1
     ∙ ap (λ l. l ++ ds) (one_behind base n d two below.0 grown) ∙ append_assoc (digits_of base n) (d ∷ []) ds
 
+-- the values of a text of digits are all below the base
 values_below : (base : ℕ) (text : List ℕ) → AllDigits base text → AllBelowBase base (map digit_value text)
 values_below base [] h = tt
 values_below base (c ∷ text) h = (h.0, values_below base text h.1)
@@ -39,6 +41,7 @@ values_below base (c ∷ text) h = (h.0, values_below base text h.1)
 digit_again : (c : ℕ) → digit_value c < 16 → to_ascii_lowercase c ≡ c → digit_char (digit_value c) ≡ c
 digit_again c below lower = grind (arith, nat_tests)
 
+-- digits without upper case, in a base up to 16, are written again as they were read
 digits_again : (base : ℕ) (text : List ℕ) → base ≤ 16 → AllDigits base text → IsLowerCase text
     → map digit_char (map digit_value text) ≡ text
 digits_again base [] high h lower = refl
@@ -61,6 +64,7 @@ first_some base c text two pos h =
     digits_behind base (0 * base + digit_value c) (map digit_value text) two (omega (arith, zero-mul base)) (values_below base text h.1)
     ∙ ap (λ l. l ++ map digit_value text) one
 
+-- in a base up to 16, a text in lower case without a leading zero that writes a number is its numeral
 pub only_spelling : (base n : ℕ) (text : List ℕ) → 2 ≤ base → base ≤ 16 → Writes base text n → HasNoLeadingZero text → IsLowerCase text
     → text ≡ numeral base n
 only_spelling base n [] two high w short lower = absurd (omega (arith, w.digits.0))
@@ -85,9 +89,11 @@ only_spelling base n (c ∷ text) two high w short lower = by_first (digit_value
 not_zero : (d : ℕ) → 0 < d → d < 16 → digit_char d ≢ 48
 not_zero d pos below is = grind (arith, nat_tests)
 
+-- a digit below 16 is written without upper case
 digit_lower : (d : ℕ) → d < 16 → to_ascii_lowercase (digit_char d) ≡ digit_char d
 digit_lower d below = grind (arith, nat_tests)
 
+-- digits of a base up to 16 are written in lower case
 digits_lower : (base : ℕ) (ds : List ℕ) → base ≤ 16 → AllBelowBase base ds → IsLowerCase (map digit_char ds)
 digits_lower base [] high h = refl
 digits_lower base (d ∷ ds) high h =
@@ -98,10 +104,12 @@ abbrev first_of : List ℕ → ℕ
 first_of [] = 0
 first_of (b ∷ text) = b
 
+-- digits of which the first isn't 0 are written with another first byte than the digit 0
 starts_high : (base : ℕ) (ds behind : List ℕ) → base ≤ 16 → AllBelowBase base ds → 0 < get_or ds 0 0 → map digit_char ds ≢ 48 ∷ behind
 starts_high base [] behind high h pos is = absurd (omega (arith, pos))
 starts_high base (d ∷ ds) behind high h pos is = not_zero d pos (omega (arith, h.0)) (ap first_of is)
 
+-- a numeral of base 2 to 16 has no leading zero and no upper case
 pub short_spelling : (base n : ℕ) → 2 ≤ base → base ≤ 16 → HasNoLeadingZero (numeral base n) × IsLowerCase (numeral base n)
 short_spelling base zero two high = rw (numeral_zero base) (inl refl, refl)
 short_spelling base (suc n) two high =

@@ -28,6 +28,7 @@ pub record Closes (h : Holding) (event : Event) (bytes : List ℕ) (k : Holding)
   pub tied : IsTied k
   pub is : k ≡ moved h event bytes
 
+-- a holding that equals a step which is tied is tied, and is that step
 closes : (h : Holding) (event : Event) (bytes : List ℕ) (k : Holding) → IsTied (moved h event bytes) → k ≡ moved h event bytes
     → Closes h event bytes k
 closes h event bytes k t e = record { tied = subst (λ (x : Holding). IsTied x) (sym e) t; is = e }
@@ -36,23 +37,29 @@ abbrev record_of : History → Limits → Span → Span → ℕ → ℕ → Hold
 record_of history limits original adapted held claim =
     record { history = history; limits = limits; original = original; adapted = adapted; held = held; claim = claim }
 
+-- holdings with the same parts are the same
 of_parts : {a b : History} {c d : Limits} {e f g i : Span} {j k l m : ℕ} → a ≡ b → c ≡ d → e ≡ f → g ≡ i → j ≡ k → l ≡ m
     → record_of a c e g j l ≡ record_of b d f i k m
 of_parts e1 e2 e3 e4 e5 e6 = cc
 
+-- holdings whose six fields are the same are the same
 holding_is : (a b : Holding) → a.history ≡ b.history → a.limits ≡ b.limits → a.original ≡ b.original → a.adapted ≡ b.adapted
     → a.held ≡ b.held → a.claim ≡ b.claim → a ≡ b
 holding_is a b e1 e2 e3 e4 e5 e6 = of_parts e1 e2 e3 e4 e5 e6
 
+-- adapted bytes leave the first original place that is held as it was
 same_original-ad : (x : Seen) (n : ℕ) → original_from (after x (Ad n)) ≡ original_from x
 same_original-ad x n = grind (arith, nat_tests)
 
+-- adapted bytes that come in an open history leave the first adapted place that is held as it was
 same_adapted-ad : (x : Seen) (n : ℕ) → x.closed ≡ false → adapted_from (after x (Ad n)) ≡ adapted_from x
 same_adapted-ad x n c = grind (arith, nat_tests)
 
+-- bytes of the source leave the first adapted place that is held as it was
 same_adapted-in : (x : Seen) (n : ℕ) → adapted_from (after x (In n)) ≡ adapted_from x
 same_adapted-in x n = grind (arith, nat_tests)
 
+-- a tape that takes no byte and keeps its base stays as it was
 then_from-base-none : (t : Span) (place : ℕ) → place ≡ t.base → then_from t [] place ≡ t
 then_from-base-none t place e = then_from-none t place ∙ from_base t place e
 
@@ -64,6 +71,7 @@ pub record KeepsRoom (held claim end n : ℕ) : Type 0 where
 
 -- Ad, kept.
 
+-- adapted bytes that may come and fit the claim find room on their tape and in the reservation
 pub ad_room : (h : Holding) (bytes : List ℕ) (event : Event) → IsTied h → event ≡ Ad (length bytes)
     → MayFollow h.history.plan h.history.events event → held_places (shows_then h.history event) ≤ h.claim
     → KeepsRoom h.held h.claim (span_end h.adapted) (length bytes)
@@ -85,6 +93,7 @@ ad_room h bytes event t e = subst (λ (ev : Event). MayFollow h.history.plan h.h
         let came = n.came in
         record { some = m.1.2.0; room = omega arith; fits = omega arith }
 
+-- adapted bytes kept at the end of their tape are one step of what was held
 pub keeps_adapted : (h : Holding) (bytes : List ℕ) (event : Event) (state : History) (store : Stock) → IsTied h
     → event ≡ Ad (length bytes)
     → store ≡ record {
@@ -150,6 +159,7 @@ keeps_adapted h bytes event state store t e se =
 
 -- In, kept.
 
+-- bytes of a kept original that may come and fit the claim find room on its tape and in the reservation
 pub in_room : (h : Holding) (bytes : List ℕ) (event : Event) → IsTied h → keeps_original (shows h.history) ≡ true
     → event ≡ In (length bytes)
     → MayFollow h.history.plan h.history.events event → held_places (shows_then h.history event) ≤ h.claim
@@ -172,6 +182,7 @@ in_room h bytes event t k e = subst (λ (ev : Event). MayFollow h.history.plan h
         let came = n.received in
         record { some = m.1.1.0; room = omega arith; fits = omega arith }
 
+-- bytes of a kept original put at the end of its tape are one step of what was held
 pub keeps_original_bytes : (h : Holding) (bytes : List ℕ) (event : Event) (state : History) (store : Stock) → IsTied h
     → keeps_original (shows h.history) ≡ true
     → event ≡ In (length bytes)
@@ -239,6 +250,7 @@ keeps_original_bytes h bytes event state store t k e se =
 
 -- In, dropped.
 
+-- bytes of the source that are dropped, with the tape's base moved on, are one step of what was held
 pub drops_original : (h : Holding) (bytes : List ℕ) (event : Event) (state : History) (store : Stock) → IsTied h
     → IsIn event → Brings event bytes → keeps_original (shows h.history) ≡ false
     → MayFollow h.history.plan h.history.events event
@@ -303,20 +315,24 @@ none_to_drop h t c keeps =
 
 -- All other events.
 
+-- an event that has no bytes brings the original none
 none_in : (event : Event) → original_in event [] ≡ []
 none_in (In n) = refl
 none_in _ = refl
 
+-- an event that has no bytes brings the adapted body none
 none_ad : (event : Event) → adapted_in event [] ≡ []
 none_ad (Ad n) = refl
 none_ad _ = refl
 
+-- a step without bytes leaves of the original the bytes from the first place that is held
 moved-original : (h : Holding) (event : Event) → (moved h event []).original
     ≡ span_from h.original (original_from (shows_then h.history event))
 moved-original h event =
     ap (λ (bs : List ℕ). then_from h.original bs (original_from (shows_then h.history event))) (none_in event)
     ∙ then_from-none h.original (original_from (shows_then h.history event))
 
+-- a step without bytes leaves of the adapted body the bytes from the first place that is held
 moved-adapted : (h : Holding) (event : Event) → (moved h event []).adapted ≡ span_from h.adapted (adapted_from (shows_then h.history event))
 moved-adapted h event =
     ap (λ (bs : List ℕ). then_from h.adapted bs (adapted_from (shows_then h.history event))) (none_ad event)
@@ -336,6 +352,7 @@ held_after h event held t b m he =
     let q = t.held in
     omega arith
 
+-- an event that brings no bytes, with both tapes cut and the claim set, is one step of what was held
 pub moves_on : (h : Holding) (event : Event) (state : History) (store : Stock) → IsTied h
     → BringsNone event
     → MayFollow h.history.plan h.history.events event
@@ -362,15 +379,18 @@ moves_on h event state store t b m st oe ae he ce =
 
 -- What is read of a history once it has been put into short form.
 
+-- a history with one more event shows, in its short form too, what it does once that event stands
 pub then_shows : (h : Holding) (event : Event) (state : History) → IsTied h → MayFollow h.history.plan h.history.events event
     → state ≡ history_then h.history event → shows state ≡ shows_then h.history event
 then_shows h event state t m st =
     ap (λ (x : History). shows x) st ∙ (norm-shows h.history.plan (event ∷ h.history.events) (m, t.legal)).same
 
+-- the range of original places held is the same by the short form of the history after a step
 pub held_then : (h : Holding) (event : Event) (state : History) (r : ℕ × ℕ) → IsTied h → MayFollow h.history.plan h.history.events event
     → state ≡ history_then h.history event → r ≡ held_original (shows state) → r ≡ held_original (shows_then h.history event)
 held_then h event state r t m st e = e ∙ ap held_original (then_shows h event state t m st)
 
+-- the range of adapted places held is the same by the short form of the history after a step
 pub held_adapted_then : (h : Holding) (event : Event) (state : History) (r : ℕ × ℕ) → IsTied h
     → MayFollow h.history.plan h.history.events event
     → state ≡ history_then h.history event → r ≡ held_adapted (shows state) → r ≡ held_adapted (shows_then h.history event)
@@ -382,6 +402,7 @@ pub record Cuts (t : Span) (place : ℕ) : Type 0 where
   pub low : t.base ≤ place
   pub high : place ≤ span_end t
 
+-- after a step that brings no bytes the original is held from a place within its tape
 pub original_cuts : (h : Holding) (event : Event) (state : History) (r : ℕ × ℕ) → IsTied h → BringsNone event
     → MayFollow h.history.plan h.history.events event
     → state ≡ history_then h.history event → r ≡ held_original (shows state) → Cuts h.original r.0
@@ -392,6 +413,7 @@ original_cuts h event state r t b m st e =
     let low = n.original_low in let high = n.original_high in let all = n.received in
     record { low = omega arith; high = omega arith }
 
+-- after a step that brings no bytes the adapted body is held from a place within its tape
 pub adapted_cuts : (h : Holding) (event : Event) (state : History) (r : ℕ × ℕ) → IsTied h → BringsNone event
     → MayFollow h.history.plan h.history.events event
     → state ≡ history_then h.history event → r ≡ held_adapted (shows state) → Cuts h.adapted r.0
@@ -408,6 +430,7 @@ pub record Places (t : Span) (place : ℕ) : Type 0 where
   pub low : t.base ≤ place
   pub small : place < 2 ^ 62
 
+-- after a step the end of the held original isn't before its tape's base, and is below the limit of counts
 pub end_of_original : (h : Holding) (event : Event) (state : History) (r : ℕ × ℕ) → IsTied h
     → MayFollow h.history.plan h.history.events event
     → state ≡ history_then h.history event → r ≡ held_original (shows state) → Places h.original r.1
@@ -422,6 +445,7 @@ end_of_original h event state r t m st e =
     let small = sy.small in
     record { low = omega arith; small = omega arith }
 
+-- what is left on the tapes after a step without bytes fits the claim after it
 pub fits_after : (h : Holding) (event : Event) (state : History) (held : ℕ) → IsTied h → BringsNone event
     → MayFollow h.history.plan h.history.events event
     → state ≡ history_then h.history event
@@ -439,6 +463,7 @@ pub record Some_bytes (event : Event) : Type 0 where
   pub bytes : List ℕ
   pub brings : Brings event bytes
 
+-- for an event of the source there are bytes as many as it counts
 pub some_bytes : (event : Event) → IsIn event → Some_bytes event
 some_bytes (In n) i = record { bytes = replicate n 0; brings = length-replicate n 0 }
 some_bytes End i = elim i [ ]
@@ -455,6 +480,7 @@ some_bytes (Usr n) i = elim i [ ]
 some_bytes Done i = elim i [ ]
 some_bytes (Fail cause) i = elim i [ ]
 
+-- a hold whose fields are one step of what it held took that event
 pub took : (h old k : Holding) (event : Event) (bytes : List ℕ) → h ≡ old → MayFollow h.history.plan h.history.events event
     → Closes h event bytes k → Took old event bytes k
 took h old k event bytes v m c = subst (λ (x : Holding). Took x event bytes k) v (m, c.is)

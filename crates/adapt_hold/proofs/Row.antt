@@ -24,6 +24,7 @@ use Rattle.adapt_hold.proofs.Tied.{brings, brings_none, moved-tied, still_fits, 
 use Rattle.adapt_hold.proofs.Closes.{then_shows}
 use Rattle.adapt_hold.proofs.Bodies.{room_in, room_ad, room_others, original_follows, adapted_follows}
 
+-- a list of no length is empty
 pub no_bytes : (bs : List ℕ) → length bs ≡ 0 → bs ≡ []
 no_bytes [] e = refl
 no_bytes (b ∷ bs) e = absurd (omega (arith, e))
@@ -33,6 +34,7 @@ pub record Stays (h : Holding) (event : Event) (bytes : List ℕ) : Type 0 where
   pub tied : IsTied (moved h event bytes)
   pub roomy : IsRoomy (moved h event bytes)
 
+-- a step that brings no bytes keeps a holding tied, with a window left
 others_stay : (h : Holding) (event : Event) (bytes : List ℕ) → IsTied h → IsRoomy h → MayFollow h.history.plan h.history.events event
     → BringsNone event → length bytes ≡ 0 → Stays h event bytes
 others_stay h event bytes t r m b z =
@@ -93,9 +95,11 @@ pub record Cut (n m : ℕ) (bs : List ℕ) : Type 0 where
   pub own : length (take n bs) ≡ n
   pub others : m ≤ length (drop n bs)
 
+-- of bytes that are enough for two parts the first is whole, and the rest enough for the second
 take_length : (n m : ℕ) (bs : List ℕ) → n + m ≤ length bs → Cut n m bs
 take_length n m bs e = record { own = length-take-le n bs (omega (arith, e)); others = let d = length-drop n bs in omega (arith, d, e) }
 
+-- events in a row, each within its room, keep a holding tied and roomy, and bring their bytes to both bodies
 pub ran : (h : Holding) (events : List Event) (bytes : List ℕ) → IsTied h → IsRoomy h → MayAllFollow (shows h.history) events
     → brought_all events ≤ length bytes → HasRoomFor (shows h.history) h.claim h.limits.window h.limits.turn events → Ran h events bytes
 ran h [] bytes t r m b w = record {
@@ -137,6 +141,7 @@ ran h (event ∷ events) bytes t r m b w =
 
 -- What the functions on events ask.
 
+-- an event with just the bytes that it counts brings as many as there are
 brings_length : (event : Event) (bytes : List ℕ) → Brings event bytes → length bytes ≡ brought event
 brings_length (In n) bytes b = omega (arith, b)
 brings_length (Ad n) bytes b = omega (arith, b)
@@ -153,6 +158,7 @@ brings_length (Usr n) bytes b = elim b [ ]
 brings_length Done bytes b = elim b [ ]
 brings_length (Fail cause) bytes b = elim b [ ]
 
+-- an event within its room, with just the bytes that it counts, fits the claim
 pub fits_in : (h : Holding) (event : Event) (bytes : List ℕ) → IsTied h → IsRoomy h → Brings event bytes
     → IsWithinRoom (shows h.history) h.claim h.limits.window h.limits.turn event
     → MayFollow h.history.plan h.history.events event → held_places (shows_then h.history event) ≤ h.claim
@@ -171,12 +177,14 @@ fits_in h (Usr n) bytes t r b w m = elim b [ ]
 fits_in h Done bytes t r b w m = elim b [ ]
 fits_in h (Fail cause) bytes t r b w m = elim b [ ]
 
+-- a holding after an event within its room that brings its bytes has a window left
 pub brought_roomy : (h k : Holding) (event : Event) (bytes : List ℕ) → IsTied h → IsRoomy h → Brings event bytes
     → IsWithinRoom (shows h.history) h.claim h.limits.window h.limits.turn event
     → MayFollow h.history.plan h.history.events event → k ≡ moved h event bytes → IsRoomy k
 brought_roomy h k event bytes t r b w m e = subst (λ (x : Holding). IsRoomy x) (sym e)
     (stays h event bytes t r m (brings_length event bytes b) w).roomy
 
+-- a holding after an event that brings no bytes has a window left
 pub gone_on_roomy : (h k : Holding) (event : Event) → IsTied h → IsRoomy h → BringsNone event
     → MayFollow h.history.plan h.history.events event → k ≡ moved h event [] → IsRoomy k
 gone_on_roomy h k event t r b m e = subst (λ (x : Holding). IsRoomy x) (sym e) (room_others h event t r m b)
@@ -206,6 +214,7 @@ run_rest h k event events bytes own others t m o d e r =
       roomy = r;
     }
 
+-- a step, and then the rest of a row, are the whole row
 pub one_more : (h k l : Holding) (event : Event) (events : List Event) (bytes own others : List ℕ)
     → own ≡ take (brought event) bytes → others ≡ drop (brought event) bytes → k ≡ moved h event own
     → l ≡ moved_all k events others → l ≡ moved_all h (event ∷ events) bytes
@@ -214,16 +223,19 @@ one_more h k l event events bytes own others o d e s =
     s ∙ ap (λ (x : Holding). moved_all x events others) at
     ∙ ap (λ (bs : List ℕ). moved_all (moved h event (take (brought event) bytes)) events bs) d
 
+-- an empty row leaves a holding as it was
 pub none_left_at : (h : Holding) (events : List Event) (bytes : List ℕ) → length events < 1 → h ≡ moved_all h events bytes
 none_left_at h [] bytes l = refl
 none_left_at h (event ∷ events) bytes l = absurd (omega (arith, l))
 
 -- the same at a slice
 
+-- a list without its first event is the rest of it
 pub tail_is : (event : Event) (events : List Event) → take (length (event ∷ events) - 1) (drop 1 (event ∷ events)) ≡ events
 tail_is event events = let n : length (event ∷ events) - 1 ≡ length events = omega arith in
     ap (λ (k : ℕ). take k events) n ∙ take-length events
 
+-- the rest of a row may run after its first event, at a slice
 pub run_rest_at : (h k : Holding) (events : List Event) (bytes own others : List ℕ) (n : ℕ) → IsTied h → MayRun h events bytes
     → 1 ≤ length events
     → n ≡ brought (get_or events 0 (In 0))
@@ -234,6 +246,7 @@ run_rest_at h k (event ∷ events) bytes own others n t m l b o d e r =
     subst (λ (es : List Event). MayRun k es others) (sym (tail_is event events))
     (run_rest h k event events bytes own others t m (o ∙ ap (λ (i : ℕ). take i bytes) b) (d ∙ ap (λ (i : ℕ). drop i bytes) b) e r)
 
+-- the first event of a row and the rest of it are the whole row, at a slice
 pub one_more_at : (h k l : Holding) (events : List Event) (bytes own others : List ℕ) (n : ℕ) → 1 ≤ length events
     → n ≡ brought (get_or events 0 (In 0))
     → own ≡ take n bytes → others ≡ drop n bytes → k ≡ moved h (get_or events 0 (In 0)) own
@@ -243,6 +256,7 @@ one_more_at h k l (event ∷ events) bytes own others n m b o d e s =
     one_more h k l event events bytes own others (o ∙ ap (λ (i : ℕ). take i bytes) b) (d ∙ ap (λ (i : ℕ). drop i bytes) b) e
     (s ∙ ap (λ (es : List Event). moved_all k es others) (tail_is event events))
 
+-- a row without its first event is shorter
 pub shorter : (events : List Event) → 1 ≤ length events → length (take (length events - 1) (drop 1 events)) < length events
 shorter [] l = absurd (omega (arith, l))
 shorter (event ∷ events) l = let n = ap (λ (es : List Event). length es) (tail_is event events) in omega arith

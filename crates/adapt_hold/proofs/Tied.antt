@@ -23,26 +23,32 @@ use Rattle.plan_rules.specs.Room.{claim_then}
 
 -- Tapes.
 
+-- a tape that takes bytes and whose base moves on has as many as lie from there to the new end
 pub then_from-length : (t : Span) (bytes : List ℕ) (place : ℕ) → t.base ≤ place → place ≤ t.base + length t.bytes + length bytes
     → length (then_from t bytes place).bytes + place ≡ t.base + length t.bytes + length bytes
 then_from-length t bytes place low high =
     rw (length-drop (place - t.base) (t.bytes ++ bytes), length-append t.bytes bytes) (omega arith)
 
+-- a tape that takes bytes and whose base moves on ends by just those bytes later
 pub then_from-end : (t : Span) (bytes : List ℕ) (place : ℕ) → t.base ≤ place → place ≤ t.base + length t.bytes + length bytes
     → span_end (then_from t bytes place) ≡ span_end t + length bytes
 then_from-end t bytes place low high = let e = then_from-length t bytes place low high in omega arith
 
+-- a tape that takes no byte has its bytes from the place on
 pub then_from-none : (t : Span) (place : ℕ) → then_from t [] place ≡ span_from t place
 then_from-none t place = ap (λ (bs : List ℕ). span_from (record t { bytes = bs }) place) (append-nil t.bytes)
 
+-- of a list from which none is dropped all is left
 drop_none : (k : ℕ) (bs : List ℕ) → k ≡ 0 → drop k bs ≡ bs
 drop_none k bs e = rw e refl
 
+-- a tape cut at its base stays as it was
 pub from_base : (t : Span) (place : ℕ) → place ≡ t.base → span_from t place ≡ t
 from_base t place e =
     let d : drop (place - t.base) t.bytes ≡ t.bytes = drop_none _ t.bytes (omega arith) in
     rw d (ap (λ (b : ℕ). record { base = b; bytes = t.bytes }) e)
 
+-- a tape that takes bytes and keeps its base has them at its end
 pub then_from-base : (t : Span) (bytes : List ℕ) (place : ℕ) → place ≡ t.base
     → then_from t bytes place ≡ record t { bytes = t.bytes ++ bytes }
 then_from-base t bytes place e = from_base (record t { bytes = t.bytes ++ bytes }) place e
@@ -64,6 +70,7 @@ pub record Steps (h : Holding) (event : Event) (bytes : List ℕ) : Type 0 where
   pub original : length (original_in event bytes) ≡ in_bytes event
   pub adapted : length (adapted_in event bytes) ≡ ad_bytes event
 
+-- an event that may follow with just the bytes that it counts is a step
 pub brings : (h : Holding) (event : Event) (bytes : List ℕ) → MayFollow h.history.plan h.history.events event → Brings event bytes
     → Steps h event bytes
 brings h (In n) bytes m b = record { may = m; original = b; adapted = refl }
@@ -81,6 +88,7 @@ brings h (Usr n) bytes m b = elim b [ ]
 brings h Done bytes m b = elim b [ ]
 brings h (Fail cause) bytes m b = elim b [ ]
 
+-- an event that may follow and brings no bytes is a step without any
 pub brings_none : (h : Holding) (event : Event) → MayFollow h.history.plan h.history.events event → BringsNone event → Steps h event []
 brings_none h End m b = record { may = m; original = refl; adapted = refl }
 brings_none h (Svc n) m b = record { may = m; original = refl; adapted = refl }
@@ -114,6 +122,7 @@ pub record Numbers (h : Holding) (event : Event) (bytes : List ℕ) : Type 0 whe
   pub original_high : original_from (shows_then h.history event) ≤ (shows_then h.history event).received
   pub adapted_high : adapted_from (shows_then h.history event) ≤ (shows_then h.history event).adapted_received
 
+-- the numbers of a tied holding and of a step are those of its history, its tapes and the bytes that came
 pub numbers : (h : Holding) (event : Event) (bytes : List ℕ) → IsTied h → Steps h event bytes → Numbers h event bytes
 numbers h event bytes t s =
     let x : Seen = shows h.history in
@@ -145,6 +154,7 @@ numbers h event bytes t s =
       adapted_high = adapted_within _ sy;
     }
 
+-- a step whose held bytes fit the claim after it keeps the holding tied
 pub moved-tied : (h : Holding) (event : Event) (bytes : List ℕ) → IsTied h → Steps h event bytes
     → held_places (shows_then h.history event) ≤ claim_then (shows_then h.history event) event h.claim h.limits.window
     → IsTied (moved h event bytes)
@@ -167,6 +177,7 @@ moved-tied h event bytes t s w =
       within = w;
     }
 
+-- a tied holding holds as many bytes as its history holds places
 pub held_before : (h : Holding) → IsTied h → held_places (shows h.history) ≡ h.held
 held_before h t =
     let x : Seen = shows h.history in
@@ -196,6 +207,7 @@ less_held h event t s b =
     no_adapted (Ad n) = refl
     no_adapted _ = refl
 
+-- what fits the claim, and the claim that it falls to at a response, fits the claim after an event
 claim_fits : (x : Seen) (event : Event) (held claim window : ℕ) → (is_reply event ≡ true → held ≤ claim_after x claim window) → held ≤ claim
     → held ≤ claim_then x event claim window
 claim_fits x Continue held claim window r h = r refl
@@ -216,6 +228,7 @@ still_fits h event t s b =
 
 -- Bytes that stay.
 
+-- after an event the original is held from its tape's base on, or from a later place
 pub original_low : (h : Holding) (event : Event) → IsTied h → MayFollow h.history.plan h.history.events event
     → h.original.base ≤ original_from (shows_then h.history event)
 original_low h event t m =
@@ -223,6 +236,7 @@ original_low h event t m =
     let rises = original_grows (shows h.history) event (sound h.history.plan h.history.events t.legal) m.0 m.1 in
     omega arith
 
+-- after an event the adapted body is held from its tape's base on, or from a later place
 pub adapted_low : (h : Holding) (event : Event) → IsTied h → MayFollow h.history.plan h.history.events event
     → h.adapted.base ≤ adapted_from (shows_then h.history event)
 adapted_low h event t m =
@@ -230,6 +244,7 @@ adapted_low h event t m =
     let rises = adapted_grows (shows h.history) event (sound h.history.plan h.history.events t.legal) m.0 m.1 in
     omega arith
 
+-- a byte of a tape at or after its new base is the same once bytes come
 pub byte_stays : (t : Span) (bytes : List ℕ) (from place : ℕ) → t.base ≤ from → from ≤ place → place < span_end t
     → byte_at (then_from t bytes from) place ≡ byte_at t place
 byte_stays t bytes from place base low high =

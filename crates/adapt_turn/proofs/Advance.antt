@@ -57,6 +57,7 @@ pub record Others (sides : SideViews) : Type 0 where
   pub refuses_on : (x : Seen) (event : Event) → IsRefusing sides.refusing sides.next sides.back x
       → IsRefusing sides.refusing sides.next sides.back (after x event)
 
+-- what each event keeps of what is seen, events in a row keep
 carry_any : (P : Seen → Type 0) → ((x : Seen) (event : Event) → P x → P (after x event)) → (events : List Event) (x : Seen) → P x
     → P (after_all x events)
 carry_any P keep [] x p = p
@@ -72,6 +73,7 @@ record Then (x : Seen) (events : List Event) (out original adapted : List ℕ) (
     hops_are : HopsAre sides.next sides.back (after_all x events) (chosen (after_all x events) (original ++ all_original events out)
         (adapted ++ all_adapted events out)) t.next_taken t.back_taken
 
+-- what each side says once the events are stepped stands with the holding that they lead to
 assemble : (h k : Holding) (events : List Event) (out original adapted : List ℕ) (sides : SideViews) (request : List ℕ) (t : Texts)
     → Ran h events out → k ≡ moved_all h events out → EndsBody h.original original → EndsBody h.adapted adapted
     → Then (shows h.history) events out original adapted sides request t
@@ -100,6 +102,7 @@ assemble h k events out original adapted sides request t r is fo fa w rf wd =
 
 -- a relation of the source, or of what the service read, behind events that bring its body nothing
 
+-- what the source read stands after events that aren't the source's, and they bring none of the original
 read_kept : (read : Seen → List ℕ → Given → Type 0) (x : Seen) (events : List Event) (out body : List ℕ) (text : Given)
     → ((y : Seen) (event : Event) (bs : List ℕ) (cs : Given) → off_source event ≡ true → read y bs cs → read (after y event) bs cs)
     → AllAre off_source events → read x body text → read (after_all x events) (body ++ all_original events out) text
@@ -108,6 +111,7 @@ read_kept read x events out body text law o p =
     ∙ append-nil body))
     (carry (λ y. read y body text) off_source (λ y event q. law y event body text q) events x o p)
 
+-- what the service's wire gave stands after events that are neither replies nor a retry, with no adapted byte
 heard_kept : (heard : Seen → List ℕ → List ℕ → Type 0) (x : Seen) (events : List Event) (out body text : List ℕ)
     → ((y : Seen) (event : Event) (bs cs : List ℕ) → off_replies event ≡ true → heard y bs cs → heard (after y event) bs cs)
     → AllAre off_replies events → heard x body text → heard (after_all x events) (body ++ all_adapted events out) text
@@ -121,11 +125,13 @@ record Lengths (h : Holding) (original adapted : List ℕ) : Type 0 where
   original_is : length original ≡ (shows h.history).received
   adapted_is : length adapted ≡ (shows h.history).adapted_received
 
+-- bodies that end where the tapes of a tied holding do have the lengths that are seen
 lengths : (h : Holding) (original adapted : List ℕ) → IsTied h → EndsBody h.original original → EndsBody h.adapted adapted
     → Lengths h original adapted
 lengths h original adapted t fo fa = let n = ends h t in
     record { original_is = sym fo.end ∙ n.original_end; adapted_is = sym fa.end ∙ n.adapted_end }
 
+-- what the service's wire took stands after events that are neither of sending nor a retry, with what they bring
 sent_kept : (sent : Seen → List ℕ → List ℕ → Type 0) (h : Holding) (events : List Event) (out original adapted taken : List ℕ)
     → ((y : Seen) (event : Event) (came bytes cs : List ℕ) → off_sending event ≡ true → length came ≡ y.received
     → length bytes ≡ in_bytes event → sent y came cs → sent (after y event) (came ++ bytes) cs)
@@ -135,6 +141,7 @@ sent_kept sent h events out original adapted taken law o m l p =
     carry_body (λ y bs. sent y bs taken) off_sending (λ y event came bytes q n k. law y event came bytes taken q n k) events
     (shows h.history) original out o m.carried l.original_is p
 
+-- where the chosen message goes stands after events that aren't the next hop's, with what they bring to each body
 hops_kept : (next back : WriterView) (h : Holding) (events : List Event) (out original adapted to_next to_back : List ℕ)
     → KeepsChosen (λ x body. HopsAre next back x body to_next to_back) → IsTied h → AllAre off_hop events → MayRun h events out
     → Lengths h original adapted
@@ -147,6 +154,7 @@ hops_kept next back h events out original adapted to_next to_back law t o m l p 
 
 -- The source's pass.
 
+-- what stood before a pass of an open transaction's source stands after it, with what its wire gave
 pub source_stands : {S H W : Type 0} (s : Source S H) (w : Wire W) (old new : Lent S W) (sides : SideViews) (passed : PassAnswer)
     (request : List ℕ) (t : Texts)
     → Others (with_source s new.side sides) → IsTied old.hold → (shows old.hold.history).closed ≡ false
@@ -183,6 +191,7 @@ source_stands side w old new sides passed request t u tied c d s =
 
 -- The service's pass that writes.
 
+-- what stood before a write to the service of an open transaction stands after it, with what its wire took
 pub send_stands : {V W : Type 0} (v : Service V) (w : Wire W) (old new : Lent V W) (sides : SideViews) (passed : PassAnswer)
     (request : List ℕ) (t : Texts)
     → Others (with_service v new.side sides) → ((x : Seen) (adapted text : List ℕ) → v.has_heard x adapted text old.side
@@ -225,6 +234,7 @@ send_stands v w old new sides passed request t u same tied c d s =
 
 -- The service's pass that reads.
 
+-- what stood before a read of an open transaction's service stands after it, with what its wire gave
 pub hear_stands : {V W : Type 0} (v : Service V) (w : Wire W) (old new : Lent V W) (sides : SideViews) (passed : PassAnswer)
     (request : List ℕ) (t : Texts)
     → Others (with_service v new.side sides) → ((heads came text : List ℕ) → v.has_sent heads (shows old.hold.history) came text old.side
@@ -263,6 +273,7 @@ hear_stands v w old new sides passed request t u same tied c d s =
 
 -- The writer's pass: on the next hop's wire, or on the source's.
 
+-- where the chosen message goes stands as an open transaction fails
 fail_hops : (next back : WriterView) (h : Holding) (original adapted to_next to_back : List ℕ) (cause : Cause)
     → KeepsChosen (λ x body. HopsAre next back x body to_next to_back) → IsTied h → (shows h.history).closed ≡ false
     → Lengths h original adapted
@@ -275,6 +286,7 @@ fail_hops next back h original adapted to_next to_back cause law t c l p =
     (law h.history.plan h.history.events (Fail cause) original adapted [] [] ((c, tt), t.legal) refl l.original_is l.adapted_is refl refl
     p))
 
+-- what stood before a writer's pass stands after it, if where the message goes and its delivery stand with the new writers
 pub give_stands : {K G W : Type 0} (hop : Hop K G) (w : Wire W) (old new : Lent K W) (writers sides : SideViews) (passed : PassAnswer)
     (request : List ℕ) (t t' : Texts)
     → Others (with_writers writers sides) → IsTied old.hold → (shows old.hold.history).closed ≡ false
@@ -332,6 +344,7 @@ give_stands hop w old new writers sides passed request t t' u tied c d e1 e2 e3 
 
 -- A failure, and a new beginning, of which every side keeps what it says.
 
+-- what stands of an open transaction stands after it fails, with no further byte on a wire
 pub fail_stands : (h k : Holding) (cause : Cause) (sides : SideViews) (request : List ℕ) (t : Texts)
     → Others sides → IsTied h → MayRun h (Fail cause ∷ []) [] → (shows h.history).closed ≡ false → k ≡ moved h (Fail cause) []
     → Stands h sides request t → Stands k sides request t

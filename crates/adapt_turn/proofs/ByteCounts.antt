@@ -7,6 +7,7 @@ use Rattle.adapt_turn.specs.ChosenHead.{wire_of, on_held}
 use Rattle.adapt_turn.specs.ByteCounts.{MovesOver, Moves, SumsBytes, AreCounts, counted}
 use Rattle.adapt_turn.specs.Rows.{BytesOr}
 
+-- between two moments of a wire as many bytes went over it as its counts differ by
 moves_over : (before after_ : Past → Type 0) (c d : ℕ × ℕ) → AreCounts c before → AreCounts d after_ → MovesOver before after_ (counted c d)
 moves_over before after_ c d f g = λ p q b a.
     let u = f p b in
@@ -16,6 +17,7 @@ moves_over before after_ c d f g = λ p q b a.
     ∙ ap (λ (k : ℕ). (d.0 - c.0) + (length q.taken - k)) (sym u.1)
     ∙ ap (λ (k : ℕ). (d.0 - c.0) + (k - c.1)) (sym w.1)
 
+-- over a wire that may not be there as many bytes went as its counts differ by, and none where there is none
 over_wire : {L : Type 0} (past : L → Past → Type 0) (line line' : Option L) (c d : ℕ × ℕ)
     → MatchOption line ((c.0 ≡ 0) × (c.1 ≡ 0)) (λ l. AreCounts c (past l))
     → MatchOption line' ((d.0 ≡ 0) × (d.1 ≡ 0)) (λ l. AreCounts d (past l)) → (line ≡ None → line' ≡ None)
@@ -25,6 +27,7 @@ over_wire past None (Some m) c d f g none = absurd (let e : Some m ≡ None = no
 over_wire past (Some l) None c d f g none = λ p q b a. absurd a
 over_wire past (Some l) (Some m) c d f g none = moves_over (past l) (past m) c d f g
 
+-- over the service's wire as many bytes went as its counts differ by, and none where its connection isn't held
 over_line : {V W : Type 0} (past : W → Past → Type 0) (line line' : Option (ServiceEnd V W)) (c d : ℕ × ℕ)
     → on_held line ((c.0 ≡ 0) × (c.1 ≡ 0)) (λ w. AreCounts c (past w)) → on_held line' ((d.0 ≡ 0) × (d.1 ≡ 0)) (λ w. AreCounts d (past w))
     → (wire_of line ≡ None → wire_of line' ≡ None)
@@ -71,6 +74,7 @@ moves_of {A} {C} {V} {W} on_source on_wire on_next a a' a2 line line' line2 x x'
 none_counted : (c0 c1 c2 : ℕ × ℕ) → 0 ≡ min (counted c0 c0 + counted c1 c1 + counted c2 c2) (2 ^ 64 - 1)
 none_counted c0 c1 c2 = let e : 0 ≡ counted c0 c0 + counted c1 c1 + counted c2 c2 = omega arith in ap (λ (k : ℕ). min k (2 ^ 64 - 1)) e
 
+-- wires that a call left as they were moved no byte
 pub moves_none : {A C V W : Type 0} (on_source : A → Past → Type 0) (on_wire : W → Past → Type 0) (on_next : C → Past → Type 0) (a a' : A)
     (line line' : Option (ServiceEnd V W)) (x x' : C) (c0 c1 c2 : ℕ × ℕ) (n : ℕ)
     → AreCounts c0 (on_source a) → on_held line ((c1.0 ≡ 0) × (c1.1 ≡ 0)) (λ w. AreCounts c1 (on_wire w)) → AreCounts c2 (on_next x)
@@ -89,6 +93,7 @@ none_over over n z w =
     let c : w.next ≡ 0 = omega (arith, e, z) in
     (subst over.source a w.source_is, subst over.service b w.service_is, subst over.next c w.next_is)
 
+-- what would put nothing below nothing isn't so
 pub waiting_not : (waiting : Bool) → (waiting ≡ true → 0 < 0) → waiting ≡ false
 waiting_not true n = absurd (let e = n refl in omega (arith, e))
 waiting_not false n = refl
@@ -97,12 +102,14 @@ waiting_not false n = refl
 abbrev none_moved : ℕ
 none_moved = 0
 
+-- if a byte went over a wire that is there or this is so, this is so where none went
 some_wire : {L : Type 0} (past : L → Past → Type 0) (line line' : Option L) (this : Type 0) (p : Past) → MatchOption line ⊤ (λ l. past l p)
     → MatchOption line (none_moved ≡ 0) (λ l. MovesOver (past l) (λ q. MatchOption line' ⊥ (λ m. past m q)) none_moved)
     → (line ≡ None → ⊥) → BytesOr this (λ q. MatchOption line ⊥ (λ l. past l q)) (λ q. MatchOption line' ⊥ (λ m. past m q)) → this
 some_wire past None line' this p b k n act = absurd (n refl)
 some_wire past (Some l) line' this p b k n act = let v = act p b in v.4 (k p v.0 b v.1)
 
+-- if a byte went over a held connection or this is so, this is so where none went
 pub some_line : {V W : Type 0} (past : W → Past → Type 0) (line line' : Option (ServiceEnd V W)) (this : Type 0) (p : Past)
     → on_held line ⊤ (λ w. past w p)
     → on_held line (none_moved ≡ 0) (λ w. MovesOver (past w) (λ q. on_held line' ⊥ (λ m. past m q)) none_moved)

@@ -23,15 +23,18 @@ use Rattle.adapt_turn.specs.ChosenHead.{IsMade, adapted_of, response_of}
 abbrev pub KeepsMade : (Seen → List ℕ → Type 0) → Type 0
 KeepsMade made = (x : Seen) (event : Event) (head : List ℕ) → x.closed ≡ false → Allows x event → made x head → made (after x event) head
 
+-- what is seen after events and one more is what the one makes of what is seen after those
 after_end : (x : Seen) (events : List Event) (event : Event) → after_all x (events ++ (event ∷ [])) ≡ after (after_all x events) event
 after_end x [] event = refl
 after_end x (first ∷ events) event = after_end (after x first) events event
 
+-- an event that is allowed after events in a row, while the history is open, may follow them in the row
 may_end : (x : Seen) (events : List Event) (event : Event) → MayAllFollow x events → (after_all x events).closed ≡ false
     → Allows (after_all x events) event → MayAllFollow x (events ++ (event ∷ []))
 may_end x [] event m c a = (c, a, tt)
 may_end x (first ∷ events) event m c a = (m.0, m.1, may_end (after x first) events event m.2 c a)
 
+-- a head that was made stays a made one with each event that is allowed
 pub made_on : {Framing : Type 0} (makes : Seen → Option (List ℕ) → Bool → List ℕ → Framing → Type 0) (adapted : Option (List ℕ))
     (is_response : Bool) (framing : Framing)
     → KeepsMade (IsMade makes adapted is_response framing)
@@ -71,20 +74,24 @@ made_all made keep (event ∷ events) x head m p = made_all made keep events (af
 
 -- What a service's side says of its head counts only where its message was chosen, and then it stays.
 
+-- one of two is so where the second is
 or_true : (b c : Bool) → c ≡ true → b || c ≡ true
 or_true true c e = refl
 or_true false c e = e
 
+-- a 200 that stands goes on standing after all later events
 still_modified : (events : List Event) (x : Seen) → x.modified ≡ true → (after_all x events).modified ≡ true
 still_modified [] x e = e
 still_modified (event ∷ events) x e = still_modified events (after x event) (or_true (is_mod event) x.modified e)
 
+-- what is so of an adapted head, and of whether it is a response's, stays so if both stay where its message was chosen
 told_by : (P : Option (List ℕ) → Bool → Type 0) (b : Bool) (a a' : Option (List ℕ)) (r r' : Bool) → (b ≡ true → (a' ≡ a) × (r' ≡ r))
     → P (if b then a else None) (b && r) → P (if b then a' else None) (b && r')
 told_by P true a a' r r' same p = let w = same refl in
     subst (λ (z : Option (List ℕ)). P z r') (sym w.0) (subst (λ (z : Bool). P a z) (sym w.1) p)
 told_by P false a a' r r' same p = p
 
+-- a made head stays one if the adapted head, and whether it is a response's, stay where its message was chosen
 pub made_told : {Framing : Type 0} (makes : Seen → Option (List ℕ) → Bool → List ℕ → Framing → Type 0) (a a' : Option (List ℕ))
     (r r' : Bool) (framing : Framing) (x : Seen) (head : List ℕ)
     → (x.modified ≡ true → (a' ≡ a) × (r' ≡ r)) → IsMade makes a r framing x head → IsMade makes a' r' framing x head
@@ -183,11 +190,13 @@ line_heads {Head} {G} {V} {W} k v makes s line l m x e f g hop head p =
 
 -- before a byte of a reply no adapted message is chosen
 
+-- of three of which none is so the second isn't
 none_modified : (a b c : Bool) → a || b || c ≡ false → b ≡ true → ⊥
 none_modified true b c e f = false≢true (sym e)
 none_modified false true c e f = false≢true (sym e)
 none_modified false false c e f = false≢true f
 
+-- where the request may begin anew no adapted message has come
 pub none_modified_before : (history : History) → IsLegal history.plan history.events → MayFollow history.plan history.events Retry
     → (shows history).modified ≡ true → ⊥
 none_modified_before history l m e =

@@ -27,20 +27,24 @@ KeepsGiven own = (plan : Plan) (before : List Event) (event : Event) (head origi
     → own.given (seen plan before) head (chosen (seen plan before) original adapted) taken
     → own.given (seen plan (event ∷ before)) head (chosen (seen plan (event ∷ before)) (original ++ bytes) (adapted ++ more)) taken
 
+-- two numbers that are both nothing sum to nothing, whether or not the first is counted
 zero_if : (c : Bool) (m n : ℕ) → m ≡ 0 → n ≡ 0 → (if c then m else 0) + n ≡ 0
 zero_if true m n e f = omega (arith, e, f)
 zero_if false m n e f = omega (arith, f)
 
+-- an event that isn't the next hop's has no byte for the next hop
 none_given : (event : Event) → off_hop event ≡ true → usr_bytes event ≡ 0
 none_given (Usr n) o = absurd (false≢true o)
 none_given _ o = refl
 
+-- where no byte of a body went out none has after an event that isn't the next hop's
 none_out : (x : Seen) (event : Event) → off_hop event ≡ true → IsUndelivered x → IsUndelivered (after x event)
 none_out x event o u = (
   zero_if (is_plain x.plan.kind || x.no_mod) (usr_bytes event) x.original_delivered (none_given event o) u.0,
   zero_if x.modified (usr_bytes event) x.adapted_delivered (none_given event o) u.1,
 )
 
+-- where the message goes stands with events of others, if both writers keep what they gave
 pub hops_others : (next back : WriterView) → KeepsGiven next → KeepsGiven back → (to_next to_back : List ℕ)
     → KeepsChosen (λ x body. HopsAre next back x body to_next to_back)
 hops_others next back nk bk to_next to_back plan before event original adapted bytes more legal o lo la lb lm p =
@@ -123,10 +127,12 @@ next_gives next next' back x y body to_next to_back delta c idle busy same on_ p
 
 -- and where the history is closed by it, the whole message
 
+-- in an open transaction no refusal is due
 not_refusing : (refusing : Bool) (next back : WriterView) (x : Seen) → x.closed ≡ false → IsRefusing refusing next back x → refusing ≡ false
 not_refusing true next back x c r = absurd (false≢true (sym c ∙ (r.0 refl).0))
 not_refusing false next back x c r = refl
 
+-- a message that the next hop's writer gives whole in an open transaction is delivered
 pub next_whole : (refusing : Bool) (next next' back : WriterView) (x y : Seen) (body to_next to_back delta : List ℕ)
     → x.closed ≡ false → back.gift ≡ nothing → (next.gift ≡ nothing → ⊥) → next'.gift ≡ next.gift → IsRefusing refusing next back x
     → ((head taken : List ℕ) → next.given x head body taken → next'.whole y head body (taken ++ delta))
@@ -146,6 +152,7 @@ next_whole refusing next next' back x y body to_next to_back delta c idle busy s
   ],
 )
 
+-- an answer that the writer back gives whole in an open transaction is delivered
 pub back_whole : (refusing : Bool) (next back back' : WriterView) (x y : Seen) (body to_next to_back delta : List ℕ)
     → x.closed ≡ false → (back.gift ≡ nothing → ⊥) → back'.gift ≡ back.gift → IsRefusing refusing next back x
     → ((head taken : List ℕ) → back.given x head body taken → back'.whole y head body (taken ++ delta))
@@ -167,29 +174,35 @@ back_whole refusing next back back' x y body to_next to_back delta c busy same r
 
 -- the writer that isn't the user's has no refusal
 
+-- a writer that has a message has no refusal
 unrefused : (gift gift' : Gift) (status : ℕ) → gift' ≡ message → gift' ≡ refusal status → ⊥
 unrefused gift gift' status m e = let d : message ≡ refusal status = sym m ∙ e in absurd cc
 
+-- where the next hop's writer gets a message the writer that isn't the user's still has no refusal
 pub other_of_next : (point : Point) (ng ng' bg : Gift) → ng' ≡ message → ((status : ℕ) → other_gift point ng bg ≡ refusal status → ⊥)
     → (status : ℕ) → other_gift point ng' bg ≡ refusal status → ⊥
 other_of_next Reqmod ng ng' bg m none status = unrefused ng ng' status m
 other_of_next Respmod ng ng' bg m none status = none status
 
+-- where the writer back gets a message the writer that isn't the user's still has no refusal
 pub other_of_back : (point : Point) (ng bg bg' : Gift) → bg' ≡ message → ((status : ℕ) → other_gift point ng bg ≡ refusal status → ⊥)
     → (status : ℕ) → other_gift point ng bg' ≡ refusal status → ⊥
 other_of_back Reqmod ng bg bg' m none status = none status
 other_of_back Respmod ng bg bg' m none status = unrefused bg bg' status m
 
+-- at RESPMOD another gift of the next hop's writer leaves the other writer without a refusal
 pub other_at_respmod : (point : Point) (ng ng' bg : Gift) → point ≡ Respmod → ((status : ℕ) → other_gift point ng bg ≡ refusal status → ⊥)
     → (status : ℕ) → other_gift point ng' bg ≡ refusal status → ⊥
 other_at_respmod Reqmod ng ng' bg e none status = let d : Reqmod ≡ Respmod = e in absurd cc
 other_at_respmod Respmod ng ng' bg e none status = none status
 
+-- at REQMOD another gift of the writer back leaves the other writer without a refusal
 pub other_at_reqmod : (point : Point) (ng bg bg' : Gift) → point ≡ Reqmod → ((status : ℕ) → other_gift point ng bg ≡ refusal status → ⊥)
     → (status : ℕ) → other_gift point ng bg' ≡ refusal status → ⊥
 other_at_reqmod Reqmod ng bg bg' e none status = none status
 other_at_reqmod Respmod ng bg bg' e none status = let d : Respmod ≡ Reqmod = e in absurd cc
 
+-- where nothing is begun on either writer, the one that isn't the user's has no refusal
 pub other_idle : (point : Point) (ng bg : Gift) → ng ≡ nothing → bg ≡ nothing → (status : ℕ) → other_gift point ng bg ≡ refusal status → ⊥
 other_idle Reqmod ng bg n b status e = let d : nothing ≡ refusal status = sym n ∙ e in absurd cc
 other_idle Respmod ng bg n b status e = let d : nothing ≡ refusal status = sym b ∙ e in absurd cc
@@ -206,6 +219,7 @@ pub record StaysAside (other other' : WriterView) : Type 0 where
   pub gift : other'.gift ≡ other.gift
   pub aside : (taken : List ℕ) → other.aside taken → other'.aside taken
 
+-- a message that is begun to the next hop, where neither writer had one, goes to the next hop
 pub next_begins : (next next' back back' : WriterView) (x : Seen) (head body to_next to_back : List ℕ)
     → x.closed ≡ false → next.gift ≡ nothing → back.gift ≡ nothing → next'.gift ≡ message → StaysAside back back'
     → BeginsWith x head next next'
@@ -224,6 +238,7 @@ next_begins next next' back back' x head body to_next to_back c n b m stays begi
       | inr (inr (inr over)) ↦ absurd (false≢true (sym c ∙ over.over))
     ]
 
+-- a message that is begun back to the source, where neither writer had one, goes back
 pub back_begins : (next next' back back' : WriterView) (x : Seen) (head body to_next to_back : List ℕ)
     → x.closed ≡ false → next.gift ≡ nothing → back.gift ≡ nothing → back'.gift ≡ message → StaysAside next next'
     → BeginsWith x head back back'
@@ -238,6 +253,7 @@ abbrev pub UntouchedGives : WriterView → Type 0
 UntouchedGives own = (x : Seen) (head body taken : List ℕ) → own.given x head body taken
     → (taken ≡ []) × (x.original_delivered ≡ 0) × (x.adapted_delivered ≡ 0)
 
+-- where the messages go stands as a writer to the next hop that gave no byte gets a refusal in a closed transaction
 pub next_refuses : (next next' back : WriterView) (x : Seen) (body to_next to_back : List ℕ)
     → x.closed ≡ true → UntouchedGives next → ((taken : List ℕ) → next.aside taken → taken ≡ []) → next'.aside []
     → HopsAre next back x body to_next to_back → HopsAre next' back x body to_next to_back
@@ -270,6 +286,7 @@ next_refuses next next' back x body to_next to_back c given aside none p =
     empty : (taken : List ℕ) → taken ≡ [] → next'.aside taken
     empty taken e = subst next'.aside (sym e) none
 
+-- where the messages go stands as a writer back that gave no byte gets a refusal in a closed transaction
 pub back_refuses : (next back back' : WriterView) (x : Seen) (body to_next to_back : List ℕ)
     → x.closed ≡ true → UntouchedGives back → ((taken : List ℕ) → back.aside taken → taken ≡ []) → back'.aside []
     → HopsAre next back x body to_next to_back → HopsAre next back' x body to_next to_back
@@ -279,6 +296,7 @@ back_refuses next back back' x body to_next to_back c given aside none p =
 
 -- more of a refusal goes out
 
+-- where the messages go stands as the next hop's wire takes more of what isn't a message
 pub next_refuses_on : (next next' back : WriterView) (x : Seen) (body to_next to_back delta : List ℕ)
     → (next.gift ≡ message → ⊥) → next'.gift ≡ next.gift → ((taken : List ℕ) → next.aside taken → next'.aside (taken ++ delta))
     → HopsAre next back x body to_next to_back → HopsAre next' back x body (to_next ++ delta) to_back
@@ -307,6 +325,7 @@ next_refuses_on next next' back x body to_next to_back delta un same aside p =
       })))
     ]
 
+-- where the messages go stands as the source's wire takes more of what isn't a message
 pub back_refuses_on : (next back back' : WriterView) (x : Seen) (body to_next to_back delta : List ℕ)
     → (back.gift ≡ message → ⊥) → back'.gift ≡ back.gift → ((taken : List ℕ) → back.aside taken → back'.aside (taken ++ delta))
     → HopsAre next back x body to_next to_back → HopsAre next back' x body to_next (to_back ++ delta)

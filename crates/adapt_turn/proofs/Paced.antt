@@ -20,9 +20,11 @@ use Rattle.adapt_turn.proofs.Stepped.{reported_shows}
 received_after : (x : Seen) (event : Event) → (after x event).received ≤ x.received + in_bytes event
 received_after x event = omega arith
 
+-- an event brings the adapted body at most the bytes that it counts
 adapted_after : (x : Seen) (event : Event) → (after x event).adapted_received ≤ x.adapted_received + ad_bytes event
 adapted_after x event = omega arith
 
+-- events in a row bring the original at most the bytes that they count
 received_all : (x : Seen) (events : List Event) → (after_all x events).received ≤ x.received + in_sum events
 received_all x [] = omega arith
 received_all x (event ∷ events) =
@@ -30,6 +32,7 @@ received_all x (event ∷ events) =
     let more = received_all (after x event) events in
     omega (arith, one, more)
 
+-- events in a row bring the adapted body at most the bytes that they count
 adapted_all : (x : Seen) (events : List Event) → (after_all x events).adapted_received ≤ x.adapted_received + ad_sum events
 adapted_all x [] = omega arith
 adapted_all x (event ∷ events) =
@@ -42,13 +45,16 @@ in_stepped : (failed : Option Cause) (reported : List Event) → in_sum (stepped
 in_stepped None reported = omega arith
 in_stepped (Some cause) reported = omega arith
 
+-- what is stepped of a report brings the adapted body at most what was reported
 ad_stepped : (failed : Option Cause) (reported : List Event) → ad_sum (stepped failed reported) ≤ ad_sum reported
 ad_stepped None reported = omega arith
 ad_stepped (Some cause) reported = omega arith
 
+-- the room for the original is at most a turn's bytes
 pub original_few : (x : Seen) (claim window turn : ℕ) → original_room x claim window turn ≤ turn
 original_few x claim window turn = grind (arith, nat_tests)
 
+-- the room for the adapted body is at most a turn's bytes
 pub adapted_few : (x : Seen) (window turn : ℕ) → adapted_room x window turn ≤ turn
 adapted_few x window turn = grind (arith, nat_tests)
 
@@ -56,6 +62,7 @@ adapted_few x window turn = grind (arith, nat_tests)
 pub source_fits : (h : Holding) → source_room h ≤ 65536
 source_fits h = omega (arith, original_few (shows h.history) h.claim h.limits.window h.limits.turn, h.limits.turn_in_range)
 
+-- the room for what the service gives is at most 65536 bytes
 pub service_fits : (h : Holding) → service_room h ≤ 65536
 service_fits h = omega (arith, adapted_few (shows h.history) h.limits.window h.limits.turn, h.limits.turn_in_range)
 
@@ -71,6 +78,7 @@ reported_received {F} {v} {h} {k} {r} {passed} t p n few turn =
     omega (arith, all, less, few, turn) in
     subst (λ (x : Seen). x.received ≤ (shows h.history).received + h.limits.turn) (sym shown) at
 
+-- a pass that reports at most so many adapted bytes brings the adapted body at most as many
 pub reported_adapted : {F : Type 0} {v : View F} {h k : Holding} {r : Report} {passed : PassAnswer}
     → IsTied h → Reported v h k r passed
     → (n : ℕ) → ad_sum r.events ≤ n → (shows k.history).adapted_received ≤ (shows h.history).adapted_received + n
@@ -88,6 +96,7 @@ fail_shows : (h k : Holding) (cause : Cause) → IsTied h → (shows h.history).
 fail_shows h k cause t c e = ap (λ (y : Holding). shows y.history) e ∙ then_shows h (Fail cause) (history_then h.history (Fail cause)) t
     (c, tt) refl
 
+-- a failure brings the original no byte
 pub fail_received : (h k : Holding) (cause : Cause) (n : ℕ) → IsTied h → (shows h.history).closed ≡ false → k ≡ moved h (Fail cause) []
     → (shows k.history).received ≤ (shows h.history).received + n
 fail_received h k cause n t c e =
@@ -95,6 +104,7 @@ fail_received h k cause n t c e =
     let at : (after (shows h.history) (Fail cause)).received ≤ (shows h.history).received + n = omega (arith, few) in
     subst (λ (x : Seen). x.received ≤ (shows h.history).received + n) (sym (fail_shows h k cause t c e)) at
 
+-- a failure brings the adapted body no byte
 pub fail_adapted : (h k : Holding) (cause : Cause) (n : ℕ) → IsTied h → (shows h.history).closed ≡ false → k ≡ moved h (Fail cause) []
     → (shows k.history).adapted_received ≤ (shows h.history).adapted_received + n
 fail_adapted h k cause n t c e =

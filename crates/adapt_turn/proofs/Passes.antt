@@ -45,14 +45,17 @@ brings_nothing _ = true
 
 -- Room.
 
+-- after bytes of the source there is room for the rest of those that there was room for
 room-in : (x : Seen) (n rest claim window turn : ℕ) → Sound x → x.closed ≡ false → Allows x (In n)
     → n + rest ≤ original_room x claim window turn → rest ≤ original_room (after x (In n)) claim window turn
 room-in x n rest claim window turn s c a r = grind (arith, nat_tests)
 
+-- the end of the source's body leaves no less room for the original
 room-end : (x : Seen) (rest claim window turn : ℕ) → Allows x End → rest ≤ original_room x claim window turn
     → rest ≤ original_room (after x End) claim window turn
 room-end x rest claim window turn a r = grind (arith, nat_tests)
 
+-- events of the source that may follow and bring at most the room for the original each have room
 pub room_of_source : (x : Seen) (claim window turn : ℕ) (events : List Event) → Sound x → MayAllFollow x events → AllAre is_of_source events
     → in_sum events ≤ original_room x claim window turn → HasRoomFor x claim window turn events
 room_of_source x claim window turn [] s m o r = tt
@@ -68,30 +71,37 @@ room_of_source x claim window turn (End ∷ events) s m o r = (
 )
 room_of_source x claim window turn (_ ∷ events) s m o r = absurd (false≢true o.0)
 
+-- after adapted bytes there is room for the rest of those that there was room for
 room-ad : (x : Seen) (n rest window turn : ℕ) → Sound x → x.closed ≡ false → Allows x (Ad n) → n + rest ≤ adapted_room x window turn
     → rest ≤ adapted_room (after x (Ad n)) window turn
 room-ad x n rest window turn s c a r = grind (arith, nat_tests)
 
+-- a 100 leaves no less room for the adapted body
 room-continue : (x : Seen) (rest window turn : ℕ) → Sound x → x.closed ≡ false → Allows x Continue → rest ≤ adapted_room x window turn
     → rest ≤ adapted_room (after x Continue) window turn
 room-continue x rest window turn s c a r = grind (arith, nat_tests)
 
+-- a 204 leaves no less room for the adapted body
 room-no_mod : (x : Seen) (rest window turn : ℕ) → Sound x → x.closed ≡ false → Allows x NoMod → rest ≤ adapted_room x window turn
     → rest ≤ adapted_room (after x NoMod) window turn
 room-no_mod x rest window turn s c a r = grind (arith, nat_tests)
 
+-- a 200 leaves no less room for the adapted body
 room-mod : (x : Seen) (payload : Payload) (rest window turn : ℕ) → Sound x → x.closed ≡ false → Allows x (Mod payload)
     → rest ≤ adapted_room x window turn → rest ≤ adapted_room (after x (Mod payload)) window turn
 room-mod x payload rest window turn s c a r = grind (arith, nat_tests)
 
+-- the end of the adapted body leaves no less room for it
 room-ad_end : (x : Seen) (rest window turn : ℕ) → Sound x → x.closed ≡ false → Allows x AdEnd → rest ≤ adapted_room x window turn
     → rest ≤ adapted_room (after x AdEnd) window turn
 room-ad_end x rest window turn s c a r = grind (arith, nat_tests)
 
+-- the first byte of a reply leaves no less room for the adapted body
 room-heard : (x : Seen) (rest window turn : ℕ) → Sound x → x.closed ≡ false → Allows x Heard → rest ≤ adapted_room x window turn
     → rest ≤ adapted_room (after x Heard) window turn
 room-heard x rest window turn s c a r = grind (arith, nat_tests)
 
+-- events of the replies that may follow and bring at most the room for the adapted body each have room
 pub room_of_replies : (x : Seen) (claim window turn : ℕ) (events : List Event) → Sound x → MayAllFollow x events
     → AllAre is_of_replies events
     → ad_sum events ≤ adapted_room x window turn → HasRoomFor x claim window turn events
@@ -130,6 +140,7 @@ room_of_replies x claim window turn (_ ∷ events) s m o r = absurd (false≢tru
 
 -- events that bring nothing
 
+-- events that bring no body bytes each have room
 pub room_of_others : (x : Seen) (claim window turn : ℕ) (events : List Event) → AllAre brings_nothing events
     → HasRoomFor x claim window turn events
 room_of_others x claim window turn [] o = tt
@@ -137,33 +148,39 @@ room_of_others x claim window turn (In n ∷ events) o = absurd (false≢true o.
 room_of_others x claim window turn (Ad n ∷ events) o = absurd (false≢true o.0)
 room_of_others x claim window turn (event ∷ events) o = (tt, room_of_others (after x event) _ window turn events o.1)
 
+-- where each event that passes one test passes another, a list that passes the first passes the second
 pub all_map : (f g : Event → Bool) → ((event : Event) → f event ≡ true → g event ≡ true) → (events : List Event) → AllAre f events
     → AllAre g events
 all_map f g i [] o = tt
 all_map f g i (event ∷ events) o = (i event o.0, all_map f g i events o.1)
 
+-- an event of sending brings no body bytes
 sending_brings_nothing : (event : Event) → is_of_sending event ≡ true → brings_nothing event ≡ true
 sending_brings_nothing (In n) e = e
 sending_brings_nothing (Ad n) e = e
 sending_brings_nothing _ e = refl
 
+-- an event of the next hop brings no body bytes
 hop_brings_nothing : (event : Event) → is_of_hop event ≡ true → brings_nothing event ≡ true
 hop_brings_nothing (In n) e = e
 hop_brings_nothing (Ad n) e = e
 hop_brings_nothing _ e = refl
 
+-- events that each bring no body bytes bring none in all
 none_brought : (events : List Event) → AllAre brings_nothing events → brought_all events ≡ 0
 none_brought [] o = refl
 none_brought (In n ∷ events) o = absurd (false≢true o.0)
 none_brought (Ad n ∷ events) o = absurd (false≢true o.0)
 none_brought (_ ∷ events) o = let e = none_brought events o.1 in omega (arith, e)
 
+-- events of the source bring just the bytes that they count of the original
 source_brought : (events : List Event) → AllAre is_of_source events → brought_all events ≡ in_sum events
 source_brought [] o = refl
 source_brought (In n ∷ events) o = let e = source_brought events o.1 in omega (arith, e)
 source_brought (End ∷ events) o = let e = source_brought events o.1 in omega (arith, e)
 source_brought (_ ∷ events) o = absurd (false≢true o.0)
 
+-- events of the replies bring just the bytes that they count of the adapted body
 replies_brought : (events : List Event) → AllAre is_of_replies events → brought_all events ≡ ad_sum events
 replies_brought [] o = refl
 replies_brought (Ad n ∷ events) o = let e = replies_brought events o.1 in omega (arith, e)
@@ -176,6 +193,7 @@ replies_brought (_ ∷ events) o = absurd (false≢true o.0)
 
 -- What `run` asks.
 
+-- events of the source that may follow, with bytes within the room for the original, may run
 pub source_runs : (h : Holding) (events : List Event) (out : List ℕ) → IsTied h → IsRoomy h → MayAllFollow (shows h.history) events
     → AllAre is_of_source events
     → in_sum events ≤ length out → length out ≤ original_room (shows h.history) h.claim h.limits.window h.limits.turn → MayRun h events out
@@ -188,6 +206,7 @@ source_runs h events out t r m o c l =
       roomy = r;
     }
 
+-- events of the replies that may follow, with bytes within the room for the adapted body, may run
 pub replies_run : (h : Holding) (events : List Event) (out : List ℕ) → IsTied h → IsRoomy h → MayAllFollow (shows h.history) events
     → AllAre is_of_replies events
     → ad_sum events ≤ length out → length out ≤ adapted_room (shows h.history) h.limits.window h.limits.turn → MayRun h events out
@@ -200,6 +219,7 @@ replies_run h events out t r m o c l =
       roomy = r;
     }
 
+-- events that may follow and bring no body bytes may run with none
 others_run : (h : Holding) (events : List Event) → IsRoomy h → MayAllFollow (shows h.history) events → AllAre brings_nothing events
     → MayRun h events []
 others_run h events r m o =
@@ -211,23 +231,28 @@ others_run h events r m o =
       roomy = r;
     }
 
+-- events of sending that may follow may run with no bytes
 pub sending_runs : (h : Holding) (events : List Event) → IsRoomy h → MayAllFollow (shows h.history) events → AllAre is_of_sending events
     → MayRun h events []
 sending_runs h events r m o = others_run h events r m (all_map is_of_sending brings_nothing sending_brings_nothing events o)
 
+-- events of the next hop that may follow may run with no bytes
 pub hop_runs : (h : Holding) (events : List Event) → IsRoomy h → MayAllFollow (shows h.history) events → AllAre is_of_hop events
     → MayRun h events []
 hop_runs h events r m o = others_run h events r m (all_map is_of_hop brings_nothing hop_brings_nothing events o)
 
+-- a failure may run in an open transaction with a window left, whatever bytes are there
 pub fail_runs : (h : Holding) (cause : Cause) (bytes : List ℕ) → IsRoomy h → (shows h.history).closed ≡ false
     → MayRun h (Fail cause ∷ []) bytes
 fail_runs h cause bytes r c = record { may = (c, tt, tt); carried = omega arith; room = (tt, tt); roomy = r }
 
 -- What a side asks of a tape.
 
+-- while the service still takes bytes those of the original are held from the first that isn't sent, or earlier
 unsent_from : (x : Seen) → Sound x → x.closed ≡ false → MaySend x → original_from x ≤ x.sent
 unsent_from x s c m = grind (arith, nat_tests)
 
+-- the original's tape of a tied holding has what may still go to the service
 pub keeps_unsent_at : (h : Holding) (history : History) (tape : Tape) → IsTied h → history ≡ h.history → span_of tape ≡ h.original
     → KeepsUnsent (shows history) tape
 keeps_unsent_at h history tape t e te =
@@ -245,12 +270,15 @@ record ChosenTape (x : Seen) (base end : ℕ) : Type 0 where
   ends : end ≡ chosen_received x
   begins : x.closed ≡ false → base ≡ chosen_delivered x
 
+-- of a chosen original the bytes are held from the first that hasn't gone out
 original_base : (x : Seen) → Sound x → x.closed ≡ false → chooses_original x ≡ true → original_from x ≡ x.original_delivered
 original_base x s c o = grind (arith, nat_tests)
 
+-- where the original isn't chosen the adapted bytes are held from the first that hasn't gone out
 adapted_base : (x : Seen) → Sound x → x.closed ≡ false → chooses_original x ≡ false → adapted_from x ≡ x.adapted_delivered
 adapted_base x s c o = grind (arith, nat_tests)
 
+-- of the two tapes the chosen one ends with what came of its body and begins with what goes out next
 by_choice : (b : Bool) (x : Seen) (o a : Span) → chooses_original x ≡ b → Sound x → o.base ≡ original_from x → span_end o ≡ x.received
     → a.base ≡ adapted_from x → span_end a ≡ x.adapted_received
     → ChosenTape x (if b then o else a).base (span_end (if b then o else a))
@@ -263,6 +291,7 @@ by_choice false x o a e s ob oe ab ae = record {
   begins = λ c. ab ∙ adapted_base x s c e ∙ sym (rw e refl);
 }
 
+-- the chosen message's tape of a tied holding begins with what goes to the next hop next
 pub keeps_undelivered_at : (h : Holding) (history : History) (tape : Tape) → IsTied h → history ≡ h.history → span_of tape ≡ chosen_span h
     → KeepsUndelivered (shows history) tape
 keeps_undelivered_at h history tape t e te =
@@ -273,10 +302,12 @@ keeps_undelivered_at h history tape t e te =
     record { end = ap span_end te ∙ w.ends; base = λ c. ap (λ (s : Span). s.base) te ∙ w.begins c } in
     subst (λ (y : History). KeepsUndelivered (shows y) tape) (sym e) at
 
+-- a tape whose bytes are those of a span has the bytes of a body where the span has
 pub follows_span : (tape : Tape) (s : Span) (body : List ℕ) → span_of tape ≡ s → EndsBody s body → Follows tape body
 follows_span tape s body e f = let g : EndsBody (span_of tape) body = subst (λ (x : Span). EndsBody x body) (sym e) f in
     record { end = g.end; bytes = g.bytes }
 
+-- of two tapes with the bytes of two bodies the one that is taken has those of the body that is taken
 chosen_by : (b : Bool) (o a : Span) (original adapted : List ℕ) (m : Bool) → (b ≡ true) ⊎ (m ≡ true) → EndsBody o original
     → EndsBody a adapted
     → EndsBody (if b then o else a) (if b then original else if m then adapted else [])
@@ -285,6 +316,7 @@ chosen_by false o a original adapted true w f g = g
 chosen_by false o a original adapted false (inl e) f g = absurd (false≢true e)
 chosen_by false o a original adapted false (inr e) f g = absurd (false≢true e)
 
+-- the chosen message's tape has the bytes of the chosen body
 pub ends_chosen : (h : Holding) (original adapted : List ℕ) → IsChosen (shows h.history) → EndsBody h.original original
     → EndsBody h.adapted adapted
     → EndsBody (chosen_span h) (chosen (shows h.history) original adapted)
@@ -310,6 +342,7 @@ IsBroken passed = passed ≡ record { waiting = false; failed = None; broken = t
 abbrev silent : (given taken : List ℕ) → Report
 silent given taken = record { events = []; out = []; given = given; taken = taken }
 
+-- a turn of a side that went well is a pass whose events were stepped
 took_part : {F : Type 0} {v : View F} {h k : Holding} {r : Report} {passed : PassAnswer} (turn : Turn) (delta : List ℕ)
     → WentOn turn passed → WireOf v r (Ok turn) → AllAre v.events r.events → MayRun h r.events r.out
     → (delta ≡ [] → IsStill r) → (IsStill r → delta ≡ []) → SaysWaiting r.events delta (let x : Result Turn F = Ok turn in x)
@@ -329,6 +362,7 @@ took_part {F} {v} {h} {k} {r} {passed} turn delta e wire only runs still none sa
       sound = λ n b. sound;
     })
 
+-- a turn of a side that met a fault is a pass that reports no event and fails with that fault's cause
 failed_part : {F : Type 0} {v : View F} {h k : Holding} {passed : PassAnswer} (fault : F) (given taken : List ℕ)
     → Closed (v.cause fault) passed → WireOf v (silent given taken) (Err fault) → v.new_fault ≡ Some fault → IsRoomy h
     → (shows h.history).closed ≡ false
@@ -368,6 +402,7 @@ broken_part {F} {v} {h} {k} {passed} fault given taken e wire r is =
       sound = λ n b. absurd (false≢true (sym b));
     })
 
+-- a turn that met a fault steps nothing where the connection broke, and else fails with that fault's cause
 either_part : {F : Type 0} {v : View F} {h k : Holding} {passed : PassAnswer} (fault : F) (given taken : List ℕ) (b : Bool)
     → passed.broken ≡ b → WireOf v (silent given taken) (Err fault) → v.new_fault ≡ Some fault → IsRoomy h
     → (shows h.history).closed ≡ false
@@ -385,6 +420,7 @@ ReadsOf s w old new room out result = ReadsBody (λ x body read. s.has_read x bo
     (s.fault old.side) (s.fault new.side) (s.rests room new.side) (s.is_framed room new.side) (s.is_over new.side) (w.past old.wire)
     (w.past new.wire) out result
 
+-- a read of the source that went well is its pass, whose events were stepped
 pub source_took : {S H W : Type 0} (s : Source S H) (w : Wire W) (old new : Lent S W) (turn : Turn) (events : List Event) (out : List ℕ)
     (n : ℕ) (passed : PassAnswer)
     → n ≡ source_room old.hold → IsTied old.hold → IsRoomy old.hold → (shows old.hold.history).closed ≡ false
@@ -410,6 +446,7 @@ source_took s w old new turn events out n passed same t r c a l e b0 is went =
       goes_on = λ body read h0. b.goes_on (shows h.history) body read h0 c;
     }
 
+-- a read of the source that met a fault is its pass, which fails with that fault's cause
 pub source_failed : {S H W : Type 0} (s : Source S H) (w : Wire W) (old new : Lent S W) (fault : RelayFault) (out : List ℕ) (n : ℕ)
     (cause : Cause) (passed : PassAnswer)
     → n ≡ source_room old.hold → IsRoomy old.hold → (shows old.hold.history).closed ≡ false → s.agrees (shows old.hold.history) old.side
@@ -441,6 +478,7 @@ SendsOf v w old new history tape result = Sends (shows history) tape (λ heads x
     (λ heads x came taken. v.has_sent heads x came taken new.side)
     (v.fault old.side) (v.fault new.side) (v.rests_writing (shows history) new.side) (w.past old.wire) (w.past new.wire) result
 
+-- a write to the service that went well is its pass, whose events were stepped
 pub send_took : {V W : Type 0} (v : Service V) (w : Wire W) (old new : Lent V W) (history : History) (tape : Tape) (turn : Turn)
     (events : List Event) (passed : PassAnswer)
     → IsRoomy old.hold → history ≡ old.hold.history → span_of tape ≡ old.hold.original → events ≡ turn.events.items
@@ -457,6 +495,7 @@ send_took v w old new history tape turn events passed r he te e b0 is went =
       goes_on = λ request came taken f s. b.goes_on request came taken (follows_span tape h.original came te f) s;
     }
 
+-- a write to the service that met a fault is its pass, which broke the connection with no step, or fails
 pub send_failed : {V W : Type 0} (v : Service V) (w : Wire W) (old new : Lent V W) (history : History) (tape : Tape) (fault : ClientFault)
     (passed : PassAnswer)
     → IsRoomy old.hold → (shows old.hold.history).closed ≡ false → history ≡ old.hold.history → span_of tape ≡ old.hold.original
@@ -479,6 +518,7 @@ HearsOf v w old new history room out result = Hears (shows history) (λ x adapte
     (v.fault old.side) (v.fault new.side) (v.rests_reading (shows history) room new.side) (v.is_framed room new.side) (w.past old.wire)
     (w.past new.wire) out result
 
+-- a read of the service stands by the holding's own history and room
 hears_at : {V W : Type 0} (v : Service V) (w : Wire W) (old new : Lent V W) (history : History) (n : ℕ) (out : List ℕ)
     (result : Result Turn ClientFault)
     → n ≡ service_room old.hold → history ≡ old.hold.history → HearsOf v w old new history n out result
@@ -487,6 +527,7 @@ hears_at v w old new history n out result same he b =
     subst (λ (y : ℕ). HearsOf v w old new old.hold.history y out result) same
     (subst (λ (y : History). HearsOf v w old new y n out result) he b)
 
+-- the events of a read of the service that went well may run with the adapted bytes that came
 pub hear_runs : {V W : Type 0} (v : Service V) (w : Wire W) (old new : Lent V W) (history : History) (turn : Turn) (events : List Event)
     (n : ℕ) (out : List ℕ)
     → IsTied old.hold → IsRoomy old.hold → history ≡ old.hold.history → events ≡ turn.events.items → length out ≤ service_room old.hold
@@ -502,6 +543,7 @@ not_waiting : (passed : PassAnswer) {A B : Type 0} {cause : Cause} (b : Bool) �
 not_waiting passed true e broke shut w = false≢true (sym (ap (λ (y : PassAnswer). y.waiting) (broke e).1) ∙ w)
 not_waiting passed false e broke shut w = false≢true (sym (ap (λ (y : PassAnswer). y.waiting) (shut e).1) ∙ w)
 
+-- a read of the service that went well is its pass, whose events were stepped
 pub hear_took : {V W : Type 0} (v : Service V) (w : Wire W) (old new : Lent V W) (history : History) (turn : Turn) (events : List Event)
     (out : List ℕ) (n : ℕ) (passed : PassAnswer)
     → n ≡ service_room old.hold → IsTied old.hold → IsRoomy old.hold → history ≡ old.hold.history → events ≡ turn.events.items
@@ -522,6 +564,7 @@ hear_took v w old new history turn events out n passed same t r he e l b0 is wen
       goes_on = b.goes_on;
     }
 
+-- a read of the service that met a fault is its pass, which broke the connection with no step, or fails
 pub hear_failed : {V W : Type 0} (v : Service V) (w : Wire W) (old new : Lent V W) (history : History) (fault : ClientFault) (out : List ℕ)
     (n : ℕ) (passed : PassAnswer)
     → n ≡ service_room old.hold → IsRoomy old.hold → (shows old.hold.history).closed ≡ false → history ≡ old.hold.history
@@ -549,6 +592,7 @@ GivesOf k w old new history tape result = Gives (shows history) tape (λ x head 
     (λ taken. k.aside taken old.side) (λ taken. k.aside taken new.side) (λ head body taken. k.is_whole head body taken new.side)
     (k.fault old.side) (k.fault new.side) (k.rests (shows history) new.side) (w.past old.wire) (w.past new.wire) result
 
+-- a write to the next hop that went well is its pass, whose events were stepped
 pub hop_took : {K G W : Type 0} (k : Hop K G) (w : Wire W) (old new : Lent K W) (history : History) (tape : Tape) (turn : Turn)
     (events : List Event) (passed : PassAnswer)
     → IsRoomy old.hold → (shows old.hold.history).closed ≡ false → IsChosen (shows old.hold.history) → history ≡ old.hold.history
@@ -569,6 +613,7 @@ hop_took k w old new history tape turn events passed r c chooses he te e b0 is w
           (follows_span tape (chosen_span h) _ te (ends_chosen h original adapted chooses f g)) given;
     }
 
+-- a write to the next hop that met a fault is its pass, which fails with that fault's cause
 pub hop_failed : {K G W : Type 0} (k : Hop K G) (w : Wire W) (old new : Lent K W) (history : History) (tape : Tape) (fault : RelayFault)
     (cause : Cause) (passed : PassAnswer)
     → IsRoomy old.hold → (shows old.hold.history).closed ≡ false → IsChosen (shows old.hold.history) → history ≡ old.hold.history
@@ -592,6 +637,7 @@ hop_failed k w old new history tape fault cause passed r c chooses he te b0 own 
 
 -- the service's fault where the request might not begin anew
 
+-- a pass failed by a fault of the service only where that fault lets no request begin anew
 pub unbroken_by : (h k : Holding) (reused : Bool) (fault : ClientFault) (f1 : Option ClientFault) (passed : PassAnswer) (b : Bool)
     → passed.broken ≡ b → f1 ≡ Some fault
     → (passed.broken ≡ true → (k ≡ h) × IsBroken passed)

@@ -30,45 +30,54 @@ use Rattle.adapt_turn.specs.Reports.{source_view, hear_view, hop_view, Report, R
 use Rattle.adapt_turn.specs.Passes.{service_faults}
 use Rattle.adapt_turn.specs.Stands.{Waited, WaitedBeside, WaitedBoth, faults_in, Blamed, BlamedWriter}
 
+-- a pass that waits had nothing due, or its wire answered Wait
 pub reported_waits : {F : Type 0} {v : View F} {h k : Holding} {r : Report} {passed : PassAnswer} → Reported v h k r passed
     → passed.waiting ≡ true → Waited v.rests v.waits v.before v.after
 reported_waits p e = λ past b. let w = p.wire past b in (w.0, w.1, w.3.waiting e)
 
+-- a pass that failed has the cause of its side's fault
 pub reported_blames : {F : Type 0} {v : View F} {h k : Holding} {r : Report} {passed : PassAnswer} → Reported v h k r passed
     → (cause : Cause) → passed.failed ≡ Some cause
     → Blamed (faults_in v) cause
 reported_blames p cause e = λ past b. let w = p.wire past b in (w.0, w.1, w.3.failed cause e)
 
+-- a pass that waits hasn't failed
 pub reported_idle : {F : Type 0} {v : View F} {h k : Holding} {r : Report} {passed : PassAnswer} → Reported v h k r passed
     → passed.waiting ≡ true → passed.failed ≡ None
 reported_idle p e = (p.tells.idle e).2
 
 -- the cause lies with the side, or with memory
 
+-- each fault of the source has a cause that lies with a side, or with memory
 source_side : (fault : RelayFault) → IsOfSide (source_cause fault)
 source_side relay.NoMemory = tt
 source_side _ = tt
 
+-- a cause that comes of a fault of the source lies with a side, or with memory
 pub source_blame : {new : Option RelayFault} (cause : Cause) → (fault : RelayFault) × (new ≡ Some fault) × (cause ≡ source_cause fault)
     → IsOfSide cause
 source_blame cause w = subst IsOfSide (sym w.2) (source_side w.0)
 
+-- each fault of the service has a cause that lies with a side, or with memory
 service_side : (fault : ClientFault) → IsOfSide (service_cause fault)
 service_side client.NoMemory = tt
 service_side _ = tt
 
+-- a cause that comes of a fault of the service lies with a side, or with memory
 pub service_blame : {new : Option ClientFault} (cause : Cause) → (fault : ClientFault) × (new ≡ Some fault) × (cause ≡ service_cause fault)
     → IsOfSide cause
 service_blame cause w = subst IsOfSide (sym w.2) (service_side w.0)
 
 -- the same sides and wires, by other names
 
+-- a side that waited on its wire waited by other names of both
 pub waits_kept : {S A : Type 0} (rests : S → Type 0) (past : A → Past → Type 0) (waits : Past → ℕ) (before : Past → Type 0) (s s' : S)
     (a a' : A) → s' ≡ s → a' ≡ a
     → Waited (rests s) waits before (past a) → Waited (rests s') waits before (past a')
 waits_kept {S} {A} rests past waits before s s' a a' e f w =
     subst (λ (z : S). Waited (rests z) waits before (past a')) (sym e) (subst (λ (z : A). Waited (rests s) waits before (past z)) (sym f) w)
 
+-- a cause that is that of the source's fault is so by other names of the side and of its wire
 pub blamed_kept : {S H W : Type 0} (s : Source S H) (w : Wire W) (old mid new : Lent S W) (cause : Cause) → new.side ≡ mid.side
     → new.wire ≡ mid.wire
     → Blamed (faults_in (source_view s w old mid)) cause → Blamed (faults_in (source_view s w old new)) cause
@@ -84,6 +93,7 @@ outcome_fails (Some c) r cause s e = cc
 
 -- the service's line
 
+-- a pass that waits leaves what is held as it was
 pub reported_still : {F : Type 0} {v : View F} {h k : Holding} {r : Report} {passed : PassAnswer} → Reported v h k r passed
     → passed.waiting ≡ true → k ≡ h
 reported_still {F} {v} {h} {k} {r} {passed} p e =
@@ -95,6 +105,7 @@ pub writes_beside : {F : Type 0} {v : View F} {h k : Holding} {r : Report} {pass
     → passed.waiting ≡ true → WaitedBeside v.rests v.waits (λ q. q.read_waits) v.before v.after
 writes_beside part e = λ p b. let w = part.wire p b in (w.0, w.1, w.2.read_waits, w.3.waiting e)
 
+-- where a pass waits, the writes that its wire let wait haven't become fewer
 pub reads_beside : {F : Type 0} {v : View F} {h k : Holding} {r : Report} {passed : PassAnswer} → Reported v h k r passed
     → passed.waiting ≡ true → WaitedBeside v.rests v.waits (λ q. q.write_waits) v.before v.after
 reads_beside part e = λ p b. let w = part.wire p b in (w.0, w.1, w.2.write_waits, w.3.waiting e)
@@ -130,9 +141,11 @@ blamed_then v w old mid new cause given taken e goes blamed = λ p b.
 
 -- A writer's.
 
+-- a turn that went well is no fault
 pub never_err : (turn : Turn) (fault : RelayFault) (this : Type 0) → Ok turn ≡ Err fault → this
 never_err turn fault this e = cc
 
+-- two results that are faults and the same have the same fault
 pub same_err : (f g : RelayFault) → (let r : Result Turn RelayFault = Err f in r) ≡ Err g → f ≡ g
 same_err f g e = cc
 
@@ -194,6 +207,7 @@ pub cause_weaker : {F : Type 0} (old new : Option F) (reason wider : F → Type 
     → HasFaultReason old new reason → HasFaultReason old new wider
 cause_weaker {F} old new reason wider k w = λ none f n. k f (w none f n)
 
+-- why a writer failed stands with fewer conditions on a broken length
 pub giving_weaker : (this breaks : Type 0) (f : RelayFault) → FailsGiving (this × breaks) f → FailsGiving breaks f
 giving_weaker this breaks f (inl d) = inl d
 giving_weaker this breaks f (inr l) = inr (l.0, l.1.1)
@@ -207,16 +221,19 @@ pub cause_kept : {F G : Type 0} (reason : G → F → Type 0) (f0 f1 f2 : Option
     → HasFaultReason f0 f1 (reason g) → HasFaultReason f0 f2 (reason g')
 cause_kept {F} {G} reason f0 f1 f2 g g' e same w = λ none f n. subst (λ (z : G). reason z f) (sym same) (w none f (sym e ∙ n))
 
+-- where a failure would have closed the history, and it is open, nothing failed
 pub not_failed : (failed : Option Cause) (closed : Bool) → ((cause : Cause) → failed ≡ Some cause → closed ≡ true) → closed ≡ false
     → failed ≡ None
 not_failed None closed over c = refl
 not_failed (Some cause) closed over c = absurd (false≢true (sym c ∙ over cause refl))
 
+-- a cause that is that of the service's fault is so by another name of its line
 pub line_blamed_kept : {V W : Type 0} (v : Service V) (w : Wire W) (old mid new : Option (ServiceEnd V W)) (cause : Cause) → new ≡ mid
     → Blamed (service_faults v w old mid) cause → Blamed (service_faults v w old new) cause
 line_blamed_kept {V} {W} v w old mid new cause e b =
     subst (λ (z : Option (ServiceEnd V W)). Blamed (service_faults v w old z) cause) (sym e) b
 
+-- why the service failed is so by other names of what is held and of its line
 pub fails_kept : {V W : Type 0} (v : Service V) (cause : Cause) (reused : Bool) (old : Option V) (h h' : Holding)
     (l l' : Option (ServiceEnd V W)) → h' ≡ h → l' ≡ l
     → FailsFor v cause reused old (side_of l) h → FailsFor v cause reused old (side_of l') h'
@@ -224,6 +241,7 @@ fails_kept {V} {W} v cause reused old h h' l l' e f w =
     subst (λ (k : Holding). FailsFor v cause reused old (side_of l') k) (sym e)
     (subst (λ (z : Option (ServiceEnd V W)). FailsFor v cause reused old (side_of z) h) (sym f) w)
 
+-- a write that waited, and then a read that waited, are a line that waited in both
 pub both_waited : (h m : Holding) (before mid after_ : Past → Type 0) (w0 w1 : Type 0) (r : Holding → Type 0) → m ≡ h → (w0 → w1)
     → WaitedBeside w0 (λ q. q.write_waits) (λ q. q.read_waits) before mid
     → WaitedBeside (r m) (λ q. q.read_waits) (λ q. q.write_waits) mid after_ → WaitedBoth w1 (r h) before after_
@@ -242,12 +260,14 @@ both_waited h m before mid after_ w0 w1 r e k s t = λ p b. let u = s p b in let
 
 -- the service's line behind a refusal
 
+-- a line that waited in both ways waited so by another name of it
 pub both_kept : {L : Type 0} (w r : L → Type 0) (past : L → Past → Type 0) (before : Past → Type 0) (l l' : Option L) → l' ≡ l
     → WaitedBoth (MatchOption l ⊤ w) (MatchOption l ⊤ r) before (λ p. MatchOption l ⊥ (λ z. past z p))
     → WaitedBoth (MatchOption l' ⊤ w) (MatchOption l' ⊤ r) before (λ p. MatchOption l' ⊥ (λ z. past z p))
 both_kept {L} w r past before l l' e t = subst (λ (y : Option L). WaitedBoth (MatchOption y ⊤ w) (MatchOption y ⊤ r) before
     (λ p. MatchOption y ⊥ (λ z. past z p))) (sym e) t
 
+-- a broken connection is so by other names of what is held and of its line, and a retry may follow
 pub breaks_kept : {L : Type 0} (fault : L → Option ClientFault) (reused : Bool) (h h' : Holding) (l l' : Option L) → l' ≡ l → h' ≡ h
     → MatchOption l ⊥ (λ z. Breaks h.history reused (fault z))
     → MayFollow h'.history.plan h'.history.events Retry × MatchOption l' ⊥ (λ z. Breaks h'.history reused (fault z))

@@ -40,6 +40,7 @@ none_due closed this due o w = absurd (false≢true (sym o ∙ w.0))
 
 -- Its writing.
 
+-- a write of a writer stands by the holding's own history
 gives_now : (h : Holding) (history : History) (tape : Tape) (result : Result Turn RelayFault)
     (so sn : Seen → List ℕ → List ℕ → List ℕ → Type 0) (ao an : List ℕ → Type 0) (whole : List ℕ → List ℕ → List ℕ → Type 0)
     (f0 f1 : Option RelayFault) (rests : Seen → Type 0) (before after_ : Past → Type 0)
@@ -48,6 +49,7 @@ gives_now : (h : Holding) (history : History) (tape : Tape) (result : Result Tur
 gives_now h history tape result so sn ao an whole f0 f1 rests before after_ he b =
     subst (λ (y : History). Gives (shows y) tape so sn ao an whole f0 f1 (rests (shows y)) before after_ result) he b
 
+-- a writer's turn that waits had nothing due, or its wire answered Wait
 pub refusal_waits : (h : Holding) (history : History) (tape : Tape) (turn : Turn) (so sn : Seen → List ℕ → List ℕ → List ℕ → Type 0)
     (ao an : List ℕ → Type 0) (whole : List ℕ → List ℕ → List ℕ → Type 0) (f0 f1 : Option RelayFault) (rests : Seen → Type 0)
     (before after_ : Past → Type 0)
@@ -59,6 +61,7 @@ refusal_waits h history tape turn so sn ao an whole f0 f1 rests before after_ he
     let w = b.wire p here in
     (w.0, w.1, w.3.waiting e)
 
+-- what may follow a closed history is no event
 none_follow : (x : Seen) (events : List Event) → x.closed ≡ true → MayAllFollow x events → events ≡ []
 none_follow x [] c m = refl
 none_follow x (event ∷ events) c m = absurd (false≢true (sym m.0 ∙ c))
@@ -86,10 +89,12 @@ refusal_acts h history tape turn so sn ao an whole f0 f1 rests before after_ he 
 
 -- Whether it is closed.
 
+-- what follows where a history is closed, and also where it is open, holds
 pub by_closed : (closed : Bool) (this : Type 0) → (closed ≡ true → this) → (closed ≡ false → this) → this
 by_closed true this a b = a refl
 by_closed false this a b = b refl
 
+-- what follows at RESPMOD, and also at REQMOD, holds
 pub by_point : (point : Point) (this : Type 0) → (point ≡ Respmod → this) → (point ≡ Reqmod → this) → this
 by_point Reqmod this a b = b refl
 by_point Respmod this a b = a refl

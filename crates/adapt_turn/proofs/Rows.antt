@@ -23,6 +23,7 @@ use Rattle.adapt_turn.proofs.Carry.{all_then}
 
 -- Rows.
 
+-- events that may run take a tied holding to the one after all of them, each in its turn
 pub took_all : (h : Holding) (events : List Event) (bytes : List ℕ) → IsTied h → MayRun h events bytes
     → TookAll h events (moved_all h events bytes)
 took_all h [] bytes t m = refl
@@ -44,17 +45,21 @@ took_all h (event ∷ events) bytes t m =
       }),
     )
 
+-- events that take a holding to another, and further ones from there, take it all the way in a row
 took_then : (h m k : Holding) (first others : List Event) → TookAll h first m → TookAll m others k → TookAll h (first ++ others) k
 took_then h m k [] others t u = subst (λ (y : Holding). TookAll y others k) t u
 took_then h m k (event ∷ events) others t u = (t.0, t.1, t.2, took_then t.1 m k events others t.3 u)
 
+-- two lists of events that each pass a test pass it together
 all_both : (test : Event → Bool) (first others : List Event) → AllAre test first → AllAre test others → AllAre test (first ++ others)
 all_both test [] others a b = b
 all_both test (event ∷ events) others a b = (a.0, all_both test events others a.1 b)
 
+-- at least one step, and then any steps of the same test, are at least one step
 advances_then : (test : Event → Bool) (h m k : Holding) → Advances test h m → TookBy test m k → Advances test h k
 advances_then test h m k a b = (a.0, a.1 ++ b.0, all_both test (a.0 ∷ a.1) b.0 a.2 b.1, took_then h m k (a.0 ∷ a.1) b.0 a.3 b.2)
 
+-- events of a test that took a holding to another and aren't none are at least one step
 some_stepped : (test : Event → Bool) (h k : Holding) (events : List Event) → AllAre test events → TookAll h events k → (events ≡ [] → ⊥)
     → Advances test h k
 some_stepped test h k [] o t n = absurd (n refl)
@@ -65,37 +70,46 @@ pub fail_advances : (side : Side) (h k : Holding) (cause : Cause) → (shows h.h
     → Advances (may_step side) h k
 fail_advances side h k cause c e = (Fail cause, [], (refl, tt), ([], k, ((c, tt), e), refl))
 
+-- the failure of an open transaction is a row that any side may step
 pub took_fail : (side : Side) (h k : Holding) (cause : Cause) → (shows h.history).closed ≡ false → k ≡ moved h (Fail cause) []
     → TookBy (may_step side) h k
 took_fail side h k cause c e = let a = fail_advances side h k cause c e in (a.0 ∷ a.1, a.2, a.3)
 
+-- two rows of events that pass a test, one after the other, are a row of such events
 pub took_both : (test : Event → Bool) (h m k : Holding) → TookBy test h m → TookBy test m k → TookBy test h k
 took_both test h m k a b = (a.0 ++ b.0, all_both test a.0 b.0 a.1 b.1, took_then h m k a.0 b.0 a.2 b.2)
 
 -- The parts of a turn.
 
+-- one of two is so where the second is
 or_right : (a b : Bool) → b ≡ true → a || b ≡ true
 or_right true b e = refl
 or_right false b e = e
 
+-- one of two is so where the first is
 or_left : (a b : Bool) → a ≡ true → a || b ≡ true
 or_left true b e = refl
 or_left false b e = absurd (false≢true e)
 
+-- a turn of the source may step each event of the source
 pub of_source : (event : Event) → is_of_source event ≡ true → may_step Source event ≡ true
 of_source event e = or_right (is_fail event) (is_of_source event) e
 
+-- a turn of the service may step each event of sending
 pub of_sending : (event : Event) → is_of_sending event ≡ true → may_step Service event ≡ true
 of_sending event e = or_right (is_fail event) (is_of_sending event || is_of_replies event)
     (or_left (is_of_sending event) (is_of_replies event) e)
 
+-- a turn of the service may step each event of the replies
 pub of_replies : (event : Event) → is_of_replies event ≡ true → may_step Service event ≡ true
 of_replies event e = or_right (is_fail event) (is_of_sending event || is_of_replies event)
     (or_right (is_of_sending event) (is_of_replies event) e)
 
+-- a turn of the next hop may step each event of the next hop
 pub of_hop : (event : Event) → is_of_hop event ≡ true → may_step NextHop event ≡ true
 of_hop event e = or_right (is_fail event) (is_of_hop event) e
 
+-- what a pass steps a turn of its side may step
 pub reported_took : {F : Type 0} (side : Side) {v : View F} {h k : Holding} {r : Report} {passed : PassAnswer}
     → ((event : Event) → v.events event ≡ true → may_step side event ≡ true) → IsTied h
     → Reported v h k r passed → TookBy (may_step side) h k
@@ -106,6 +120,7 @@ reported_took {F} side {v} {h} {k} {r} {passed} i t p = (
       (took_all h (stepped passed.failed r.events) r.out t p.runs),
 )
 
+-- where nothing is stepped there was no failure and nothing reported
 none_stepped : (failed : Option Cause) (reported : List Event) → stepped failed reported ≡ [] → (failed ≡ None) × (reported ≡ [])
 none_stepped None reported e = (refl, e)
 none_stepped (Some cause) reported e = absurd cc
@@ -114,12 +129,14 @@ pub record Grown (p q : Past) (given taken : List ℕ) : Type 0 where
   pub read : length q.read ≡ length p.read + length given
   pub out : length q.taken ≡ length p.taken + length taken
 
+-- what a wire gave and took is longer by the bytes that it gave and took since
 pub grown : (p q : Past) (given taken : List ℕ) → IsLater p given taken q → Grown p q given taken
 grown p q given taken l = record {
   read = ap (λ (bs : List ℕ). length bs) l.read ∙ length-append p.read given;
   out = ap (λ (bs : List ℕ). length bs) l.out ∙ length-append p.taken taken;
 }
 
+-- a pass that neither waits nor met a broken connection moved a byte or took at least one step
 pub reported_acts : {F : Type 0} (side : Side) {v : View F} {h k : Holding} {r : Report} {passed : PassAnswer}
     → ((event : Event) → v.events event ≡ true → may_step side event ≡ true) → IsTied h
     → Reported v h k r passed
@@ -147,6 +164,7 @@ untouched_or this before t = λ p b. (p, b, omega arith, omega arith, λ z. t)
 
 -- Two passes of the service's side.
 
+-- after a pass that stepped nothing, one that moves a byte or takes a step does so for both together
 pub then_acts : (test : Event → Bool) (h m k : Holding) (before mid after_ : Past → Type 0) (given taken : List ℕ) → m ≡ h
     → ((p : Past) → before p → (q : Past) × mid q × IsLater p given taken q) → BytesOr (Advances test m k) mid after_
     → BytesOr (Advances test h k) before after_
@@ -165,6 +183,7 @@ then_acts test h m k before mid after_ given taken e goes act = λ p b.
       λ z. subst (λ (y : Holding). Advances test y k) e (v.4 (omega (arith, gr, go, vr, vo, z))),
     )
 
+-- a pass that moved a byte or took a step, and another one after it, did so together
 pub acts_then : (test : Event → Bool) (h m k : Holding) (before mid after_ : Past → Type 0) (given taken : List ℕ)
     → BytesOr (Advances test h m) before mid
     → ((p : Past) → mid p → (q : Past) × after_ q × IsLater p given taken q) → TookBy test m k → BytesOr (Advances test h k) before after_
@@ -182,6 +201,7 @@ acts_then test h m k before mid after_ given taken act goes later = λ p b.
 
 -- Which side a turn is for.
 
+-- what is so for the source, for the service and for the next hop is so for each side
 pub by_side : (side : Side) (this : Side → Type 0) → (side ≡ Source → this Source) → (side ≡ Service → this Service)
     → (side ≡ NextHop → this NextHop) → this side
 by_side Source this a b c = a refl

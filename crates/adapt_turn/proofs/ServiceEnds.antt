@@ -49,6 +49,7 @@ written_passes v w reused old new passed tied c busy d =
       breaks = λ b. let breaks = d.breaks b in (not_failed passed.failed _ (reported_over tied part) breaks.may.0, breaks);
     }
 
+-- a pass leaves its wire later by just the bytes that it reports
 over_wire : {F : Type 0} {v : View F} {h k : Holding} {r : Report} {passed : PassAnswer} → Reported v h k r passed → (p : Past) → v.before p
     → (q : Past) × v.after q × IsLater p r.given r.taken q
 over_wire part p b = let w = part.wire p b in (w.0, w.1, w.2)
@@ -130,6 +131,7 @@ pub record LineTold {V W : Type 0} (v : Service V) (w : Wire W) (reused : Bool) 
   pub served : wire_of line ≡ None → wire_of line' ≡ None
   pub absent : wire_of line ≡ None → passed.waiting ≡ true
 
+-- what is asked of a side with a connection is so where none is held
 unheld_framed : {V W : Type 0} (line : Option (ServiceEnd V W)) (this : V → Type 0) → wire_of line ≡ None
     → MatchOption line ⊤ (λ l. MatchOption l.wire ⊤ (λ wire. this l.side))
 unheld_framed None this e = tt
@@ -139,10 +141,12 @@ unheld_framed (Some l) this e = unheld_wire l.wire (this l.side) e
     unheld_wire None what n = tt
     unheld_wire (Some z) what n = cc
 
+-- a line whose connection isn't held has no past
 unheld_past : {V W : Type 0} (line : Option (ServiceEnd V W)) (past : W → Type 0) → wire_of line ≡ None → on_held line ⊥ past → ⊥
 unheld_past None past e b = b
 unheld_past {V} {W} (Some l) past e b = subst (λ (z : Option W). MatchOption z ⊥ past) e b
 
+-- of a line whose connection isn't held a pass that waits and does nothing says what each pass of a line says
 unheld_told : {V W : Type 0} (v : Service V) (w : Wire W) (reused : Bool) (h : Holding) (line : Option (ServiceEnd V W))
     → wire_of line ≡ None
     → LineTold v w reused h line h line (record { waiting = true; failed = None; broken = false })
@@ -165,6 +169,7 @@ unheld_told v w reused h line e = record {
   absent = λ n. refl;
 }
 
+-- of a line whose connection is held a pass of the service's side says what each pass of a line says
 held_told : {V W : Type 0} (v : Service V) (w : Wire W) (reused : Bool) (h k : Holding) (side side' : V) (wire wire' : W)
     (passed : PassAnswer) → ServicePasses v w reused (lending h side wire) (lending k side' wire') passed
     → LineTold v w reused h (Some (service_end side wire)) k (Some (service_end side' wire')) passed
@@ -187,6 +192,7 @@ held_told v w reused h k side side' wire wire' passed p = record {
   absent = λ n. cc;
 }
 
+-- each pass of the service's line says what is asked of one, whether a connection is held or not
 pub line_told : {V W : Type 0} {v : Service V} {w : Wire W} {reused : Bool} {h : Holding} {line : Option (ServiceEnd V W)} {k : Holding}
     {line' : Option (ServiceEnd V W)} {passed : PassAnswer}
     → ServiceEndPasses v w reused h line k line' passed → LineTold v w reused h line k line' passed

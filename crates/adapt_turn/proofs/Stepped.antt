@@ -11,6 +11,7 @@ use Rattle.adapt_hold.proofs.Closes.{then_shows}
 use Rattle.adapt_turn.specs.declared.pass.PassAnswer.{PassAnswer}
 use Rattle.adapt_turn.specs.Reports.{View, Report, Reported, stepped}
 
+-- what a pass stepped ran from a tied holding, with the bytes that it brought
 pub reported_ran : {F : Type 0} {v : View F} {h k : Holding} {r : Report} {passed : PassAnswer}
     → IsTied h → Reported v h k r passed
     → Ran h (stepped passed.failed r.events) r.out
@@ -24,6 +25,7 @@ pub reported_shows : {F : Type 0} {v : View F} {h k : Holding} {r : Report} {pas
 reported_shows {F} {v} {h} {k} {r} {passed} t p =
     ap (λ (y : Holding). shows y.history) p.is ∙ (reported_ran t p).seen
 
+-- what is seen after a failure is stepped is closed
 over_by : (failed : Option Cause) (x y : Seen) (reported : List Event) (cause : Cause) → failed ≡ Some cause
     → y ≡ after_all x (stepped failed reported) → y.closed ≡ true
 over_by None x y reported cause e s = absurd cc
@@ -38,6 +40,7 @@ reported_over {F} {v} {h} {k} {r} {passed} t p cause e =
 
 -- Fail closes; Retry doesn't.
 
+-- a failure closes an open history
 pub failed_closed : (h k : Holding) (cause : Cause) → IsTied h → (shows h.history).closed ≡ false → k ≡ moved h (Fail cause) []
     → (shows k.history).closed ≡ true
 failed_closed h k cause t c e =

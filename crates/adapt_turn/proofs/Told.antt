@@ -22,6 +22,7 @@ use Rattle.adapt_turn.specs.Stands.{IsDone}
 use Rattle.adapt_turn.proofs.Stepped.{reported_ran}
 use Rattle.adapt_turn.proofs.Carry.{off_hop}
 
+-- events of which none closes don't end as a failure
 open_of : (plan : Plan) (events : List Event) → (seen plan events).closed ≡ false → outcome_of events ≡ outcomes.Done
 open_of plan [] c = refl
 open_of plan (Fail cause ∷ before) c = absurd (false≢true (sym c))
@@ -31,11 +32,13 @@ open_of plan (_ ∷ before) c = refl
 pub open_done : (history : History) → (shows history).closed ≡ false → outcome_of history.events ≡ outcomes.Done
 open_done history c = open_of history.plan history.events c
 
+-- an event that closes stays the newest one in short form
 newest_close : (event : Event) (events : List Event) → is_close event ≡ true → norm (event ∷ events) ≡ event ∷ norm events
 newest_close Done events e = refl
 newest_close (Fail cause) events e = refl
 newest_close _ events e = absurd (false≢true e)
 
+-- of two marks of which one stands and the second doesn't, the first stands
 closes_now : (b c : Bool) → c ≡ false → b || c ≡ true → b ≡ true
 closes_now true c e f = refl
 closes_now false c e f = absurd (false≢true (sym e ∙ f))
@@ -48,6 +51,7 @@ pub record ClosedBy (history : History) (events : List Event) : Type 0 where
   pub close : is_close event ≡ true
   pub of : (test : Event → Bool) → AllAre test events → test event ≡ true
 
+-- what closed an open history is its newest event, and one of those that were stepped
 pub closed_by : (history : History) (x : Seen) (events : List Event) → x.closed ≡ false → MayAllFollow x events
     → (after_all x events).closed ≡ true → ClosedBy history events
 closed_by history x [] c m e = absurd (false≢true (sym c ∙ e))
@@ -60,12 +64,14 @@ closed_by history x (event ∷ (second ∷ events)) c m e =
 
 -- events of which none is the writer's end no history by Done
 
+-- an event that closes and isn't the next hop's doesn't end a history as done
 never : (event : Event) (before : List Event) → is_close event ≡ true → off_hop event ≡ true → outcome_of (event ∷ before) ≡ outcomes.Done
     → ⊥
 never (Fail cause) before c o e = let d : outcomes.Fail cause ≡ outcomes.Done = e in absurd cc
 never Done before c o e = absurd (false≢true o)
 never _ before c o e = absurd (false≢true c)
 
+-- events of which none is the next hop's don't end an open history as done
 pub never_done : (h : Holding) (events : List Event) (bytes : List ℕ) → (shows h.history).closed ≡ false
     → MayAllFollow (shows h.history) events → Ran h events bytes
     → AllAre off_hop events → IsDone (moved_all h events bytes).history → ⊥
@@ -75,11 +81,13 @@ never_done h events bytes c m r o d =
 
 -- A pass ends a history as it says.
 
+-- an event that closes and passes a test that no failure passes ends a history as done
 done_close : (test : Event → Bool) → ((cause : Cause) → test (Fail cause) ≡ false) → (event : Event) (before : List Event)
     → is_close event ≡ true → test event ≡ true → outcome_of (event ∷ before) ≡ outcomes.Done
 done_close test none (Fail cause) before c o = absurd (false≢true (sym (none cause) ∙ o))
 done_close test none (_) before c o = refl
 
+-- what is stepped of a report whose events are no failures ends an open history as the report says
 told_run : (test : Event → Bool) → ((cause : Cause) → test (Fail cause) ≡ false)
     → (h : Holding) (bytes : List ℕ) (failed : Option Cause) (reported : List Event)
     → (shows h.history).closed ≡ false → MayAllFollow (shows h.history) (stepped failed reported) → Ran h (stepped failed reported) bytes
@@ -95,6 +103,7 @@ told_run test none h bytes None reported c m r o = by_close (after_all (shows h.
         let w = closed_by h.history (shows h.history) reported c m e in
         sym (ap outcome_of (ap (λ (y : History). y.events) r.history ∙ w.is) ∙ done_close test none w.event w.before w.close (w.of test o))
 
+-- a pass of an open transaction ends its history as the pass says
 pub reported_told : {F : Type 0} {v : View F} {h k : Holding} {r : Report} {passed : PassAnswer}
     → ((cause : Cause) → v.events (Fail cause) ≡ false) → IsTied h → (shows h.history).closed ≡ false
     → Reported v h k r passed
@@ -103,11 +112,13 @@ reported_told {F} {v} {h} {k} {r} {passed} none t c p =
     told_run v.events none h r.out passed.failed r.events c p.runs.may (reported_ran t p) p.only
     ∙ ap (λ (y : Holding). outcome_of y.history.events) (sym p.is)
 
+-- where a history ends as done, what was reported closed it
 pub done_reported : (h : Holding) (bytes : List ℕ) (failed : Option Cause) (reported : List Event) → Ran h (stepped failed reported) bytes
     → IsDone (moved_all h (stepped failed reported) bytes).history → (after_all (shows h.history) reported).closed ≡ true
 done_reported h bytes None reported r d = sym (ap (λ (x : Seen). x.closed) r.seen) ∙ d.0
 done_reported h bytes (Some cause) reported r d = let e : outcomes.Fail cause ≡ outcomes.Done = d.1 in absurd cc
 
+-- a history that a failure moved on ends as that failure
 pub failed_told : (h k : Holding) (cause : Cause) → k ≡ moved h (Fail cause) [] → outcomes.Fail cause ≡ outcome_of k.history.events
 failed_told h k cause e = sym (ap (λ (y : Holding). outcome_of y.history.events) e)
 
@@ -116,10 +127,12 @@ pub done_told : (h k : Holding) (outcome : Outcome) → outcome ≡ outcome_of h
     → outcomes.Done ≡ outcome → IsDone k.history
 done_told h k outcome told same c e = subst (λ (y : Holding). IsDone y.history) (sym same) (c, sym told ∙ sym e)
 
+-- a history that ended by a failure isn't done
 pub failed_undone : (history : History) (outcome : Outcome) (cause : Cause) → outcome ≡ outcome_of history.events
     → outcome ≡ outcomes.Fail cause → IsDone history → ⊥
 failed_undone history outcome cause e f d = let g : outcomes.Fail cause ≡ outcomes.Done = sym f ∙ e ∙ d.1 in absurd cc
 
+-- events that end as a failure have closed their history
 over_of : (plan : Plan) (events : List Event) (cause : Cause) → outcome_of events ≡ outcomes.Fail cause → (seen plan events).closed ≡ true
 over_of plan (Fail why ∷ before) cause e = refl
 over_of plan [] cause e = let d : outcomes.Done ≡ outcomes.Fail cause = e in absurd cc

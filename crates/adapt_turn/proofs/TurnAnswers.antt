@@ -15,6 +15,7 @@ use Rattle.adapt_turn.specs.declared.turn.TurnAnswer.TheVariants as answers
 use Rattle.plan_rules.specs.declared.pace.Pace.{Pace}
 use Rattle.adapt_turn.specs.TurnAnswers.{BySide, OfWriter, OnAnswer, ByAnswer, Paces, Drives}
 
+-- what follows from each answer of a turn is so for the answer that it gave
 pub by_answer : (turned : TurnAnswer) (on : OnAnswer)
     → (turned ≡ answers.Waiting → on.waiting) → ((n : ℕ) → turned ≡ answers.Moved n → on.moved n) → (turned ≡ answers.Broken → on.broken)
     → ((outcome : Outcome) → turned ≡ answers.Finished outcome → on.finished outcome)
@@ -60,6 +61,7 @@ paces_still closed old new now moves said e b m =
       reused = ap (λ (z : Pace). z.reused) e;
     }
 
+-- what follows for each side of a turn is so for the turn's side
 pub for_side : (side : Side) (source service next : Type 0) → (side ≡ Source → source) → (side ≡ Service → service)
     → (side ≡ NextHop → next) → BySide side source service next
 for_side Source source service next a b c = a refl
@@ -72,6 +74,7 @@ pub unfailed : (failed : Option Cause) (outcome : Outcome) → outcome ≡ outco
 unfailed None outcome e n = refl
 unfailed (Some cause) outcome e n = absurd (n cause e)
 
+-- a writer that has nothing has no message
 pub idle_no_message : (gift : Gift) → gift ≡ nothing → gift ≡ message → ⊥
 idle_no_message gift n m = let d : nothing ≡ message = sym n ∙ m in absurd cc
 
@@ -79,6 +82,7 @@ idle_no_message gift n m = let d : nothing ≡ message = sym n ∙ m in absurd c
 pub of_next : (gift : Gift) (next back : Type 0) → gift ≡ nothing → next → OfWriter gift next back
 of_next gift next back idle n = (λ e. n, λ busy. absurd (busy idle))
 
+-- where one is begun back, what is so of the writer back is so of the writer that has the message
 pub of_back : (gift : Gift) (next back : Type 0) → (gift ≡ nothing → ⊥) → back → OfWriter gift next back
 of_back gift next back busy b = (λ e. absurd (busy e), λ k. b)
 
@@ -95,13 +99,16 @@ of_one (refusal status) next back this n b w = b (w.1 (λ e. let d : refusal sta
 
 -- Turns in a row.
 
+-- no sides in a row leave what is driven as it was
 pub drives_none : {T : Type 0} (turns : T → Side → T → Type 0) (old : T) (sides : List Side) → length sides < 1 → Drives turns old sides old
 drives_none turns old [] l = refl
 drives_none turns old (side ∷ sides) l = absurd (omega (arith, l))
 
+-- a schedule without its first side is the rest of it
 tail_is : (side : Side) (sides : List Side) → take (length (side ∷ sides) - 1) (drop 1 (side ∷ sides)) ≡ sides
 tail_is side sides = let n : length (side ∷ sides) - 1 ≡ length sides = omega arith in ap (λ (k : ℕ). take k sides) n ∙ take-length sides
 
+-- a turn for the first side, and turns for the sides after it, are turns for all of them
 pub drives_more : {T : Type 0} (turns : T → Side → T → Type 0) (old mid new : T) (sides : List Side) (none : Side) → 1 ≤ length sides
     → turns old (get_or sides 0 none) mid
     → Drives turns mid (take (length sides - 1) (drop 1 sides)) new → Drives turns old sides new

@@ -30,10 +30,12 @@ waits_end HasBody text d h = record {
   framing = chunk_end (subst (λ (xs : List ℕ). HasBody xs 0) (sym (append_assoc text d crlf)) h);
 }
 
+-- the head of a next chunk waits, whole, after a text that has all bytes of the body
 pub waits_next : (HasBody : List ℕ → ℕ → Type 0) (text : List ℕ) (n : ℕ) → HasBody text 0
     → WaitsBehind HasBody (text ++ chunk_head n) (chunk_head n)
 waits_next HasBody text n h = record { body_text = text; out = []; fixed_is = refl; framing = next_chunk h n }
 
+-- a last chunk waits, whole, after a text that has all bytes of the body
 pub waits_last : (HasBody : List ℕ → ℕ → Type 0) (text : List ℕ) (ieof : Bool) → HasBody text 0
     → WaitsBehind HasBody (text ++ last_chunk ieof) (last_chunk ieof)
 waits_last HasBody text ieof h = record { body_text = text; out = []; fixed_is = refl; framing = the_last_chunk h ieof }

@@ -28,6 +28,7 @@ part_of_name name =
     (cond (bytes_eq name (codes "req-body")) (Body ReqBody) (cond (bytes_eq name (codes "res-body")) (Body ResBody)
     (cond (bytes_eq name (codes "opt-body")) (Body OptBody) (Body NullBody)))))
 
+-- the part of a part's name, in lower case, is that part
 pub named_so : (part : Part) → part_of_name (map to_ascii_lowercase (name_of part)) ≡ part
 unfolding part_of_name
 named_so ReqHdr = refl
@@ -37,6 +38,7 @@ named_so (Body ResBody) = refl
 named_so (Body OptBody) = refl
 named_so (Body NullBody) = refl
 
+-- a text names one part and one offset at most
 part_unique : (text : List ℕ) (x y : Part × ℕ) → IsPart text x.0 x.1 → IsPart text y.0 y.1 → x ≡ y
 part_unique text x y h g =
     let same = item_unique text h.name g.name x.1 y.1 h.item g.item in
@@ -45,15 +47,18 @@ part_unique text x y h g =
     let part_same : x.0 ≡ y.0 = sym (named_so x.0) ∙ ap part_of_name names_same ∙ named_so y.0 in
     ap₂ (λ p o. (p, o)) part_same same.1
 
+-- a text has one list of parts at most
 pub parts_unique : (text : List ℕ) (xs ys : List (Part × ℕ)) → AreParts text xs → AreParts text ys → xs ≡ ys
 parts_unique text xs ys h g = AllZip-unique (λ item part. IsPart item part.0 part.1) part_unique (comma_parts text) xs ys h g
 
+-- a text has one list of items at most
 pub items_unique : (text : List ℕ) (xs ys : List (List ℕ × ℕ)) → AreItems text xs → AreItems text ys → xs ≡ ys
 items_unique text xs ys h g = AllZip-unique (λ part item. IsItem part item.0 item.1) item_same (comma_parts text) xs ys h g
   where
     item_same : (part : List ℕ) (x y : List ℕ × ℕ) → IsItem part x.0 x.1 → IsItem part y.0 y.1 → x ≡ y
     item_same part x y h g = let same = item_unique part x.0 y.0 x.1 y.1 h g in ap₂ (λ n o. (n, o)) same.0 same.1
 
+-- texts that name parts are items
 pub items_of : (texts : List (List ℕ)) (parts : List (Part × ℕ)) → AllZip (λ item part. IsPart item part.0 part.1) texts parts
     → (items : List (List ℕ × ℕ)) × AllZip (λ part item. IsItem part item.0 item.1) texts items
 items_of [] [] h = ([], tt)
@@ -67,28 +72,34 @@ is_req ReqHdr = true
 is_req ResHdr = false
 is_req (Body b) = false
 
+-- whether a part is a response's head
 is_res : Part → Bool
 is_res ReqHdr = false
 is_res ResHdr = true
 is_res (Body b) = false
 
+-- the offset of the first part that passes a test, or none
 offset_at : (Part → Bool) → List (Part × ℕ) → Option ℕ
 offset_at test [] = None
 offset_at test (p ∷ parts) = cond (test p.0) (Some p.1) (offset_at test parts)
 
+-- a part's body, or this one where the part is a head
 body_or : Part → BodyPart → BodyPart
 body_or ReqHdr later = later
 body_or ResHdr later = later
 body_or (Body b) later = b
 
+-- the first body among the parts, or null-body where there is none
 body_in : List (Part × ℕ) → BodyPart
 body_in [] = NullBody
 body_in (p ∷ parts) = body_or p.0 (body_in parts)
 
+-- the offset of the last part, or this one where there are no parts
 last_offset : ℕ → List (Part × ℕ) → ℕ
 last_offset o [] = o
 last_offset o (p ∷ parts) = last_offset p.1 parts
 
+-- a layout from its parts: the first offset of each head, the first body and the last offset
 layout_from : List (Part × ℕ) → Layout
 layout_from parts = record {
   req_hdr = offset_at is_req parts;
@@ -97,6 +108,7 @@ layout_from parts = record {
   offset = last_offset 0 parts;
 }
 
+-- the layout from a layout's own parts is that layout
 back : (q r : Option ℕ) (b : BodyPart) (o : ℕ) → layout_from (if_there ReqHdr q ++ if_there ResHdr r ++ (Body b, o) ∷ [])
     ≡ record { req_hdr = q; res_hdr = r; body = b; offset = o }
 unfolding layout_from offset_at is_req is_res body_or body_in last_offset
@@ -105,18 +117,22 @@ back None (Some r) b o = refl
 back (Some q) None b o = refl
 back (Some q) (Some r) b o = refl
 
+-- two layouts with the same parts are one
 pub layout_unique : (l k : Layout) → parts_of l ≡ parts_of k → l ≡ k
 layout_unique l k e = sym (back l.req_hdr l.res_hdr l.body l.offset) ∙ ap layout_from e ∙ back k.req_hdr k.res_hdr k.body k.offset
 
+-- parts that are one of the lists are also a prefix of one
 pub front_of_whole : (lists : List (List Part)) (parts : List Part) → Contains lists parts → IsFront lists parts
 front_of_whole lists parts h = ([], subst (Contains lists) (sym (append-nil parts)) h)
 
+-- where a text's parts are an allowed list, any parts of the text have a body
 whole_body_at : (m : Method) (d : Direction) (text : List ℕ) (parts others : List (Part × ℕ)) → AreParts text parts → AreParts text others
     → Contains (allowed m d) (names parts) → (body : BodyPart) × Contains (names others) (Body body)
 whole_body_at m d text parts others h g whole =
     let has = whole_body m d (names parts) whole in
     (has.0, subst (λ l. Contains (names l) (Body has.0)) (parts_unique text parts others h g) has.1)
 
+-- where the text is a layout no fault stands
 pub no_fault : (m : Method) (d : Direction) (text : List ℕ) (l : Layout) (e : EncFault) → IsLayout m d text l → RefusesList e m d text → ⊥
 no_fault m d text l Syntax h s = let items = items_of (comma_parts text) (parts_of l) h.parts in s items.0 items.1
 no_fault m d text l Name h s = s.2 (parts_of l) h.parts
@@ -125,9 +141,11 @@ no_fault m d text l Order h s = s.2 (subst (λ parts. IsFront (allowed m d) (nam
 no_fault m d text l NoBodyPart h s = let has = whole_body_at m d text (parts_of l) s.0 h.parts s.1 h.may.whole in s.2.1 has.0 has.1
 no_fault m d text l Offset h s = s.2.1 (subst (λ parts. Rises (offsets parts)) (parts_unique text (parts_of l) s.0 h.parts s.1) h.may.rises)
 
+-- a text that names parts isn't one without items
 parts_excl : (text : List ℕ) (parts : List (Part × ℕ)) → AreParts text parts → ((items : List (List ℕ × ℕ)) → ¬ (AreItems text items)) → ⊥
 parts_excl text parts h s = let items = items_of (comma_parts text) parts h in s items.0 items.1
 
+-- of a text one fault stands at most
 pub one_fault : (m : Method) (d : Direction) (text : List ℕ) (e f : EncFault) → RefusesList e m d text → RefusesList f m d text → e ≡ f
 one_fault m d text Syntax Syntax x y = refl
 one_fault m d text Syntax Name x y = absurd (x y.0 y.1)
@@ -169,6 +187,7 @@ only_layout m d text (Ok k) ok err l = (
 )
 only_layout m d text (Err f) ok err l = (λ e. absurd (cc), λ h. absurd (no_fault m d text l f h err))
 
+-- an answer that fits is this fault exactly where it stands
 pub only_fault : (m : Method) (d : Direction) (text : List ℕ) (r : Result Layout EncFault) → IfOk r (IsLayout m d text)
     → IfErr r (λ e. RefusesList e m d text)
     → (f : EncFault) → (r ≡ Err f) ↔ RefusesList f m d text

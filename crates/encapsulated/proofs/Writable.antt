@@ -17,6 +17,7 @@ use Rattle.encapsulated.proofs.RowLemmas.{any_front-whole, may_have}
 abbrev Has : Method → Direction → Option ℕ → Option ℕ → BodyPart → ℕ → Bool
 Has m d q r b o = any_front (allowed m d) (names (parts_of (record { req_hdr = q; res_hdr = r; body = b; offset = o })))
 
+-- heads that fit a body are with it on some list of some message, whatever their offsets
 some_list : (q r : Option ℕ) (b : BodyPart) (o : ℕ) → heads_fit b q r ≡ true → (m : Method) × (d : Direction) × (Has m d q r b o ≡ true)
 some_list None None ReqBody o fits = (Reqmod, Request, refl)
 some_list (Some p) None ReqBody o fits = (Reqmod, Request, refl)
@@ -35,6 +36,7 @@ some_list (Some p) None NullBody o fits = (Respmod, Request, refl)
 some_list None (Some n) NullBody o fits = (Respmod, Request, refl)
 some_list (Some p) (Some n) NullBody o fits = (Respmod, Request, refl)
 
+-- heads that don't fit a body are with it on no list of any message
 no_list : (m : Method) (d : Direction) (q r : Option ℕ) (b : BodyPart) (o : ℕ) → heads_fit b q r ≡ false → Has m d q r b o ≡ false
 no_list Reqmod Request None (Some n) ReqBody o unfit = refl
 no_list Reqmod Response None (Some n) ReqBody o unfit = refl
@@ -72,6 +74,7 @@ no_list m d None None OptBody o unfit = absurd (cc)
 no_list m d q r ResBody o unfit = absurd (cc)
 no_list m d q r NullBody o unfit = absurd (cc)
 
+-- of a layout that some message may have, what the test of its heads against its body gives is true
 fits_or : (l : Layout) (t : Bool) → heads_fit l.body l.req_hdr l.res_hdr ≡ t → IsWritableLayout l → t ≡ true
 fits_or l true e h = refl
 fits_or l false e h =
@@ -80,9 +83,11 @@ fits_or l false e h =
     let front = any_front-whole (allowed m d) (names (parts_of l)) (front_of_whole (allowed m d) (names (parts_of l)) h.2.whole) in
     sym (no_list m d l.req_hdr l.res_hdr l.body l.offset e) ∙ front
 
+-- the heads of a layout that some message may have fit its body
 pub fits : (l : Layout) → IsWritableLayout l → heads_fit l.body l.req_hdr l.res_hdr ≡ true
 fits l h = fits_or l (heads_fit l.body l.req_hdr l.res_hdr) refl h
 
+-- a layout whose heads fit its body, and whose offsets rise, may be that of some message
 pub writable : (l : Layout) → heads_fit l.body l.req_hdr l.res_hdr ≡ true → Rises (offsets (parts_of l)) → IsWritableLayout l
 writable l fits rises =
     let some = some_list l.req_hdr l.res_hdr l.body l.offset fits in

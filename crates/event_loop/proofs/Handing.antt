@@ -6,19 +6,23 @@ use Rattle.event_loop.specs.declared.mail.Mail.{Ghosts as Mail}
 use Rattle.event_loop.specs.Sendings.{Sending}
 use Rattle.event_loop.specs.Mail.{Sends, IsHandedTo, HandsOut, asks, hands}
 
+-- of two numbers, the first is at most the second, or the second is less
 le_or_less : (n m : ℕ) → (n ≤ m) ⊎ (m < n)
 le_or_less zero m = inl (omega arith)
 le_or_less (suc n) zero = inr (omega arith)
 le_or_less (suc n) (suc m) = elim (le_or_less n m) [ inl h ↦ inl (omega (arith, h)) | inr h ↦ inr (omega (arith, h)) ]
 
+-- what two calls sent one after the other was sent by both together
 pub sends_then : {M : Type 0} (w : Mail M) (a b c : M) (first second : List Sending) → Sends w a b first → Sends w b c second
     → Sends w a c (second ++ first)
 sends_then w a b c first second f s past h = subst (λ (sent : List Sending). w.past c sent) (sym (append_assoc second first past))
     (s (first ++ past) (f past h))
 
+-- a mail that stays as it is has sent nothing
 pub sends_same : {M : Type 0} (w : Mail M) (a b : M) → b ≡ a → Sends w a b []
 sends_same {M} w a b e past h = subst (λ (m : M). w.past m past) (sym e) h
 
+-- a user that was handed to a loop is so after more sendings
 handed_more : (own to number : ℕ) (sendings more : List Sending) → IsHandedTo own to number sendings
     → IsHandedTo own to number (more ++ sendings)
 handed_more own to number sendings more h = record {
@@ -29,6 +33,7 @@ handed_more own to number sendings more h = record {
       (hands (nat_eq to own) to number h.alone ++ h.before));
 }
 
+-- a user that was handed to a loop is so with older sendings before
 handed_older : (own to number : ℕ) (sendings older : List Sending) → IsHandedTo own to number sendings
     → IsHandedTo own to number (sendings ++ older)
 handed_older own to number sendings older h = record {

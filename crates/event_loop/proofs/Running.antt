@@ -13,6 +13,7 @@ use Rattle.event_loop.specs.Turns.{owes, ends, waits, drives, AreOrderly, IsTied
 use Rattle.event_loop.specs.Turns.{ServesRound, polled}
 use Rattle.event_loop.proofs.Turning.{no, neither, ends_then, orderly_more, owes_then, works_then, works_same, stands_more, stands_newest}
 
+-- a choice between false and what is false is false
 cond_false : (b x : Bool) → x ≡ false → cond b false x ≡ false
 cond_false true x e = refl
 cond_false false x e = e
@@ -25,15 +26,18 @@ waits_stays key (deed ∷ more) deeds e h =
     let rest = waits_stays key more deeds parts.1 h in
     rw parts.0 (cond_false (drives key deed) (waits key (more ++ deeds)) rest)
 
+-- where no turn ends among deeds, none ends among the later ones of them
 ends_later : (later before : List Deed) → ends (later ++ before) ≡ false → ends later ≡ false
 ends_later [] before e = refl
 ends_later (deed ∷ later) before e =
     let parts = neither (is_end deed) (ends (later ++ before)) e in
     rw parts.0 (ends_later later before parts.1)
 
+-- a key is the same as itself
 same_key : (key : ℕ) → nat_eq key key ≡ true
 same_key key = elim (eqb_tells key key) as (λ _. nat_eq key key ≡ true) [ inl same ↦ same.0 | inr apart ↦ absurd (apart.1 refl) ]
 
+-- an exchange that was just driven waits for no turn
 just_driven : (key : ℕ) (driven : Driven) (deeds : List Deed) → waits key (Drove key driven ∷ deeds) ≡ false
 just_driven key driven deeds = ap (λ (b : Bool). cond b false (waits key deeds)) (same_key key)
 
@@ -62,6 +66,7 @@ pub record HasRun {K : Type 0} (w : Work K) (old new : EventLoop K) : Type 0 whe
   pub deeds : List Deed
   pub runs : Runs w old new deeds
 
+-- a loop that has done nothing yet counts as one that has run
 pub run_start : {K : Type 0} (w : Work K) (a : EventLoop K) → HasRun w a a
 run_start w a = record {
   deeds = [];
@@ -74,12 +79,14 @@ run_start w a = record {
   };
 }
 
+-- a loop that began with a mark for each key still has one for each, once it has run and polled
 tied_now : {K : Type 0} (w : Work K) (a b c : EventLoop K) (deeds : List Deed) → Runs w a b deeds → IsTied w a → IsTied w (polled b c)
 tied_now w a b c deeds r tied =
     let bound = r.works.bound in let marks = r.marks in
     let after : w.bound b.work ≤ count b.ready = omega arith in
     after
 
+-- a mark is true or false
 true_or_false : (b : Bool) → (b ≡ true) ⊎ (b ≡ false)
 true_or_false true = inl refl
 true_or_false false = inr refl
@@ -142,6 +149,7 @@ ran_nothing w a p = record { deeds = []; works = works_same w a a refl; orderly 
 pub on_start : {K : Type 0} (w : Work K) (a : K) → WorksOn w a a
 on_start w a = record { deeds = []; works = works_same w a a refl; within = refl; orderly = tt }
 
+-- deeds with which no turn ends, and then more of them, are such deeds together
 pub on_then : {K : Type 0} (w : Work K) (a b c : K) → WorksOn w a b → WorksOn w b c → WorksOn w a c
 on_then w a b c f s = record {
   deeds = s.deeds ++ f.deeds;
@@ -150,9 +158,11 @@ on_then w a b c f s = record {
   orderly = orderly_more s.deeds f.deeds s.within s.orderly f.orderly;
 }
 
+-- the deeds that a loop has its work do within a turn are ones with which no turn ends
 pub on_does : {K : Type 0} (w : Work K) (a b : EventLoop K) {deeds : List Deed} → Does w a b deeds → WorksOn w a.work b.work
 on_does w a b {deeds = ds} d = record { deeds = ds; works = d.works; within = d.within; orderly = d.orderly }
 
+-- deeds of which more is known, and that a loop has its work do within a turn, end no turn
 pub on_did : {K : Type 0} (w : Work K) (a b : EventLoop K) {P : List Deed → Type 0} → Did w a b P → WorksOn w a.work b.work
 on_did w a b d = on_does w a b d.does
 

@@ -24,16 +24,19 @@ use Rattle.event_loop.specs.Turns.{AreNotes, IsNoted, NotesFirst, IsWoken, Serve
 use Rattle.event_loop.proofs.Turning.{does_nothing, does_then, tied_then, did_then, did_is, did_behind, stands_more, stands_older}
 use Rattle.event_loop.proofs.Turning.{stands_newest, driven_more, driven_older, marked_gets, gets_more, gets_older, due_more, due_older, no}
 
+-- where one of two holds, one of the two that they lead to does
 either_map : {A B C D : Type 0} → (A → C) → (B → D) → A ⊎ B → C ⊎ D
 either_map f g (inl a) = inl (f a)
 either_map f g (inr b) = inr (g b)
 
+-- an event that was served is so after later deeds
 pub served_more : {K : Type 0} (w : Work K) (b c : EventLoop K) (event : Event) {deeds : List Deed} (more : List Deed) → Does w b c more
     → IsTied w b
     → IsServed event deeds b.ready → IsServed event (more ++ deeds) c.ready
 served_more w b c event more d tied h n p e = either_map (stands_more more) (λ due. (due.0, due_more w b c due.0 more d tied due.1))
     (h n p e)
 
+-- an event that was served is so with older deeds before
 pub served_older : (event : Event) {deeds : List Deed} (ready : ReadyList) (older : List Deed) → IsServed event deeds ready
     → IsServed event (deeds ++ older) ready
 served_older event ready older h n p e = either_map (stands_older older) (λ due. (due.0, due_older due.0 ready older due.1)) (h n p e)
@@ -74,6 +77,7 @@ noted event deeds ready h number peer e = elim (h number peer e) as (λ _. (news
       | inr due ↦ (Some due.0, record { later = due.1.later; before = due.1.before; is = due.1.is })
     ]
 
+-- an event that was noted is so with older deeds before
 noted_older : (event : Event) (deeds older : List Deed) → IsNoted event deeds → IsNoted event (deeds ++ older)
 noted_older event deeds older h number peer e = let one = h number peer e in (one.0, stands_older older one.1)
 
@@ -89,6 +93,7 @@ notes_first events ready deeds more only served = record {
   each = All-weaker (λ (x : Event). IsServed x deeds ready) (λ (x : Event). IsNoted x deeds) (λ x. noted x deeds ready) events served;
 }
 
+-- events that were noted before all else are so after later deeds
 first_more : (events : List Event) (deeds more : List Deed) → NotesFirst events deeds → NotesFirst events (more ++ deeds)
 first_more events deeds more h = record {
   later = more ++ h.later;
@@ -98,6 +103,7 @@ first_more events deeds more h = record {
   each = h.each;
 }
 
+-- events that were noted before all else are so with older deeds before, if those are notes
 first_older : (events : List Event) (deeds older : List Deed) → AreNotes older → NotesFirst events deeds
     → NotesFirst events (deeds ++ older)
 first_older events deeds older notes h = record {
@@ -109,16 +115,19 @@ first_older events deeds older notes h = record {
       events h.each;
 }
 
+-- no event of a connection has the token of the waker
 no_waker : (k : ℕ) (p : Peer) → 4 * k + peer_number p ≡ WAKER.0 → ⊥
 no_waker k User e = omega arith
 no_waker k Origin e = omega arith
 no_waker k Service e = omega arith
 
+-- no event of a connection has the token of the admin port
 pub no_admin : (k : ℕ) (p : Peer) → 4 * k + peer_number p ≡ ADMIN.0 → ⊥
 no_admin k User e = omega arith
 no_admin k Origin e = omega arith
 no_admin k Service e = omega arith
 
+-- no event of a connection has the token of the metrics port
 pub no_metrics : (k : ℕ) (p : Peer) → 4 * k + peer_number p ≡ METRICS.0 → ⊥
 no_metrics k User e = omega arith
 no_metrics k Origin e = omega arith
@@ -149,12 +158,14 @@ wake_step xs at event woken ready less is wake deeds h = record {
   woke = λ asleep. absurd (no (sym asleep));
 }
 
+-- a queue that was asked is so after later deeds
 pub asked_more : {K : Type 0} (w : Work K) (b c : EventLoop K) (queue : ℕ) {deeds : List Deed} (more : List Deed) → Does w b c more
     → IsTied w b
     → IsAsked queue deeds b.ready → IsAsked queue (more ++ deeds) c.ready
 asked_more w b c queue more d tied (inl s) = inl (stands_more more s)
 asked_more w b c queue more d tied (inr s) = inr (s.0, due_more w b c s.0 more d tied s.1)
 
+-- a queue that was asked is so with older deeds before
 pub asked_older : (queue : ℕ) {deeds : List Deed} (ready : ReadyList) (older : List Deed) → IsAsked queue deeds ready
     → IsAsked queue (deeds ++ older) ready
 asked_older queue ready older (inl s) = inl (stands_older older s)
@@ -168,6 +179,7 @@ asked_below w b c n first second d tied below one =
     below_more (λ queue. IsAsked queue (second ++ first) c.ready) n (λ queue less. asked_more w b c queue second d tied (below queue less))
     (asked_older n c.ready first one)
 
+-- a user that was taken in, passed on or closed is so after later deeds
 pub admitted_more : {K : Type 0} (w : Work K) (b c : EventLoop K) (number : ℕ) {deeds : List Deed} (more : List Deed) → Does w b c more
     → IsTied w b
     → IsAdmitted number deeds b.ready → IsAdmitted number (more ++ deeds) c.ready
@@ -175,6 +187,7 @@ admitted_more w b c number more d tied (inl s) = inl (s.0, due_more w b c s.0 mo
 admitted_more w b c number more d tied (inr (inl s)) = inr (inl (s.0, stands_more more s.1))
 admitted_more w b c number more d tied (inr (inr s)) = inr (inr (stands_more more s))
 
+-- a user that was taken in, passed on or closed is so with older deeds before
 pub admitted_older : (number : ℕ) {deeds : List Deed} (ready : ReadyList) (older : List Deed) → IsAdmitted number deeds ready
     → IsAdmitted number (deeds ++ older) ready
 admitted_older number ready older (inl s) = inl (s.0, due_older s.0 ready older s.1)
@@ -193,11 +206,13 @@ admitted_next w b c xs x first second d tied h one =
     (λ user. admitted_more w b c user.number second d tied) xs h)
     (admitted_older x.number c.ready first one)
 
+-- a loop was woken if one of the events says so, where none says it of one that wasn't
 was_woken : (woken : Bool) (events : List Event) → (woken ≡ false → All (λ (event : Event). event.token ≡ WAKER.0 → ⊥) events)
     → IsWoken events → woken ≡ true
 was_woken true events h woke = refl
 was_woken false events h woke = absurd (woke (h refl))
 
+-- what a loop does of the reported events it has done after later deeds
 serves_more : {K : Type 0} (w : Work K) (a b c : EventLoop K) (events : List Event) (deeds more : List Deed) → Does w b c more → IsTied w b
     → Serves w a b events deeds → Serves w a c events (more ++ deeds)
 serves_more w a b c events deeds more d tied h = record {
@@ -247,6 +262,7 @@ record Began {K : Type 0} (w : Work K) (a b : EventLoop K) (woken : Bool) (deeds
   first : NotesFirst a.reports.seen.items deeds
   seen : AreServed a.reports.seen.items woken deeds b.ready
 
+-- where each event was noted and served, it is so after later deeds
 began_more : {K : Type 0} (w : Work K) (a b c : EventLoop K) (woken : Bool) (deeds more : List Deed) → Does w b c more → IsTied w b
     → Began w a b woken deeds → Began w a c woken (more ++ deeds)
 began_more w a b c woken deeds more d tied h = let xs : List Event = a.reports.seen.items in record {
@@ -264,6 +280,7 @@ record Turned {K : Type 0} (w : Work K) (a b : EventLoop K) (woken : Bool) (deed
   ready : (key : ℕ) → is_marked a.ready key ≡ true → IsDriven key deeds
   began : Began w a b woken deeds
 
+-- where each event was served and those with a mark were driven, it is so after later deeds
 turned_more : {K : Type 0} (w : Work K) (a b c : EventLoop K) (woken : Bool) (deeds more : List Deed) → Does w b c more → IsTied w b
     → Turned w a b woken deeds → Turned w a c woken (more ++ deeds)
 turned_more w a b c woken deeds more d tied h = record {

@@ -24,6 +24,7 @@ works_then {K} w a b c first second f s = record {
   queues = s.queues ∙ f.queues;
 }
 
+-- a work that stays as it is did no deeds
 pub works_same : {K : Type 0} (w : Work K) (a b : K) → b ≡ a → Works w a b []
 works_same {K} w a b e = record {
   past = λ past h. subst (λ (k : K). w.past k past) (sym e) h;
@@ -31,16 +32,20 @@ works_same {K} w a b e = record {
   queues = ap (λ (k : K). w.queues k) e;
 }
 
+-- a work that adds one deed to its past, and keeps its keys and queues, did that deed
 pub works_one : {K : Type 0} (w : Work K) (a b : K) (deed : Deed) → Adds (w.past a) (w.past b) deed
     → (w.bound b ≡ w.bound a) × (w.queues b ≡ w.queues a) → Works w a b (deed ∷ [])
 works_one w a b deed past kept = record { past = past; bound = kept.0; queues = kept.1 }
 
+-- false isn't true
 pub no : false ≡ true → ⊥
 no e = cc
 
+-- none isn't some number
 none_some : {n : ℕ} → None ≡ Some n → ⊥
 none_some e = cc
 
+-- where neither of two is true, each is false
 pub neither : (x y : Bool) → x || y ≡ false → (x ≡ false) × (y ≡ false)
 neither true y e = absurd (no (sym e))
 neither false y e = (refl, e)
@@ -50,6 +55,7 @@ pub ends_then : (first second : List Deed) → ends first ≡ false → ends sec
 ends_then first [] f s = f
 ends_then first (deed ∷ second) f s = let parts = neither (is_end deed) (ends second) s in rw parts.0 (ends_then first second f parts.1)
 
+-- the exchange that blocks by the newest deed does so with older deeds before
 blocker_more : (other : ℕ) (more deeds : List Deed) → blocker more ≡ Some other → blocker (more ++ deeds) ≡ Some other
 blocker_more other [] deeds e = absurd (none_some e)
 blocker_more other (Drove key (Blocked it) ∷ more) deeds e = e
@@ -88,9 +94,11 @@ orderly_more (deed ∷ more) deeds e m d =
     let parts = neither (is_end deed) (ends more) e in
     (follows_more deed more deeds parts.0 m.0, orderly_more more deeds parts.1 m.1 d)
 
+-- with one deed that ends no turn, none ends
 ends_one : (deed : Deed) → is_end deed ≡ false → ends (deed ∷ []) ≡ false
 ends_one deed e = rw e refl
 
+-- a choice that is true is so with another value that is true where its own is
 cond_more : (b cut x y : Bool) → (x ≡ true → y ≡ true) → cond b cut x ≡ true → cond b cut y ≡ true
 cond_more true cut x y h e = e
 cond_more false cut x y h e = h e
@@ -109,6 +117,7 @@ after_more x y key EndedTurn h e = h e
 after_more x y key Drained h e = h e
 after_more x y key Halted h e = h e
 
+-- a turn owed after earlier and later deeds is owed after the later ones, if these begin with what the earlier owe
 pub owes_then : (x y : Bool) (key : ℕ) (first second : List Deed) → (owes x key first ≡ true → y ≡ true)
     → owes x key (second ++ first) ≡ true → owes y key second ≡ true
 owes_then x y key first [] h e = h e
@@ -159,13 +168,16 @@ did_then w a b c f s both = record {
       both f.deeds s.deeds f.does s.does after (f.holds tied) (s.holds after);
 }
 
+-- a loop that did these deeds did deeds of which all is known that holds of these
 pub did_is : {K : Type 0} (w : Work K) (a b : EventLoop K) {P : List Deed → Type 0} (deeds : List Deed) → Does w a b deeds → P deeds
     → Did w a b P
 did_is w a b deeds d p = record { deeds = deeds; does = d; holds = λ tied. p }
 
+-- a loop that did nothing did deeds of which all is known that holds of an empty list
 pub did_start : {K : Type 0} (w : Work K) (a : EventLoop K) {P : List Deed → Type 0} → P [] → Did w a a P
 did_start w a p = did_is w a a [] (does_nothing w a a refl refl refl) p
 
+-- what follows from what is known of a loop's deeds is known of them too
 pub did_same : {K : Type 0} (w : Work K) (a b : EventLoop K) {P Q : List Deed → Type 0} → Did w a b P
     → ((deeds : List Deed) → P deeds → Q deeds) → Did w a b Q
 did_same w a b d h = record { deeds = d.deeds; does = d.does; holds = λ tied. h d.deeds (d.holds tied) }
@@ -184,10 +196,12 @@ pub did_behind : {K : Type 0} (w : Work K) (a b c : EventLoop K) {deeds : List D
     → Did w b c P → Did w a c (λ _. ⊤)
 did_behind w a b c {deeds = ds} d s = record { deeds = s.deeds ++ ds; does = does_then w a b c ds s.deeds d s.does; holds = λ tied. tt }
 
+-- what is said of a success holds of a call that failed
 pub vacuous : {T E : Type 0} (P : Type 0) (r : Result T E) → IsErr r → OnOk r P
 vacuous P (Ok x) h = absurd (no h)
 vacuous P (Err e) h = tt
 
+-- what is said of the value of a success holds of a call that failed
 pub vacuous_if : {T E : Type 0} (P : T → Type 0) (r : Result T E) → IsErr r → IfOk r P
 vacuous_if P (Ok x) h = absurd (no h)
 vacuous_if P (Err e) h = tt
@@ -198,27 +212,32 @@ pub did_fail : {K : Type 0} (w : Work K) (a b : EventLoop K) {P : List Deed → 
     → Did w a b P → Did w a b (λ deeds. OnOk r (R deeds))
 did_fail w a b R r err f = did_same w a b f (λ deeds p. vacuous (R deeds) r err)
 
+-- a call that failed did deeds of which all holds that is said of the value of a success
 pub did_fail_if : {K : Type 0} (w : Work K) (a b : EventLoop K) {P : List Deed → Type 0} {T E : Type 0} (R : List Deed → T → Type 0)
     (r : Result T E) → IsErr r
     → Did w a b P → Did w a b (λ deeds. IfOk r (R deeds))
 did_fail_if w a b R r err f = did_same w a b f (λ deeds p. vacuous_if (R deeds) r err)
 
+-- what comes of what holds on a success holds on it too
 pub on_ok_map : {T E P Q : Type 0} (r : Result T E) → (P → Q) → OnOk r P → OnOk r Q
 on_ok_map (Ok x) h p = h p
 on_ok_map (Err e) h p = tt
 
+-- an exchange that gives way to a driven one changes nothing of who is owed a turn
 way_still : (x : Bool) (k key : ℕ) (driven : Driven) → owes x k (ways driven ++ (Drove key driven ∷ [])) ≡ owes x k (Drove key driven ∷ [])
 way_still x k key Waiting = refl
 way_still x k key CutShort = refl
 way_still x k key (Blocked other) = refl
 way_still x k key Over = refl
 
+-- no turn ends with a drive, nor where one gives way to it
 way_within : (key : ℕ) (driven : Driven) → ends (ways driven ++ (Drove key driven ∷ [])) ≡ false
 way_within key Waiting = refl
 way_within key CutShort = refl
 way_within key (Blocked other) = refl
 way_within key Over = refl
 
+-- a drive, and then the way that is given to it, may be done in that order
 way_orderly : (key : ℕ) (driven : Driven) → AreOrderly (ways driven ++ (Drove key driven ∷ []))
 way_orderly key Waiting = (tt, tt)
 way_orderly key CutShort = (tt, tt)
@@ -322,13 +341,16 @@ did_answer w a b h ready reports = record {
   holds = λ tied. tt;
 }
 
+-- the later deeds, begun with the turns that the earlier ones owe, owe just the turns that both owe together
 owes_append : (x : Bool) (key : ℕ) (first second : List Deed) → owes x key (second ++ first) ≡ owes (owes x key first) key second
 owes_append x key first [] = refl
 owes_append x key first (deed ∷ second) = ap (λ (b : Bool). owes_after b key deed) (owes_append x key first second)
 
+-- a work that does nothing has answered without driving anybody
 pub answers_none : {K : Type 0} (w : Work K) (a : K) → Answers w a a
 answers_none w a = record { deeds = []; works = works_same w a a refl; idle = λ x key. refl; within = refl; orderly = tt }
 
+-- answers to the administrator, and then more of them, are answers together
 pub answers_then : {K : Type 0} (w : Work K) (a b c : K) → Answers w a b → Answers w b c → Answers w a c
 answers_then w a b c f s = record {
   deeds = s.deeds ++ f.deeds;
@@ -338,6 +360,7 @@ answers_then w a b c f s = record {
   orderly = orderly_more s.deeds f.deeds s.within s.orderly f.orderly;
 }
 
+-- a deed that changes nobody's turn, ends no turn and needs none before it counts as an answer
 pub answers_one : {K : Type 0} (w : Work K) (a b : K) (deed : Deed) → Adds (w.past a) (w.past b) deed
     → ((x : Bool) (key : ℕ) → (owes_after x key deed ≡ x) × (is_end deed ≡ false) × Follows deed [])
     → (w.bound b ≡ w.bound a) × (w.queues b ≡ w.queues a) → Answers w a b
@@ -357,6 +380,7 @@ stands_more {deed} more s = record {
   is = ap (λ (ds : List Deed). more ++ ds) s.is ∙ sym (append_assoc more s.later (deed ∷ s.before));
 }
 
+-- a deed that stands among some stands there with older deeds before
 pub stands_older : {deed : Deed} {deeds : List Deed} (older : List Deed) → Stands deed deeds → Stands deed (deeds ++ older)
 stands_older {deed} older s = record {
   later = s.later;
@@ -368,15 +392,19 @@ stands_older {deed} older s = record {
 pub stands_newest : (deed : Deed) (deeds : List Deed) → Stands deed (deed ∷ deeds)
 stands_newest deed deeds = record { later = []; before = deeds; is = refl }
 
+-- an exchange that was driven is so after later deeds
 pub driven_more : (key : ℕ) {deeds : List Deed} (more : List Deed) → IsDriven key deeds → IsDriven key (more ++ deeds)
 driven_more key more d = (d.0, stands_more more d.1)
 
+-- an exchange that was driven is so with older deeds before
 pub driven_older : (key : ℕ) {deeds : List Deed} (older : List Deed) → IsDriven key deeds → IsDriven key (deeds ++ older)
 driven_older key older d = (d.0, stands_older older d.1)
 
+-- an exchange was driven where nothing else was done but that one gave way to it
 pub drives_driven : (key : ℕ) {deeds : List Deed} → Drives key deeds → IsDriven key deeds
 drives_driven key d = (d.driven, record { later = ways d.driven; before = []; is = d.is })
 
+-- an exchange under this key is driven where the newest deed drives the one under the same key
 driven_now : (other key : ℕ) (driven : Driven) (deeds : List Deed) → other ≡ key → IsDriven key (Drove other driven ∷ deeds)
 driven_now other key driven deeds e = subst (λ (n : ℕ). IsDriven n (Drove other driven ∷ deeds)) e
     (driven, stands_newest (Drove other driven) deeds)
@@ -401,6 +429,7 @@ owed_step x key EndedTurn deeds (inr e) = inr e
 owed_step x key Drained deeds (inr e) = inr e
 owed_step x key Halted deeds (inr e) = inr e
 
+-- an exchange that is owed a turn is driven by the deeds, or is owed it still after them
 driven_or_owed : (x : Bool) (key : ℕ) (deeds : List Deed) → x ≡ true → IsDriven key deeds ⊎ (owes x key deeds ≡ true)
 driven_or_owed x key [] e = inr e
 driven_or_owed x key (deed ∷ deeds) e = owed_step x key deed deeds (driven_or_owed x key deeds e)
@@ -424,11 +453,13 @@ gets_more w b c key {deeds} more d tied (inr marked) =
       | inr still ↦ inr still
     ]
 
+-- an exchange that gets a turn gets it with older deeds before
 pub gets_older : (key : ℕ) {deeds : List Deed} (ready : ReadyList) (older : List Deed) → Gets key deeds ready
     → Gets key (deeds ++ older) ready
 gets_older key ready older (inl driven) = inl (driven_older key older driven)
 gets_older key ready older (inr marked) = inr marked
 
+-- an exchange that gets a turn after a deed gets it after later deeds too
 pub due_more : {K : Type 0} (w : Work K) (b c : EventLoop K) (key : ℕ) {deed : Deed} {deeds : List Deed} (more : List Deed)
     → Does w b c more → IsTied w b
     → IsDue key deed deeds b.ready → IsDue key deed (more ++ deeds) c.ready
@@ -439,6 +470,7 @@ due_more w b c key {deed} more d tied h = record {
   gets = gets_more w b c key more d tied h.gets;
 }
 
+-- an exchange that gets a turn after a deed gets it with older deeds before
 pub due_older : (key : ℕ) {deed : Deed} {deeds : List Deed} (ready : ReadyList) (older : List Deed) → IsDue key deed deeds ready
     → IsDue key deed (deeds ++ older) ready
 due_older key {deed} ready older h = record {
@@ -580,6 +612,7 @@ ready_over w a b c n did all work marked reports =
           (did.holds tied key was).1 (all key was);
     }
 
+-- nobody gives way to a drive that was cut short, waits or is over
 pub no_way : (driven : Driven) → (driven ≡ CutShort) ⊎ ((driven ≡ Waiting) ⊎ (driven ≡ Over)) → [] ≡ ways driven
 no_way driven (inl e) = rw e refl
 no_way driven (inr (inl e)) = rw e refl

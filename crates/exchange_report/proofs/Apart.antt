@@ -35,6 +35,7 @@ mixed b c xs ys p e = percent b p (first b 37 xs (hex_digit (c / 16) ∷ hex_dig
     percent : (b : ℕ) → is_plain b ≡ true → b ≡ 37 → ⊥
     percent b p q = let bad : is_plain 37 ≡ true = subst (λ n. is_plain n ≡ true) q p in grind (rules, bad)
 
+-- two escapes that are written alike, each with a rest, are of the same byte and have the same rest
 both : (b c : ℕ) (xs ys : List ℕ) → b < 256 → c < 256
     → 37 ∷ hex_digit (b / 16) ∷ hex_digit (b % 16) ∷ xs ≡ 37 ∷ hex_digit (c / 16) ∷ hex_digit (c % 16) ∷ ys → (b ≡ c) × (xs ≡ ys)
 both b c xs ys h i e =
@@ -50,6 +51,7 @@ none c rest e = elim (cases_Bool (is_plain c)) as (λ _. ⊥) [
   | inr q ↦ let bad : [] ≡ 37 ∷ hex_digit (c / 16) ∷ hex_digit (c % 16) ∷ rest = e ∙ other_head c rest q in grind (rules, bad)
 ]
 
+-- lists with the same first element and the same rest are the same
 pub cons : (b c : ℕ) (xs ys : List ℕ) → b ≡ c → xs ≡ ys → b ∷ xs ≡ c ∷ ys
 cons b c xs ys e f = cc
 
@@ -80,6 +82,7 @@ one_text (b ∷ xs) (c ∷ ys) h i e =
     let s = step b c xs ys (All-head (λ n. n < 256) b xs h) (All-head (λ n. n < 256) c ys i) e in
     cons b c xs ys s.0 (one_text xs ys (All-tail (λ n. n < 256) b xs h) (All-tail (λ n. n < 256) c ys i) s.1)
 
+-- values of bytes that aren't empty and are written as the same word are the same
 pub one_word : (value other : List ℕ) → All (λ b. b < 256) value → All (λ b. b < 256) other → 0 < length value → 0 < length other
     → word_of value ≡ word_of other → value ≡ other
 one_word [] other h i some more e = let bad : ⊥ = omega (arith, some) in absurd bad

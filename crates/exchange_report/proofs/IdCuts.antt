@@ -12,6 +12,7 @@ use Rattle.exchange_report.proofs.Apart.{first, cons}
 abbrev pub HasNoHyphen : List ℕ → Type 0
 HasNoHyphen text = All (λ b. b ≢ 45) text
 
+-- a digit is no hyphen
 not_hyphen : (d : ℕ) → digit_value d < 10 → d ≢ 45
 not_hyphen d l e = let v = ap digit_value e in absurd (omega arith)
 
@@ -20,6 +21,7 @@ digits_free : (digits : List ℕ) → AllDigits 10 digits → HasNoHyphen digits
 digits_free [] h = All-nil (λ b. b ≢ 45)
 digits_free (d ∷ ds) h = All-cons (λ b. b ≢ 45) d ds (not_hyphen d h.0) (digits_free ds h.1)
 
+-- a text that spells a number has no hyphen
 number_free : (digits : List ℕ) (n : ℕ) → SpellsNumber digits n → HasNoHyphen digits
 number_free digits n s = digits_free digits s.writes.digits.1
 
@@ -33,6 +35,7 @@ same_cut (c ∷ a) (d ∷ b) xs ys h i e =
     let rest = same_cut a b xs ys (All-tail (λ d. d ≢ 45) c a h) (All-tail (λ d. d ≢ 45) d b i) heads.1 in
     (cons c d a b heads.0 rest.0, rest.1)
 
+-- a text with a hyphen in its midst isn't one without hyphens
 has_hyphen : (digits rest : List ℕ) → HasNoHyphen (digits ++ 45 ∷ rest) → ⊥
 has_hyphen [] rest h = All-head (λ b. b ≢ 45) 45 rest h refl
 has_hyphen (d ∷ ds) rest h = has_hyphen ds rest (All-tail (λ b. b ≢ 45) d (ds ++ 45 ∷ rest) h)

@@ -37,6 +37,7 @@ const (b ∷ text) h = grind (rules, h, const text)
 pub joined : (x y : List ℕ) → HasNoEnd x → HasNoEnd y → HasNoEnd (x ++ y)
 joined x y = All-append (λ b. b ≢ 10) x y
 
+-- a text of digits ends no line
 digits : (text : List ℕ) → AllDigits 10 text → HasNoEnd text
 digits [] h = All-nil (λ b. b ≢ 10)
 digits (c ∷ text) h = All-cons (λ b. b ≢ 10) c text (no_digit c h.0) (digits text h.1)
@@ -52,6 +53,7 @@ number n = digits (numeral 10 n) (Writes-numeral 10 n (omega arith) (omega arith
 pub three : (n : ℕ) → HasNoEnd (three_digits n)
 three n = grind (arith, rules)
 
+-- visible bytes end no line
 plain : (text : List ℕ) → All IsVisible text → HasNoEnd text
 plain [] h = All-nil (λ b. b ≢ 10)
 plain (b ∷ text) h = grind (rules, h, plain text)
@@ -60,6 +62,7 @@ plain (b ∷ text) h = grind (rules, h, plain text)
 pub word : (most : ℕ) (value : List ℕ) → All (λ b. b < 256) value → HasNoEnd (word_of (take most value))
 word most value h = plain (word_of (take most value)) (plain_word (take most value) (All-take (λ b. b < 256) most value h))
 
+-- an address ends no line
 address : (a : Address) → HasNoEnd (address_text a)
 address a =
     let dot : HasNoEnd (codes ".") = const (codes ".") refl in
@@ -72,31 +75,37 @@ pub user : (a : Option Address) → HasNoEnd (user_text a)
 user (Some a) = address a
 user None = const (codes "-") refl
 
+-- the text of where a request went ends no line
 destination : (d : Option Destination) → HasNoEnd (destination_text d)
 destination (Some (Origin a)) = joined (codes "HIER_DIRECT/") (address_text a) (const (codes "HIER_DIRECT/") refl) (address a)
 destination (Some (Parent a)) = joined (codes "FIRSTUP_PARENT/") (address_text a) (const (codes "FIRSTUP_PARENT/") refl) (address a)
 destination None = const (codes "HIER_NONE/-") refl
 
+-- the text of whose answer it is ends no line
 tag : (refused : Bool) → HasNoEnd (tag_text refused)
 tag true = const (codes " TCP_DENIED/") refl
 tag false = const (codes " TCP_MISS/") refl
 
+-- a status ends no line
 status : (n : ℕ) → HasNoEnd (status_text n)
 status n = elim (cases_Bool (nat_lt n 1000)) as (λ _. HasNoEnd (status_text n)) [
   | inl e ↦ rw e (three n)
   | inr e ↦ rw e (number n)
 ]
 
+-- the word of a service's reply ends no line
 reply : (r : Reply) → HasNoEnd (reply_word r)
 reply Missing = const (codes "-") refl
 reply Plain = const (codes "plain") refl
 reply Unchanged = const (codes "204") refl
 reply Changed = const (codes "200") refl
 
+-- a text that ends no line, or none in its place, ends no line
 option : (b : Bool) (text : List ℕ) → HasNoEnd text → HasNoEnd (if b then text else [])
 option true text h = h
 option false text h = All-nil (λ b. b ≢ 10)
 
+-- the text of what became of a message ends no line
 verdict : (v : Verdict) → HasNoEnd (verdict_text v)
 verdict v = joined _ (reply_word v.reply) (joined _ _ (option v.retried (codes "retry+") (const (codes "retry+") refl))
     (option v.continued (codes "100+") (const (codes "100+") refl))) (reply v.reply)
@@ -106,11 +115,13 @@ reason : (r : Reason) → HasNoEnd (reason_word r)
 reason reasons.BadRequest = const (codes "bad-request") refl
 reason r = const (reason_word r) refl
 
+-- the word of why an exchange ended ends no line
 why : (w : Why) → HasNoEnd (why_word w)
 why Served = const (codes "-") refl
 why UserGone = const (codes "user-gone") refl
 why (Failed r) = reason r
 
+-- the first fields of the line, up to the bytes that were sent, end no line
 head : (e : Entry) → HasNoEnd (head_text e)
 head e =
     let blank : HasNoEnd (codes " ") = const (codes " ") refl in
@@ -127,6 +138,7 @@ pairs a m b t c o d k ha hm hb ht hc ho hd hk =
     joined (a ++ m ++ b ++ t ++ c ++ o ++ d) k (joined (a ++ m ++ b ++ t ++ c ++ o) d (joined (a ++ m ++ b ++ t ++ c) o
     (joined (a ++ m ++ b ++ t) c (joined (a ++ m ++ b) t (joined (a ++ m) b (joined a m ha hm) hb) ht) hc) ho) hd) hk
 
+-- the fields of a request end no line, where its method, target and kind are bytes
 request : (e : Entry) → All (λ b. b < 256) e.method.now → All (λ b. b < 256) e.target.now → All (λ b. b < 256) e.kind.now
     → HasNoEnd (request_text e)
 request e method target kind =
@@ -140,6 +152,7 @@ abbrev fields : Entry → List ℕ
 fields e = verdicts_text e ++ codes " found=" ++ word_of (take MAX_FOUND e.found.now) ++ codes " in=" ++ numeral 10 e.received
     ++ refusal_text e.refusal
 
+-- six texts that end no line end none together
 threes : (a m b t c o : List ℕ) → HasNoEnd a → HasNoEnd m → HasNoEnd b → HasNoEnd t → HasNoEnd c → HasNoEnd o
     → HasNoEnd (a ++ m ++ b ++ t ++ c ++ o)
 threes a m b t c o ha hm hb ht hc ho =
@@ -153,16 +166,19 @@ verdicts e = threes (codes " reqmod=") (verdict_text e.reqmod) (codes " respmod=
     (const (codes " reqmod=") refl) (verdict e.reqmod) (const (codes " respmod=") refl) (verdict e.respmod) (const (codes " why=") refl)
     (why e.why)
 
+-- the number in the page of a refusal, or none, ends no line
 refusal : (n : Option ℕ) → HasNoEnd (refusal_text n)
 refusal (Some n) = joined (codes " refusal=") (numeral 10 n) (const (codes " refusal=") refl) (number n)
 refusal None = All-nil (λ b. b ≢ 10)
 
+-- the fields of the end, before the byte that ends the line, end none
 last : (e : Entry) → All (λ b. b < 256) e.found.now → HasNoEnd (fields e)
 last e found = threes (verdicts_text e) (codes " found=") (word_of (take MAX_FOUND e.found.now)) (codes " in=") (numeral 10 e.received)
     (refusal_text e.refusal)
     (verdicts e) (const (codes " found=") refl) (word MAX_FOUND e.found.now found) (const (codes " in=") refl) (number e.received)
     (refusal e.refusal)
 
+-- the line of an exchange ends once, at its last byte
 pub ends_once : (e : Entry) → All (λ b. b < 256) e.method.now → All (λ b. b < 256) e.target.now → All (λ b. b < 256) e.kind.now
     → All (λ b. b < 256) e.found.now → IsOneLine (line_text e)
 unfolding end_text

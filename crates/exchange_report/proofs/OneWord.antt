@@ -7,6 +7,7 @@ use Rattle.exchange_report.specs.Words.{is_plain, is_visible, hex_digit, escaped
 abbrev pub IsVisible : ℕ → Type 0
 IsVisible b = IsTrue (is_visible b)
 
+-- a hexadecimal digit is visible
 plain_digit : (d : ℕ) → d < 16 → IsVisible (hex_digit d)
 plain_digit d h = grind (arith, h)
 
@@ -14,6 +15,7 @@ plain_digit d h = grind (arith, h)
 visible : (b : ℕ) → IsTrue (is_plain b) → IsVisible b
 visible b h = grind (rules, h)
 
+-- what is written of a byte is visible
 pub plain_byte : (b : ℕ) → b < 256 → All IsVisible (escaped b)
 plain_byte b h = elim (cases_Bool (is_plain b)) as (λ _. All IsVisible (escaped b)) [
   | inl e ↦ rw e (All-cons IsVisible b [] (visible b e) (All-nil IsVisible))
@@ -22,11 +24,13 @@ plain_byte b h = elim (cases_Bool (is_plain b)) as (λ _. All IsVisible (escaped
       (All-cons IsVisible (hex_digit (b % 16)) [] (plain_digit (b % 16) (omega (arith, h))) (All-nil IsVisible))))
 ]
 
+-- what is written of a text of bytes is visible
 pub plain_text : (value : List ℕ) → All (λ b. b < 256) value → All IsVisible (escaped_text value)
 plain_text [] h = All-nil IsVisible
 plain_text (b ∷ bytes) h = All-append IsVisible (escaped b) (escaped_text bytes) (plain_byte b (All-head (λ n. n < 256) b bytes h))
     (plain_text bytes (All-tail (λ n. n < 256) b bytes h))
 
+-- the word of a value of bytes is visible
 pub plain_word : (value : List ℕ) → All (λ b. b < 256) value → All IsVisible (word_of value)
 plain_word [] h = All-cons IsVisible 45 [] (search rules) (All-nil IsVisible)
 plain_word (b ∷ bytes) h = plain_text (b ∷ bytes) h

@@ -31,21 +31,25 @@ use Rattle.exchange_report.proofs.OneLine.{const, joined, number, three, word, u
 
 -- The lines of a script.
 
+-- a number after a space, or nothing, ends no line
 printed : (n : Option ℕ) → HasNoEnd (printed_number n)
 printed None = const [] refl
 printed (Some n) = joined (codes " ") (numeral 10 n) (const (codes " ") refl) (number n)
 
+-- the kind of a plan ends no line
 kind : (k : Kind) → HasNoEnd (kind_text k)
 kind Plain = const (codes "plain") refl
 kind Whole = const (codes "whole") refl
 kind (Preview size) = joined (codes "preview") (printed_number (Some size)) (const (codes "preview") refl) (printed (Some size))
 
+-- what a plan allows ends no line
 allow : (a : Bool × Bool) → HasNoEnd (allow_text a)
 allow (true, true) = const (codes " allow retry") refl
 allow (true, false) = const (codes " allow") refl
 allow (false, true) = const (codes " retry") refl
 allow (false, false) = const [] refl
 
+-- the length of a body, known or not, ends no line
 len : (n : Option ℕ) → HasNoEnd (length_text n)
 len None = const [] refl
 len (Some n) = joined (codes " len") (printed_number (Some n)) (const (codes " len") refl) (printed (Some n))
@@ -57,6 +61,7 @@ plan_line p =
     (joined (codes "plan " ++ kind_text p.kind) (allow_text (p.allow, p.retry)) (joined (codes "plan ") (kind_text p.kind)
     (const (codes "plan ") refl) (kind p.kind)) (allow (p.allow, p.retry))) (len p.len)
 
+-- the word of an event ends no line
 event : (e : Event) → HasNoEnd (event_word e)
 event (In n) = const (codes "in") refl
 event End = const (codes "end") refl
@@ -78,6 +83,7 @@ event Retry = const (codes "retry") refl
 pub event_line : (e : Event) → HasNoEnd (event_text e)
 event_line e = joined (event_word e) (printed_number (event_number e)) (event e) (printed (event_number e))
 
+-- the words that ask for bytes of a tape end no line
 needed : (tape : Tape) → HasNoEnd (need_words tape)
 needed Original = const (codes "need original") refl
 needed Adapted = const (codes "need adapted") refl
@@ -92,6 +98,7 @@ need_line tape place = joined (need_words tape) (printed_number (Some place)) (n
 record Endless (text : List ℕ) : Type 0 where
   has : HasNoEnd text
 
+-- two texts that end no line end none together
 both : (a b : List ℕ) → Endless a → Endless b → Endless (a ++ b)
 both a b h i = record { has = joined a b h.has i.has }
 
@@ -99,15 +106,19 @@ both a b h i = record { has = joined a b h.has i.has }
 words : (text : List ℕ) → IsTrue (list_all (λ b. not (eqb b 10)) text) → Endless text
 words text e = record { has = const text e }
 
+-- a decimal ends no line
 decimal : (n : ℕ) → Endless (numeral 10 n)
 decimal n = record { has = number n }
 
+-- a hyphen ends no line
 dash : Endless (codes "-")
 dash = words (codes "-") refl
 
+-- a space ends no line
 blank : Endless (codes " ")
 blank = words (codes " ") refl
 
+-- the three numbers of an id with their hyphens end no line
 ids : (a : ExchangeId) → Endless (id_text a)
 ids a =
     both _ (numeral 10 a.number) (both _ (codes "-") (both _ (numeral 10 a.key)
@@ -137,6 +148,7 @@ request method target m t =
     joined (codes " " ++ word_of (take MAX_METHOD method) ++ codes " ") (word_of (take MAX_TARGET target))
     (joined (codes " " ++ word_of (take MAX_METHOD method)) (codes " ") first one) (word MAX_TARGET target t)
 
+-- the word of what is waited for ends no line
 awaited : (a : Awaited) → HasNoEnd (awaited_word a)
 awaited awaits.UserBody = const (codes "user-body") refl
 awaited awaits.OriginBody = const (codes "origin-body") refl
@@ -151,31 +163,38 @@ awaited awaits.UserTakes = const (codes "user-takes") refl
 awaited awaits.UserCloses = const (codes "user-closes") refl
 awaited awaits.Proxy = const (codes "proxy") refl
 
+-- the id and the age of an exchange end no line
 age : (l : Live) → Endless (age_text l)
 age l = both _ (codes "s ") (both _ (numeral 10 l.age) (both (id_text l.id) (codes " ") (ids l.id) blank) (decimal l.age))
     (words (codes "s ") refl)
 
+-- the point and what is waited for end no line
 waits : (l : Live) → Endless (waits_text l)
 waits l =
     both _ (awaited_word l.awaited) (both (point_word l.point) (codes " waits-for ") (record { has = point l.point })
     (words (codes " waits-for ") refl))
     (record { has = awaited l.awaited })
 
+-- the field of how long nothing has moved ends no line
 still : (l : Live) → Endless (still_text l)
 still l = both _ (codes "s") (both (codes " ") (numeral 10 l.still) blank (decimal l.still)) (words (codes "s") refl)
 
+-- the fields up to the held places end no line
 standing : (l : Live) → Endless (standing_text l)
 standing l = both _ (still_text l) (both (age_text l) (waits_text l) (age l) (waits l)) (still l)
 
+-- a range of two numbers ends no line
 range : (r : ℕ × ℕ) → Endless (range_text r)
 range r = both _ (numeral 10 r.1) (both (numeral 10 r.0) (codes "..") (decimal r.0) (words (codes "..") refl)) (decimal r.1)
 
+-- the places of both bodies that are held end no line
 held : (l : Live) → Endless (held_text l)
 held l =
     both _ (range_text l.adapted) (both _ (codes " adapted ") (both (codes " held ") (range_text l.held) (words (codes " held ") refl)
     (range l.held))
     (words (codes " adapted ") refl)) (range l.adapted)
 
+-- the body bytes that came and went, and those reserved, end no line as they are written
 counts : (l : Live) → Endless (counts_text l)
 counts l =
     both _ (numeral 10 l.claim) (both _ (codes " claim ") (both _ (numeral 10 l.delivered) (both _ (codes " usr ")

@@ -38,19 +38,23 @@ use Rattle.http_relay.proofs.Chosen.{done_means, fewer}
 use Rattle.http_relay.proofs.Given.{gives_passed}
 use Rattle.http_relay.proofs.Carried.{given_on, aside_on, done_given, undelivered_done, legal_by, held_by, usr_to}
 
+-- the events of a turn with Done lead where its bytes lead, and then Done
 all_then : (x : Seen) (n : ℕ) (b : Bool) → (n == 0) ≡ b → after_all x (hop_events n true) ≡ after (usr_to x n) Done
 all_then x n true e = rw e refl
 all_then x n false e = rw e refl
 
+-- what is given after the bytes of a turn is given after its events, with Done or without
 with_done : (stage : Stage) (x : Seen) (f : Framing) (head body taken : List ℕ) (w : Writer) (n : ℕ) (done : Bool)
     → GivenAt stage (usr_to x n) f head body taken w → GivenAt stage (after_all x (hop_events n done)) f head body taken w
 with_done stage x f head body taken w n true g = subst (λ (y : Seen). GivenAt stage y f head body taken w)
     (sym (all_then x n (n == 0) refl)) (done_given stage (usr_to x n) f head body taken w g)
 with_done stage x f head body taken w n false g = g
 
+-- where nothing was taken before, and nothing now, nothing was taken
 nothing_taken : (taken d : List ℕ) → taken ≡ [] → d ≡ [] → taken ++ d ≡ []
 nothing_taken taken d t e = ap (λ (xs : List ℕ). xs ++ d) t ∙ e
 
+-- where a byte was taken before or now, one was taken
 some_taken : (taken d : List ℕ) → (0 < length taken) ⊎ (0 < length d) → 0 < length (taken ++ d)
 some_taken taken d (inl s) = omega (arith, length-append taken d, s)
 some_taken taken d (inr s) = omega (arith, length-append taken d, s)
@@ -64,6 +68,7 @@ pub record Settles (x : Seen) (next : Next) (old new : Hop) (k : ℕ) (e done : 
   done_at : done ≡ true → (new.stage ≡ at.Whole) × (waiting new.writer ≡ [])
   may : done ≡ true → (e ≡ true) ⊎ ((x.closed ≡ false) × Allows x Done × (k ≡ 0))
 
+-- where nothing was delivered, nothing is after a turn without bytes, with Done or without
 undelivered_then : (x : Seen) (done : Bool) → IsUndelivered x → IsUndelivered (after_all x (hop_events 0 done))
 undelivered_then x true h = undelivered_done x h
 undelivered_then x false h = h
@@ -76,6 +81,7 @@ untouched_then x k done taken d z e h = (
   subst (λ (n : ℕ). IsUndelivered (after_all x (hop_events n done))) (sym z) (undelivered_then x done h.1),
 )
 
+-- what was taken of a message, and what a turn's moves send of it, is given after the turn's events
 given_by : (x : Seen) (tape : Tape) (next : Next) (old new : Hop) (k : ℕ) (e done : Bool) (d head body taken : List ℕ) → Sound x
     → KeepsUndelivered x tape → Decides old.turn x old.writer old.framing old.stage next
     → Moves tape next old.writer k e d new.writer → Settles x next old new k e done d → Follows tape body → HasGiven x head body taken old
@@ -95,6 +101,7 @@ given_by x tape next old new k e done d head body taken s u c m t i h =
       touched = λ n. some_taken taken d (elim (t.reached n) [ inl o ↦ inl (h.touched o) | inr s ↦ inr s ]);
     }
 
+-- what was taken while no message is written goes on by what a turn's moves send
 aside_by : (x : Seen) (tape : Tape) (next : Next) (old new : Hop) (k : ℕ) (e done : Bool) (d taken : List ℕ)
     → Decides old.turn x old.writer old.framing old.stage next
     → Moves tape next old.writer k e d new.writer → Settles x next old new k e done d → IsAside taken old → IsAside (taken ++ d) new
@@ -115,10 +122,12 @@ gift_then at.Message true h = refl
 gift_then at.Whole true h = refl
 gift_then (at.Refusal status) true h = let odd : false ≡ true = h refl in cc
 
+-- a turn fixes the end of a body only where a message is written
 begun_at_end : (x : Seen) (next : Next) (old : Hop) (k : ℕ) (e : Bool) → Decides old.turn x old.writer old.framing old.stage next
     → Reaches next k e → e ≡ true → is_message old.stage ≡ true
 begun_at_end x next old k e c r i = (c.ends (r.all i).1).0
 
+-- a side goes on by the moves of a turn that was decided, and by the events that these settle
 pub goes_on : (x : Seen) (tape : Tape) (next : Next) (old new : Hop) (k : ℕ) (e done : Bool) (d : List ℕ) → Sound x
     → KeepsUndelivered x tape → Decides old.turn x old.writer old.framing old.stage next
     → Moves tape next old.writer k e d new.writer → Settles x next old new k e done d → GoesOn x tape old new (hop_events k done) d
@@ -135,6 +144,7 @@ goes_on x tape next old new k e done d s u c m t = record {
   gift = ap gift_of t.stage ∙ gift_then old.stage e (begun_at_end x next old k e c (reaches tape next old.writer new.writer k e d m));
 }
 
+-- a side that keeps its writer, framing, stage and whether a byte went out goes on without an event or a byte
 pub goes_same : (x : Seen) (tape : Tape) (old new : Hop) → new.writer ≡ old.writer → new.framing ≡ old.framing → new.stage ≡ old.stage
     → new.touched ≡ old.touched → GoesOn x tape old new [] []
 goes_same x tape old new w f s t = record {
@@ -163,6 +173,7 @@ goes_same x tape old new w f s t = record {
   gift = ap gift_of s;
 }
 
+-- what was given at a stage stays so for a writer with the same text waiting and as much left of its chunk
 drop_text_at : (stage : Stage) (x : Seen) (f : Framing) (head body taken : List ℕ) (v w : Writer) → waiting w ≡ waiting v → w.left ≡ v.left
     → GivenAt stage x f head body taken v → GivenAt stage x f head body taken w
 drop_text_at at.Empty x f head body taken v w e l g = (ap (λ (xs : List ℕ). taken ++ xs) e ∙ g.0, g.1)
@@ -172,6 +183,7 @@ drop_text_at at.Whole x f head body taken v w e l g =
     subst (λ (xs : List ℕ). GivesMessage x f true head body xs w) (append-nil taken) (gives_passed x f true head body taken [] v w e l g)
 drop_text_at (at.Refusal status) x f head body taken v w e l g = absurd g
 
+-- what was taken while no message is written stays so for a writer with the same text waiting
 aside_drop_text_at : (stage : Stage) (taken : List ℕ) (v w : Writer) → waiting w ≡ waiting v → AsideAt stage taken v → AsideAt stage taken w
 aside_drop_text_at at.Empty taken v w e a = ap (λ (xs : List ℕ). taken ++ xs) e ∙ a
 aside_drop_text_at at.Message taken v w e a = absurd a
@@ -189,6 +201,7 @@ drop_text_given x head body taken old new l h = record {
   touched = λ n. h.touched (sym l.touched ∙ n);
 }
 
+-- memory that is given back changes nothing of what was taken while no message is written
 drop_text_aside : (taken : List ℕ) (old new : Hop) → DropsText old new → IsAside taken old → IsAside taken new
 drop_text_aside taken old new l a = record {
   text = subst (λ (stage : Stage). AsideAt stage taken new.writer) (sym l.stage)
@@ -197,6 +210,7 @@ drop_text_aside taken old new l a = record {
   touched = λ n. a.touched (sym l.touched ∙ n);
 }
 
+-- a side that goes on still does so where memory is given back after it
 goes_drop_text : (x : Seen) (tape : Tape) (old mid new : Hop) (events : List Event) (delta : List ℕ) → DropsText mid new
     → GoesOn x tape old mid events delta → GoesOn x tape old new events delta
 goes_drop_text x tape old mid new events delta l g = record {
@@ -212,6 +226,7 @@ goes_drop_text x tape old mid new events delta l g = record {
   gift = ap gift_of l.stage ∙ g.gift;
 }
 
+-- where nothing is due, nothing is once memory was given back
 due_drop_text : (x : Seen) (old new : Hop) → DropsText old new → NothingDue x old → NothingDue x new
 due_drop_text x old new l d = record {
   one = d.one;
@@ -220,6 +235,7 @@ due_drop_text x old new l d = record {
   no_done = λ m. d.no_done (ap (λ (stage : Stage). is_message stage || is_whole stage) (sym l.stage) ∙ m);
 }
 
+-- a result that fits what was offered still fits once memory was given back
 fits_drop_text : (x : Seen) (old mid new : Hop) (answer : Option Put) (result : Result Turn RelayFault) → DropsText mid new
     → FitsOffer x old mid answer result → FitsOffer x old new answer result
 fits_drop_text x old mid new answer (Ok turn) l f = record {
@@ -244,6 +260,7 @@ turned_drop_text x tape old mid new before after' result l t = record {
   fits = λ n. fits_drop_text x old mid new t.answer result l (t.fits n);
 }
 
+-- what is decided over the parts of a side is decided over the side
 pub decides_at : (x : Seen) (old : Hop) (v : Writer) (f : Framing) (stage : Stage) (turn : ℕ) (next : Next) → v ≡ old.writer
     → f ≡ old.framing → stage ≡ old.stage → turn ≡ old.turn → Decides turn x v f stage next
     → Decides old.turn x old.writer old.framing old.stage next
@@ -294,28 +311,34 @@ unmoved x tape old new before fault w f s t only fit = record {
   fits = fit;
 }
 
+-- a side that had a fault answers it again, makes no write and stays the same
 pub faulted : (x : Seen) (tape : Tape) (old : Hop) (before : Past → Type 0) (fault : RelayFault) → old.fault ≡ Some fault
     → WriteTurn x tape old old before before (Err fault)
 faulted x tape old before fault e = unmoved x tape old old before fault refl refl refl refl (λ none. cc) (λ none. cc)
 
+-- where the wire waits, a still turn counts no body byte and fixes no end
 pub still_wait : (answer : Option Put) (k : ℕ) (e : Bool) → answer ≡ Some put.Wait → IsStill answer k e → (k ≡ 0) × (e ≡ false)
 still_wait None k e a s = cc
 still_wait (Some (put.Took n)) k e a s = cc
 still_wait (Some put.Wait) k e a s = s
 still_wait (Some put.Fault) k e a s = s
 
+-- where the wire fails, a still turn counts no body byte and fixes no end
 pub still_fault : (answer : Option Put) (k : ℕ) (e : Bool) → answer ≡ Some put.Fault → IsStill answer k e → (k ≡ 0) × (e ≡ false)
 still_fault None k e a s = cc
 still_fault (Some (put.Took n)) k e a s = cc
 still_fault (Some put.Wait) k e a s = s
 still_fault (Some put.Fault) k e a s = s
 
+-- a wire that waits took no byte
 pub no_delta_wait : (answer : Option Put) (text : List ℕ) → answer ≡ Some put.Wait → delta_of text answer ≡ []
 no_delta_wait answer text a = ap (delta_of text) a
 
+-- a wire that fails took no byte
 pub no_delta_fault : (answer : Option Put) (text : List ℕ) → answer ≡ Some put.Fault → delta_of text answer ≡ []
 no_delta_fault answer text a = ap (delta_of text) a
 
+-- a wire that wasn't asked took no byte
 pub no_delta_none : (answer : Option Put) (text : List ℕ) → answer ≡ None → delta_of text answer ≡ []
 no_delta_none answer text a = ap (delta_of text) a
 
@@ -340,9 +363,11 @@ took_some text (Some (put.Took k)) n a f = omega (arith, length-take-le k text f
 took_some text (Some put.Wait) n a f = cc
 took_some text (Some put.Fault) n a f = cc
 
+-- a turn that counts no body byte has no event, without Done
 pub none_still : (k : ℕ) (e : Bool) → (k ≡ 0) × (e ≡ false) → [] ≡ hop_events k false
 none_still k e s = subst (λ (n : ℕ). [] ≡ hop_events n false) (sym s.0) refl
 
+-- a turn that doesn't wait fits a wire that took bytes
 pub fits_took : (x : Seen) (new : Hop) (answer : Option Put) (n : ℕ) (turn : Turn) → answer ≡ Some (put.Took n)
     → (turn.waiting ≡ true → true ≡ false) → FitsAnswer x new answer turn
 fits_took x new answer n turn a t = record {
@@ -354,6 +379,7 @@ fits_took x new answer n turn a t = record {
   woke = λ h i. cc;
 }
 
+-- a turn that waits and has no event fits a wire that waits
 pub fits_wait : (x : Seen) (new : Hop) (answer : Option Put) (turn : Turn) → answer ≡ Some put.Wait → turn.events.items ≡ []
     → (turn.waiting ≡ false → turn.events.items ≡ [] → ⊥) → FitsAnswer x new answer turn
 fits_wait x new answer turn a n t = record {
@@ -365,6 +391,7 @@ fits_wait x new answer turn a n t = record {
   woke = λ h i. t h n;
 }
 
+-- where the plan is plain, or a 204 came, no message was modified
 plain_or : (x : Seen) (b c : Bool) → is_plain x.plan.kind ≡ b → x.no_mod ≡ c → b || c ≡ true → Sound x → x.modified ≡ false
 plain_or x true c p m h s = grind (arith, nat_tests, s.plain p)
 plain_or x false true p m h s = s.one m
@@ -374,10 +401,12 @@ plain_or x false false p m h s = cc
 chosen_once : (x : Seen) → Sound x → chooses_original x ≡ true → x.modified ≡ false
 chosen_once x s h = plain_or x (is_plain x.plan.kind) x.no_mod refl refl h s
 
+-- where a turn without bytes has no event, it has no Done
 no_done : (done : Bool) → hop_events 0 done ≡ [] → done ≡ false
 no_done true e = cc
 no_done false e = refl
 
+-- where no byte and no end comes next of a message, nor Done after its end, Done may not follow
 due_by : (stage : Stage) (x : Seen) (old : Hop) (next : Next) (e : Bool) → stage ≡ old.stage → Sound x
     → Decides old.turn x old.writer old.framing old.stage next → next.count ≡ 0 → e ≡ is_ending next.end → e ≡ false
     → (is_whole old.stage ≡ true → x.closed ≡ false → Allows x Done → ⊥) → is_message old.stage || is_whole old.stage ≡ true
@@ -398,6 +427,7 @@ no_usr : (x : Seen) (old : Hop) (next : Next) → Decides old.turn x old.writer 
 no_usr x old next c m z n o a =
     absurd (omega (arith, z, c.some m n o a))
 
+-- an idle turn, with its events and its waiting, fits a wire that wasn't asked
 pub fits_none : (x : Seen) (old new : Hop) (next : Next) (answer : Option Put) (k : ℕ) (e done : Bool) (turn : Turn) → answer ≡ None
     → Sound x → Decides old.turn x old.writer old.framing old.stage next → IsIdle old.writer next k e
     → turn.events.items ≡ hop_events 0 done → (done ≡ false → e ≡ true → ⊥)
@@ -427,14 +457,17 @@ fits_none x old new next answer k e done turn a v c i h ne nm t f out st = recor
     not_true true n = absurd (n refl)
     not_true false n = refl
 
+-- the events of an idle turn are those of no bytes
 pub idle_events : (next : Next) (w : Writer) (k : ℕ) (e done : Bool) → IsIdle w next k e → hop_events 0 done ≡ hop_events k done
 idle_events next w k e done i = ap (λ (n : ℕ). hop_events n done) (sym i.none_sent)
 
+-- a Done may stand where the end is fixed, or where it may follow and no byte is counted
 may_by : (x : Seen) (e may : Bool) (k s : ℕ) → (may ≡ true → (x.closed ≡ false) × Allows x Done) → (s ≡ 0 → k ≡ 0)
     → (e ≡ true) ⊎ ((may ≡ true) × (s ≡ 0)) → (e ≡ true) ⊎ ((x.closed ≡ false) × Allows x Done × (k ≡ 0))
 may_by x e may k s a z (inl i) = inl i
 may_by x e may k s a z (inr i) = inr ((a i.0).0, (a i.0).1, z i.1)
 
+-- a side made of its parts settles what its turn counts, if each part fits
 pub settles_by : (x : Seen) (next : Next) (old new : Hop) (w : Writer) (f : Framing) (stage : Stage) (touched : Bool)
     (fault : Option RelayFault) (turn k s : ℕ) (e done may : Bool) (d : List ℕ)
     → new ≡ record { writer = w; framing = f; stage = stage_then stage e; touched = touched; fault = fault; turn = turn } → f ≡ old.framing

@@ -29,6 +29,7 @@ at_front raw text rest n e l =
     (omega (arith, all, l)) in
     near ∙ (ap (λ (t : List ℕ). take n t) e ∙ (ap (λ (k : ℕ). take k (text ++ rest)) l ∙ take-append_seam text rest))
 
+-- raw bytes that are cut after a prefix of their first 16,384 are just that prefix, with nothing after it
 alone : (raw text rest : List ℕ) (n : ℕ) → take 16384 raw ≡ text ++ rest → n ≡ length text
     → (take 16384 (take n raw) ≡ text ++ drop (length (take n raw)) (take 16384 (take n raw))) × (length (take n raw) ≡ length text)
 alone raw text rest n e l =
@@ -53,6 +54,7 @@ request_alone raw r n h =
       taken = h.taken;
     }
 
+-- a response's head that is read from the raw bytes is read from its own bytes alone
 pub response_alone : (raw : List ℕ) (r : ResponseParts) (n : ℕ) (to_head : Bool) → IsResponseRead to_head raw r n
     → IsResponseRead to_head (take n raw) r (length (take n raw))
 response_alone raw r n to_head h =
@@ -92,6 +94,7 @@ begins old new n a r h way fresh going zero read s x count going_on = (
   λ len. record { received = count ∙ sym zero; ended = going_on ∙ sym going; len = len },
 )
 
+-- a side at the head that takes a request's head from its raw bytes begins a message
 pub begins_request : (old new : SourceSide) (n : ℕ) (r : RequestParts) → old.asks ≡ asks.Request → new.asks ≡ old.asks
     → new.raw.items ≡ drop n old.raw.items → n ≤ length old.raw.items → new.head ≡ heads.Request r → IsRead false old.raw.items r n
     → new.body.framing ≡ framing_of (heads.Request r) → HasRead new.body.framing [] [] new.body.reader → new.body.ended ≡ false
@@ -101,6 +104,7 @@ begins_request old new n r q a d l h is way fresh going zero =
     (subst (λ (t : SourceHead). IsHeadText asks.Request t (take n old.raw.items)) (sym h) (request_alone old.raw.items r n is)))
     (way ∙ ap framing_of (sym h)) fresh going zero
 
+-- a side at the head that takes a final response's head from its raw bytes begins a message
 pub begins_response : (old new : SourceSide) (n : ℕ) (r : ResponseParts) (to_head : Bool) → old.asks ≡ asks.Response to_head
     → new.asks ≡ old.asks → new.raw.items ≡ drop n old.raw.items → n ≤ length old.raw.items → new.head ≡ heads.Response r
     → IsResponseRead to_head old.raw.items r n → IsFinal r
@@ -135,6 +139,7 @@ drops_interim old new n r to_head q a h d l is between few one read s = record {
   unread = h ∙ s.unread;
 }
 
+-- what may come before a head is the same for the same kind of head and the same count
 pub counted : (a b : Asks) (m n : ℕ) (text : List ℕ) → b ≡ a → n ≡ m → IsBefore a m text → IsBefore b n text
 counted a b m n text same e h = subst (λ (t : Asks). IsBefore t n text) (sym same) (subst (λ (k : ℕ). IsBefore a k text) (sym e) h)
 
@@ -153,6 +158,7 @@ before_none : (a : Asks) → IsBefore a 0 []
 before_none asks.Request = (refl, refl)
 before_none (asks.Response to_head) = (omega arith, nothing)
 
+-- a side with no head and no interim response has read just its raw bytes
 pub fresh_at_head : (s : SourceSide) → s.head ≡ heads.Unread → s.interims ≡ 0 → AtHead s.raw.items s
 fresh_at_head s u z = record {
   before = [];
@@ -161,17 +167,21 @@ fresh_at_head s u z = record {
   unread = u;
 }
 
+-- a prefix of the first 16,384 raw bytes is at most as long as all raw bytes
 short_front : (raw head rest : List ℕ) → take 16384 raw ≡ head ++ rest → length head ≤ length raw
 short_front raw head rest e = omega (arith, length-append head rest, ap (λ (t : List ℕ). length t) e, length-take 16384 raw)
 
+-- a request's head that is read ends within the raw bytes
 pub request_within : (raw : List ℕ) (r : RequestParts) (n : ℕ) → IsRead false raw r n → n ≤ length raw
 request_within raw r n h = let l = short_front raw (print_request h.there.head) (drop n (take 16384 raw)) h.there.reads.1 in
     omega (arith, l, h.there.len_is)
 
+-- a response's head that is read ends within the raw bytes
 pub response_within : (raw : List ℕ) (r : ResponseParts) (n : ℕ) (to_head : Bool) → IsResponseRead to_head raw r n → n ≤ length raw
 response_within raw r n to_head h = let l = short_front raw (print_response h.there.head) (drop n (take 16384 raw)) h.there.reads.1 in
     omega (arith, l, h.there.len_is)
 
+-- the text of a response's head isn't empty
 some_digits : (h : ResponseHead) → 0 < length (print_response h)
 some_digits h =
     let rest : List ℕ = h.digits ++ (print_reason h.reason ++ (print_end h.line_end ++ (print_section h.fields h.last ++ []))) in

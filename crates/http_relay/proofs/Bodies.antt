@@ -77,6 +77,7 @@ reads_kept a b c raw used out ys count k f e h =
     subst (λ (t : List ℕ). ReadsOn a raw used t c) (sym (take-put_mid_below count k out ys count same h))
     (subst (λ (r : BodyReader). ReadsOn a raw used (take count out) r) (sym e) f)
 
+-- to read no byte finds none of the body, and leaves the reader as it is
 pub reads_none : (a : BodyReader) (raw : List ℕ) → ReadsOn a raw 0 [] a
 reads_none a raw way text body h = subst (λ (t : List ℕ). HasRead way t (body ++ []) a) (sym (append-nil text))
     (subst (λ (t : List ℕ). HasRead way text t a) (sym (append-nil body)) h)

@@ -31,9 +31,11 @@ use Rattle.http_relay.proofs.Given.{gives_passed, gives_begun, gives_ended, give
 abbrev pub usr_to : Seen → ℕ → Seen
 usr_to x n = after_all x (usr_events n)
 
+-- a number is itself with nothing added
 add_zero : (n : ℕ) → n ≡ n + 0
 add_zero n = omega arith
 
+-- the event of bytes that may be given moves what went out by them, be they some or none
 moved_by : (x : Seen) (n : ℕ) → Sound x → (0 < n → Allows x (Usr n)) → (0 < n) ⊎ (n ≤ 0) → Moved x (usr_to x n) n
 moved_by x n s a (inl some) = let e : (n == 0) ≡ false = grind (arith, nat_tests) in rw e (usr_moves x n s (a some))
 moved_by x n s a (inr none) =
@@ -46,6 +48,7 @@ moved_by x n s a (inr none) =
       sound = s;
     })
 
+-- the event of bytes that may be given, if there are any, moves what went out by just these
 pub moved_to : (x : Seen) (n : ℕ) → Sound x → (0 < n → Allows x (Usr n)) → Moved x (usr_to x n) n
 moved_to x n s a = moved_by x n s a (cases_lt 0 n)
 
@@ -58,6 +61,7 @@ pub record Held (x : Seen) (tape : Tape) (f : Framing) (old : Writer) (stage : S
   long : length (bytes_of tape next) ≡ next.count
   follows : Follows tape body
 
+-- the first body bytes of a turn are those of the body from where they begin, on a tape that follows it
 part_is : (tape : Tape) (next : Next) (body : List ℕ) (from k : ℕ) → next.from ≡ from → tape.base ≤ from → drop tape.base body ≡ tape.bytes
     → k ≤ next.count
     → take k (bytes_of tape next) ≡ take k (drop from body)
@@ -68,10 +72,12 @@ part_is tape next body from k e b i l =
     ∙ (ap (λ (xs : List ℕ). take k xs) (drop-drop (next.from - tape.base) tape.base body)
     ∙ ap (λ (m : ℕ). take k (drop m body)) behind_base))
 
+-- one or more of the bytes that were decided may be given
 pub allowed : {turn : ℕ} (x : Seen) (f : Framing) (old : Writer) (stage : Stage) (next : Next) (k : ℕ) → Decides turn x old f stage next
     → k ≤ next.count → 0 < k → Allows x (Usr k)
 allowed x f old stage next k c l some = fewer x k next.count some l (c.usr (omega arith)).2
 
+-- body bytes of a turn that go out, where nothing waits, are given of the message
 data_sent : (x : Seen) (tape : Tape) (f : Framing) (old v : Writer) (stage : Stage) (next : Next) (head body taken : List ℕ) (k : ℕ)
     → Held x tape f old stage next body → waiting v ≡ []
     → 0 < k → k ≤ next.count → (next.chunked ≡ true → k ≤ v.left) → GivesMessage x f false head body taken v
@@ -89,9 +95,11 @@ data_sent x tape f old v stage next head body taken k g o some few within h =
     (here ∙ ap (λ (n : ℕ). take n (drop (chosen_delivered x) body)) (sym long)) (omega arith) (λ c. omega (arith, long, within c))
     (omega (arith, long, usr_room x k g.sound can)) (g.decided.room (omega arith)) h)
 
+-- where all that came is out, a length that is what came is what went out
 exact_at : (o : Option ℕ) (came out : ℕ) → out ≡ came → IfSome o (λ n. came ≡ n) → IfSome o (λ n. out ≡ n)
 exact_at o came out e h = subst (λ (m : ℕ). IfSome o (λ n. m ≡ n)) (sym e) h
 
+-- the body's end, fixed after all bytes of a turn, makes the message whole
 ended_at : (x : Seen) (tape : Tape) (f : Framing) (old v : Writer) (stage : Stage) (next : Next) (head body taken : List ℕ)
     → Held x tape f old stage next body → waiting v ≡ [] → is_ending next.end ≡ true
     → GivesMessage (usr_to x next.count) f false head body taken v
@@ -136,6 +144,7 @@ pub record OnlyPasses (old w : Writer) (d : List ℕ) (k : ℕ) (e : Bool) : Typ
   pub none : k ≡ 0
   pub not_ended : e ≡ false
 
+-- where no byte and no end comes next, the moves of a turn only pass what waited
 pub only_passes : (tape : Tape) (next : Next) (old w : Writer) (k : ℕ) (e : Bool) (d : List ℕ) → next.count ≡ 0 → is_ending next.end ≡ false
     → Moves tape next old k e d w → OnlyPasses old w d k e
 only_passes tape next old w k e d z n start = record { rest = refl; left = refl; none = refl; not_ended = refl }
@@ -151,22 +160,26 @@ only_passes tape next old w k e d z n (begun_chunk m c o l s) = absurd (omega ar
 only_passes tape next old w k e d z n (sent m k' o s few within) = absurd (omega arith)
 only_passes tape next old w k e d z n (ended m o a i) = cc
 
+-- where no message is written, no body byte comes next
 not_begun : {turn : ℕ} (x : Seen) (f : Framing) (old : Writer) (stage : Stage) (next : Next) → is_message stage ≡ false
     → Decides turn x old f stage next → (0 < next.count) ⊎ (next.count ≤ 0) → next.count ≡ 0
 not_begun x f old stage next m c (inl some) = let t : is_message stage ≡ true = (c.usr some).0 in cc
 not_begun x f old stage next m c (inr none) = omega arith
 
+-- where no message is written, no end of a body comes next
 not_ending : {turn : ℕ} (x : Seen) (f : Framing) (old : Writer) (stage : Stage) (next : Next) (b : Bool) → is_ending next.end ≡ b
     → is_message stage ≡ false → Decides turn x old f stage next → b ≡ false
 not_ending x f old stage next true i m c = let t : is_message stage ≡ true = (c.ends i).0 in cc
 not_ending x f old stage next false i m c = refl
 
+-- where no message is written, the moves of a turn only pass what waited
 passes_by : {turn : ℕ} (x : Seen) (tape : Tape) (f : Framing) (old w : Writer) (stage : Stage) (next : Next) (k : ℕ) (e : Bool) (d : List ℕ)
     → is_message stage ≡ false → Decides turn x old f stage next → Moves tape next old k e d w → OnlyPasses old w d k e
 passes_by x tape f old w stage next k e d m c v =
     only_passes tape next old w k e d (not_begun x f old stage next m c (cases_lt 0 next.count))
     (not_ending x f old stage next (is_ending next.end) refl m c) v
 
+-- what was taken and what waits are the same text when some of this goes out
 text_passed : (taken d all : List ℕ) (old w : Writer) → d ++ waiting w ≡ waiting old → taken ++ waiting old ≡ all
     → (taken ++ d) ++ waiting w ≡ all
 text_passed taken d all old w p e = append_assoc taken d (waiting w) ∙ (ap (λ (xs : List ℕ). taken ++ xs) p ∙ e)
@@ -230,6 +243,7 @@ same_message x f b head body taken w g =
 pub undelivered_done : (x : Seen) → IsUndelivered x → IsUndelivered (after x Done)
 undelivered_done x h = (grind (arith, nat_tests, h.0), grind (arith, nat_tests, h.1))
 
+-- at each stage, Done changes nothing of what was given
 pub done_given : (stage : Stage) (x : Seen) (f : Framing) (head body taken : List ℕ) (w : Writer) → GivenAt stage x f head body taken w
     → GivenAt stage (after x Done) f head body taken w
 done_given at.Empty x f head body taken w g = (g.0, undelivered_done x g.1)
@@ -242,6 +256,7 @@ usr_legal : (x : Seen) (n : ℕ) → (0 < n → (x.closed ≡ false) × Allows x
 usr_legal x n a (inl some) = let e : (n == 0) ≡ false = grind (arith, nat_tests) in rw e ((a some).0, (a some).1, tt)
 usr_legal x n a (inr none) = let e : (n == 0) ≡ true = grind (arith, nat_tests) in rw e tt
 
+-- where Done may follow the event of a turn's bytes, both may follow in a row
 done_by : (x : Seen) (n : ℕ) (b : Bool) → MayAllFollow x (if b then [] else Usr n ∷ [])
     → (after_all x (if b then [] else Usr n ∷ [])).closed ≡ false
     → Allows (after_all x (if b then [] else Usr n ∷ [])) Done → MayAllFollow x ((if b then [] else Usr n ∷ []) ++ Done ∷ [])
@@ -252,10 +267,12 @@ done_by x n false l o a = (l.0, l.1, (o, a, tt))
 pub record MayEnd (x : Seen) (next : Next) (k : ℕ) (e : Bool) : Type 0 where
   pub now : (e ≡ true) ⊎ ((x.closed ≡ false) × Allows x Done × (k ≡ 0))
 
+-- where one or more of the bytes that were decided go out, the history is open and they may be given
 open_usr : {turn : ℕ} (x : Seen) (f : Framing) (old : Writer) (stage : Stage) (next : Next) (k : ℕ) → Decides turn x old f stage next
     → k ≤ next.count → 0 < k → (x.closed ≡ false) × Allows x (Usr k)
 open_usr x f old stage next k c l some = ((c.usr (omega arith)).1, allowed x f old stage next k c l some)
 
+-- a turn's events with Done may follow where it fixed the end, or where Done may follow at once
 legal_done : {turn : ℕ} (x : Seen) (f : Framing) (old : Writer) (stage : Stage) (next : Next) (k : ℕ) (e : Bool) → Sound x
     → Decides turn x old f stage next → Reaches next k e
     → (e ≡ true) ⊎ ((x.closed ≡ false) × Allows x Done × (k ≡ 0)) → MayAllFollow x (hop_events k true)
@@ -269,12 +286,14 @@ legal_done x f old stage next k e s c r (inl i) =
     (m.still ∙ due.1) (done_allowed (usr_to x next.count) m.sound (m.over ∙ due.2) (m.out ∙ (due.3 ∙ sym m.came))))
 legal_done x f old stage next k e s c r (inr i) = subst (λ (n : ℕ). MayAllFollow x (hop_events n true)) (sym i.2) (i.0, i.1, tt)
 
+-- a turn's events may follow, with Done where it may stand, or without it
 pub legal_by : {turn : ℕ} (x : Seen) (f : Framing) (old : Writer) (stage : Stage) (next : Next) (k : ℕ) (e done : Bool) → Sound x
     → Decides turn x old f stage next → Reaches next k e
     → (done ≡ true → (e ≡ true) ⊎ ((x.closed ≡ false) × Allows x Done × (k ≡ 0))) → MayAllFollow x (hop_events k done)
 legal_by x f old stage next k e true s c r a = legal_done x f old stage next k e s c r (a refl)
 legal_by x f old stage next k e false s c r a = usr_legal x k (open_usr x f old stage next k c r.few) (cases_lt 0 k)
 
+-- where body bytes come next, the tape begins no later than what was delivered ends
 base_of : {turn : ℕ} (x : Seen) (tape : Tape) (f : Framing) (old : Writer) (stage : Stage) (next : Next) → KeepsUndelivered x tape
     → Decides turn x old f stage next → 0 < next.count → tape.base ≤ chosen_delivered x
 base_of x tape f old stage next u c some = omega (arith, u.base (c.usr some).1)
@@ -289,6 +308,7 @@ may_go_on x tape f old stage next s u c = record {
   within = c.fits.1;
 }
 
+-- a turn that was decided has all that its moves need, on a tape that keeps what is undelivered
 pub held_by : {turn : ℕ} (x : Seen) (tape : Tape) (f : Framing) (old : Writer) (stage : Stage) (next : Next) (body : List ℕ) → Sound x
     → KeepsUndelivered x tape → Decides turn x old f stage next → Follows tape body → Held x tape f old stage next body
 held_by {turn} x tape f old stage next body s u c i = record {

@@ -28,6 +28,7 @@ pub record Moved (x y : Seen) (n : ℕ) : Type 0 where
   pub still : y.closed ≡ x.closed
   pub sound : Sound y
 
+-- an Usr moves what went out of the chosen message by its bytes, and nothing else of it
 pub usr_moves : (x : Seen) (n : ℕ) → Sound x → Allows x (Usr n) → Moved x (after x (Usr n)) n
 usr_moves x n s a = record {
   out = grind (arith, nat_tests);
@@ -37,14 +38,17 @@ usr_moves x n s a = record {
   sound = sound-after x (Usr n) s a;
 }
 
+-- an Usr gives no more of the chosen message than has come
 pub usr_room : (x : Seen) (n : ℕ) → Sound x → Allows x (Usr n) → chosen_delivered x + n ≤ chosen_received x
 usr_room x n s a = grind (arith, nat_tests)
 
+-- where the plan is plain, or a 204 came, the original is the chosen message
 original_by : (x : Seen) (b c : Bool) → is_plain x.plan.kind ≡ b → x.no_mod ≡ c → (b || c) ≡ true → ChoosesOriginal x
 original_by x true c p m h = inl p
 original_by x false true p m h = inr m
 original_by x false false p m h = cc
 
+-- whichever message is chosen, Done may follow where it has ended and is all out
 done_by : (x : Seen) (b : Bool) → chooses_original x ≡ b → Sound x → chosen_over x ≡ true → chosen_delivered x ≡ chosen_received x
     → Allows x Done
 done_by x true e s o a = inl (original_by x (is_plain x.plan.kind) x.no_mod refl refl e, grind (arith, nat_tests), grind (arith, nat_tests))

@@ -10,6 +10,7 @@ use Rattle.chunk_writer.specs.Moves.Moves.{start, passed, begun_chunk, sent, end
 use Rattle.adapt_sides.specs.Tapes.{chosen_delivered}
 use Rattle.http_relay.specs.Writing.{TookBody}
 
+-- the body bytes that a turn's moves count, the next ones on the tape, are among what went out
 pub took_body : (x : Seen) (tape : Tape) (next : Next) (old w : Writer) (k : ℕ) (e : Bool) (d : List ℕ) → next.from ≡ chosen_delivered x
     → Moves tape next old k e d w → TookBody x tape k d
 took_body x tape next old w k e d f start = record { before = []; behind = []; bytes_are = refl }

@@ -25,28 +25,33 @@ front_begun f body text n c some (plain p z t) = cc
 front_begun f body text n c some (run p w r) = run p w (run_begun body text n some r)
 front_begun f body text n c some (over p w z k i t) = cc
 
+-- what is fixed of a body's text goes on by fewer bytes than its chunk waits for, and waits for the others
 front_on : (f : Framing) (body text d : List ℕ) (left : ℕ) → length d < left → Front f false body text left
     → Front f false (body ++ d) (text ++ d) (left - length d)
 front_on f body text d left more (plain p z t) = absurd (omega arith)
 front_on f body text d left more (run p w r) = run p w (run_on body text d left more r)
 front_on f body text d left more (over p w z k i t) = absurd (omega arith)
 
+-- what is fixed of a body's text goes on by all bytes for which its chunk waits, and CR LF, which close the chunk
 front_closed : (f : Framing) (body text d : List ℕ) (left : ℕ) → 0 < left → length d ≡ left → Front f false body text left
     → Front f false (body ++ d) (text ++ (d ++ crlf)) 0
 front_closed f body text d left some all (plain p z t) = absurd (omega arith)
 front_closed f body text d left some all (run p w r) = run p w (run_closed body text d left some all r)
 front_closed f body text d left some all (over p w z k i t) = absurd (omega arith)
 
+-- without chunks, what is fixed of a body's text goes on by any more bytes of the body
 front_plain : (f : Framing) (body text d : List ℕ) (left : ℕ) → is_chunks f ≡ false → Front f false body text left
     → Front f false (body ++ d) (text ++ d) left
 front_plain f body text d left c (plain p z t) = plain p z (ap (λ (xs : List ℕ). xs ++ d) t)
 front_plain f body text d left c (run p w r) = cc
 front_plain f body text d left c (over p w z k i t) = cc
 
+-- a run of chunks that waits for no byte is whole chunks
 run_cut : (body text : List ℕ) → Run body text 0 → IsCut body text
 run_cut body text (between z c) = c
 run_cut body text (inside b t bytes l c e f) = absurd (omega arith)
 
+-- what is fixed of a body's text, where no chunk waits for a byte, and the body's end are the whole text
 front_end : (f : Framing) (body text : List ℕ) → Front f false body text 0 → Front f true body (text ++ body_end f) 0
 front_end f body text (plain p z t) = rw p (plain p refl (append-nil text ∙ t))
 front_end f body text (run p w r) = rw p (over p refl refl text (run_cut body text r) refl)
@@ -63,6 +68,7 @@ first_none : (part waits : List ℕ) → part ++ waits ≡ [] → waits ≡ []
 first_none [] waits e = e
 first_none (b ∷ part) waits e = cc
 
+-- what waits after the last byte of the body that is out still does so when some of it went out
 still_waits : (chunked : Bool) (body fixed part waits old : List ℕ) → part ++ waits ≡ old → Waits chunked body fixed old
     → Waits chunked body fixed waits
 still_waits true body fixed part waits old e w = waits_passed (Run body) fixed part waits old e w
@@ -74,10 +80,12 @@ behind_by : (taken head chunks front more : List ℕ) → taken ≡ head ++ chun
 behind_by taken head chunks front more e f = ap (λ (xs : List ℕ). taken ++ xs) f
     ∙ (ap (λ (xs : List ℕ). xs ++ more) e ∙ append_assoc head chunks more)
 
+-- where nothing waits, what was taken is the head and all that is fixed of the body's text
 all_taken : (x : Seen) (f : Framing) (b : Bool) (head body taken : List ℕ) (w : Writer) (g : GivesMessage x f b head body taken w)
     → waiting w ≡ [] → taken ≡ head ++ g.behind
 all_taken x f b head body taken w g e = sym (append-nil taken) ∙ (ap (λ (xs : List ℕ). taken ++ xs) (sym e) ∙ g.fixed_is)
 
+-- first bytes of what waits of a message, once they go out, were taken of it
 pub gives_passed : (x : Seen) (f : Framing) (b : Bool) (head body taken part : List ℕ) (v w : Writer) → part ++ waiting w ≡ waiting v
     → w.left ≡ v.left → GivesMessage x f b head body taken v → GivesMessage x f b head body (taken ++ part) w
 gives_passed x f b head body taken part v w r l g = record {
@@ -90,6 +98,7 @@ gives_passed x f b head body taken part v w r l g = record {
   all_out = g.all_out;
 }
 
+-- a chunk of bytes that came may begin in a message of which nothing waits
 pub gives_begun : (x : Seen) (f : Framing) (head body taken : List ℕ) (w : Writer) (n : ℕ) → is_chunks f ≡ true → 0 < n → waiting w ≡ []
     → w.left ≡ 0 → chosen_delivered x + n ≤ chosen_received x
     → GivesMessage x f false head body taken w → GivesMessage x f false head body taken (begun w n)
@@ -115,6 +124,7 @@ end_waits : (f : Framing) (chunked : Bool) (body text : List ℕ) → is_chunks 
 end_waits f true body text c h = waits_last (Run body) text false (front_run f body text 0 c h)
 end_waits f false body text c h = refl
 
+-- a message of which all came and is out is given whole once its body's end is fixed
 pub gives_ended : (x : Seen) (f : Framing) (head body taken : List ℕ) (w : Writer) → waiting w ≡ [] → chosen_over x ≡ true
     → chosen_delivered x ≡ chosen_received x → IfSome (length_of f) (λ n. chosen_delivered x ≡ n)
     → GivesMessage x f false head body taken w → GivesMessage x f true head body taken (fixed w (body_end f))
@@ -140,10 +150,12 @@ gives_ended x f head body taken w e o a i g =
 more_out : (body : List ℕ) (out k : ℕ) (d : List ℕ) → d ≡ take k (drop out body) → take out body ++ d ≡ take (out + k) body
 more_out body out k d e = ap (λ (xs : List ℕ). take out body ++ xs) e ∙ sym (take-add out k body)
 
+-- bytes that have come are within a length that is no less than all that came
 within_more : (o : Option ℕ) (out k came : ℕ) → out + k ≤ came → IfSome o (λ n. came ≤ n) → IfSome o (λ n. out + k ≤ n)
 within_more None out k came l h = tt
 within_more (Some n) out k came l h = omega arith
 
+-- without chunks, body bytes that go out where nothing waits are given of the message
 data_plain : (x y : Seen) (f : Framing) (head body taken d : List ℕ) (w : Writer) → is_chunks f ≡ false → Moved x y (length d)
     → waiting w ≡ [] → d ≡ take (length d) (drop (chosen_delivered x) body)
     → chosen_delivered x + length d ≤ chosen_received x → IfSome (length_of f) (λ n. chosen_received x ≤ n)
@@ -170,6 +182,7 @@ data_plain x y f head body taken d w c m e i room l g =
     no_left f body d text left out c (run p q r) = cc
     no_left f body d text left out c (over p q z k i t) = z
 
+-- in chunks, body bytes that go out are given, and close their chunk if they are its last
 data_by : (x y : Seen) (f : Framing) (head body taken d : List ℕ) (w : Writer) (b : Bool) → is_chunks f ≡ true
     → nat_lt (length d) w.left ≡ b → Moved x y (length d) → waiting w ≡ [] → d ≡ take (length d) (drop (chosen_delivered x) body)
     → 0 < length d → length d ≤ w.left → chosen_delivered x + length d ≤ chosen_received x

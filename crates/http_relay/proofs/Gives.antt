@@ -62,9 +62,11 @@ is_later p text (Some put.Fault) = record {
   faults = omega arith;
 }
 
+-- an offer that fails adds to the wire's faults
 fault_counts : (p : Past) (text : List ℕ) (answer : Option Put) → answer ≡ Some put.Fault → p.faults < (after_offer p text answer).faults
 fault_counts p text answer e = subst (λ (a : Option Put). p.faults < (after_offer p text a).faults) (sym e) (omega arith)
 
+-- an offer that waits adds to the wire's waits for writing
 wait_counts : (p : Past) (text : List ℕ) (answer : Option Put) → answer ≡ Some put.Wait
     → p.write_waits < (after_offer p text answer).write_waits
 wait_counts p text answer e = subst (λ (a : Option Put). p.write_waits < (after_offer p text a).write_waits) (sym e) (omega arith)
@@ -96,6 +98,7 @@ reason x old new p text answer (Err fault) f r o e = record {
   waiting = λ w. cc;
 }
 
+-- where a message is written, what the side gives is a message
 message_at : (stage : Stage) → is_message stage ≡ true → gift_of stage ≡ message
 message_at at.Empty e = cc
 message_at at.Message e = refl
@@ -112,6 +115,7 @@ fails_giving x old new answer (Err g) (inl h) e s fault r = let is : g ≡ fault
 fails_giving x old new answer (Err g) (inr h) e s fault r = let is : g ≡ fault = cc in
     inr (sym is ∙ h.0, (s ∙ message_at old.stage h.2, subst (λ (way : Framing). BreaksLength x way) (sym e) h.3))
 
+-- one or more bytes of a text that has so many are not nothing
 take_some : (n : ℕ) (text : List ℕ) → 1 ≤ n → n ≤ length text → take n text ≡ [] → ⊥
 take_some n text some few none =
     let long : length (take n text) ≡ n = length-take-le n text few in
@@ -128,6 +132,7 @@ must_wait x new text (Some (put.Took k)) turn false w h f n d = absurd (take_som
 must_wait x new text (Some put.Wait) turn false w h f n d = absurd (h.woke w refl)
 must_wait x new text (Some put.Fault) turn false w h f n d = absurd (h.no_fault refl)
 
+-- a write turn waits only without an event and a byte, and always where it has neither
 says : (x : Seen) (old new : Hop) (text : List ℕ) (answer : Option Put) (result : Result Turn RelayFault)
     → IfSome answer (FitsPut (length text)) → (old.fault ≡ None → FitsOffer x old new answer result)
     → ((fault : RelayFault) → old.fault ≡ Some fault → result ≡ Err fault) → (o : Option RelayFault) → o ≡ old.fault
@@ -151,9 +156,11 @@ only_hop n false true e = rw e (refl, (refl, tt))
 only_hop n true false e = rw e tt
 only_hop n false false e = rw e (refl, tt)
 
+-- an Usr changes nothing of what came of the chosen message
 received_usr : (x : Seen) (n : ℕ) → chosen_received (after x (Usr n)) ≡ chosen_received x
 received_usr x n = grind (arith, nat_tests)
 
+-- the events of a write turn change nothing of what came of the chosen message
 received_then : (x : Seen) (n : ℕ) (b done : Bool) → (n == 0) ≡ b → chosen_received (after_all x (hop_events n done)) ≡ chosen_received x
 received_then x n true true e = rw e (done_moves x).1
 received_then x n false true e = rw e ((done_moves (after x (Usr n))).1 ∙ received_usr x n)
@@ -165,14 +172,17 @@ still_open : (x : Seen) (n : ℕ) (b : Bool) → (n == 0) ≡ b → (after_all x
 still_open x n true e = rw e refl
 still_open x n false e = rw e refl
 
+-- where the events of a write turn close an open history, Done is among them
 closed_by_done : (x : Seen) (n : ℕ) (done : Bool) → x.closed ≡ false → (after_all x (hop_events n done)).closed ≡ true → done ≡ true
 closed_by_done x n true o c = refl
 closed_by_done x n false o c = let now : (after_all x (usr_events n)).closed ≡ x.closed = still_open x n (n == 0) refl in
     let odd : true ≡ false = sym c ∙ (now ∙ o) in cc
 
+-- events that are those of a write turn are all the next hop's
 same_events : (n : ℕ) (done : Bool) (events : List Event) → events ≡ hop_events n done → AllAre is_of_hop events
 same_events n done events e = subst (λ (es : List Event). AllAre is_of_hop es) (sym e) (only_hop n (n == 0) done refl)
 
+-- a write turn that keeps its fault is what a transaction asks of a next hop
 pub as_gives : (x : Seen) (tape : Tape) (old new : Hop) (before after' : Past → Type 0) (result : Result Turn RelayFault)
     → KeepsUndelivered x tape → WriteTurn x tape old new before after' result
     → ((turn : Turn) → result ≡ Ok turn → new.fault ≡ None) → ((fault : RelayFault) → old.fault ≡ Some fault → result ≡ Err fault)

@@ -35,6 +35,7 @@ pub record SameLook (old new : SourceSide) : Type 0 where
   pub interims : new.interims ≡ old.interims
   pub head_fault : new.head_fault ≡ old.head_fault
 
+-- a side at the head with more raw bytes has read as many more
 filled_at_head : (old new : SourceSide) (delta : List ℕ) → SameSide old new → SameLook old new → new.raw.items ≡ old.raw.items ++ delta
     → (read : List ℕ) → AtHead read old → AtHead (read ++ delta) new
 filled_at_head old new delta m same r read s = record {
@@ -76,6 +77,7 @@ looks_on old new delta a m r l =
       no_fault = m.head_fault ∙ l.no_fault;
     }
 
+-- raw bytes without a head are still without one in a side that judged the same
 none_on : (old new : SourceSide) → new.asks ≡ old.asks → SameLook old new → new.raw.items ≡ old.raw.items → HasNoHead old → HasNoHead new
 none_on old new a m r h = record {
   looking = looks_on old new [] a m (r ∙ sym (append-nil old.raw.items)) h.looking;
@@ -83,16 +85,19 @@ none_on old new a m r h = record {
   few = omega (arith, h.few, ap (λ (t : List ℕ). length t) r);
 }
 
+-- raw bytes that ask for another protocol still do so in a side with the same bytes and kind of head
 switching_on : (old new : SourceSide) → new.asks ≡ old.asks → new.raw.items ≡ old.raw.items → IsSwitching old.asks old.raw.items
     → IsSwitching new.asks new.raw.items
 switching_on old new a r h = subst (λ (t : Asks). IsSwitching t new.raw.items) (sym a)
     (subst (λ (t : List ℕ). IsSwitching old.asks t) (sym r) h)
 
+-- raw bytes that are refused for a fault are refused for it in a side with the same bytes and kind of head
 bytes_on : (old new : SourceSide) (fault : HttpFault) → new.asks ≡ old.asks → new.raw.items ≡ old.raw.items
     → RefusesBytes old.asks old.raw.items fault → RefusesBytes new.asks new.raw.items fault
 bytes_on old new fault a r h = subst (λ (t : Asks). RefusesBytes t new.raw.items fault) (sym a)
     (subst (λ (t : List ℕ). RefusesBytes old.asks t fault) (sym r) h)
 
+-- one interim response too many is still one in a side with the same raw bytes and count
 too_many_on : (old new : SourceSide) → new.asks ≡ old.asks → new.raw.items ≡ old.raw.items → new.interims ≡ old.interims
     → IsOneTooMany old.asks old.raw.items old.interims → IsOneTooMany new.asks new.raw.items new.interims
 too_many_on old new a r n h =
@@ -100,6 +105,7 @@ too_many_on old new a r n h =
     (subst (λ (t : List ℕ). IsOneTooMany old.asks t new.interims) (sym r)
     (subst (λ (k : ℕ). IsOneTooMany old.asks old.raw.items k) (sym n) h))
 
+-- a head that is refused is refused for the same in a side with the same raw bytes and count
 refuses_on : (old new : SourceSide) (why : Option HttpFault) → new.asks ≡ old.asks → new.raw.items ≡ old.raw.items
     → new.interims ≡ old.interims → RefusesHead old why → RefusesHead new why
 refuses_on old new (Some More) a r n h = h
@@ -114,6 +120,7 @@ refuses_on old new (Some Connect) a r n h = bytes_on old new Connect a r h
 refuses_on old new (Some http.NoMemory) a r n h = h
 refuses_on old new None a r n h = elim h [ inl x ↦ inl (switching_on old new a r x) | inr x ↦ inr (too_many_on old new a r n x) ]
 
+-- a head for which there is no memory still has none in a side with the same raw bytes and fault
 lacks_on : (old new : SourceSide) → new.asks ≡ old.asks → SameLook old new → new.raw.items ≡ old.raw.items → LacksMemory old
     → LacksMemory new
 lacks_on old new a m r h = record { fault = m.head_fault ∙ h.fault; cause = bytes_on old new http.NoMemory a r h.cause }
@@ -146,6 +153,7 @@ refuses_by s Target m n h = h
 refuses_by s Connect m n h = h
 refuses_by s http.NoMemory m n h = absurd (n refl)
 
+-- raw bytes to which more of a head must come are fewer than 16,384
 pub more_is_few : (a : Asks) (raw : List ℕ) → RefusesBytes a raw More → length raw < 16384
 more_is_few asks.Request raw h = h.1
 more_is_few (asks.Response to_head) raw h = h.1
@@ -186,6 +194,7 @@ no_wire_fault : (f : RelayFault) → (f ≡ Head) ⊎ (f ≡ NoMemory) → (f �
 no_wire_fault f (inl e) = (λ c. let odd : Closed ≡ Head = sym c ∙ e in cc, λ c. let odd : Device ≡ Head = sym c ∙ e in cc)
 no_wire_fault f (inr e) = (λ c. let odd : Closed ≡ NoMemory = sym c ∙ e in cc, λ c. let odd : Device ≡ NoMemory = sym c ∙ e in cc)
 
+-- without a read, a turn at the head fits if it doesn't say that more is to come, and has no fault but one of judging
 none_fits : (result : Result HeadProgress RelayFault) → (result ≡ Ok progress.More → ⊥)
     → ((f : RelayFault) → result ≡ Err f → (f ≡ Head) ⊎ (f ≡ NoMemory)) → FitsHead None result
 none_fits (Ok progress.More) not only = absurd (not refl)
@@ -193,6 +202,7 @@ none_fits (Ok progress.Interim) not only = λ e. cc
 none_fits (Ok progress.Taken) not only = λ e. cc
 none_fits (Err f) not only = no_wire_fault f (only f refl)
 
+-- with bytes of the wire, a turn at the head fits if it has no fault but one of judging
 bytes_fit : (n : ℕ) (result : Result HeadProgress RelayFault) → ((f : RelayFault) → result ≡ Err f → (f ≡ Head) ⊎ (f ≡ NoMemory))
     → FitsHead (Some (got.Bytes n)) result
 bytes_fit n (Ok came) only = tt
@@ -232,10 +242,12 @@ head_bytes old mid more new P Q result n k a m f only h same j on = record {
   looks = λ l. judged_looks result new (on (looks_on mid more f.0 m.asks same f.2 (j l).looking));
 }
 
+-- a side at the head with no more raw bytes stays there, with nothing more read
 stays_at_head : (old mid new : SourceSide) → ((read : List ℕ) → AtHead read old → AtHead read mid) → SameSide mid new → SameLook mid new
     → new.raw.items ≡ mid.raw.items → (read : List ℕ) → AtHead read old → AtHead (read ++ []) new
 stays_at_head old mid new a m same r read s = filled_at_head mid new [] m same (r ∙ sym (append-nil mid.raw.items)) read (a read s)
 
+-- a wire that waits, where the raw bytes have no head, makes a turn that says that more is to come
 pub head_waited : (old mid new : SourceSide) (P Q : Past → Type 0) → mid.interims ≡ old.interims
     → ((read : List ℕ) → AtHead read old → AtHead read mid) → SameSide mid new → IsFilled P Q mid.raw.items new.raw.items filled.Wait
     → SameLook mid new → (IsLooking old → HasNoHead mid) → HeadTurn old new P Q (Ok progress.More)
@@ -250,6 +262,7 @@ head_waited old mid new P Q n a m f same j = record {
   looks = λ l. none_on mid new m.asks same f.0 (j l);
 }
 
+-- a wire that ends, where the raw bytes have no head, makes a turn that answers Closed
 pub head_ended : (old mid new : SourceSide) (P Q : Past → Type 0) → mid.interims ≡ old.interims
     → ((read : List ℕ) → AtHead read old → AtHead read mid) → SameSide mid new → IsFilled P Q mid.raw.items new.raw.items filled.Ended
     → SameLook mid new → (IsLooking old → HasNoHead mid) → HeadTurn old new P Q (Err Closed)
@@ -264,6 +277,7 @@ head_ended old mid new P Q n a m f same j = record {
   looks = λ l. none_on mid new m.asks same f.0 (j l);
 }
 
+-- a wire that fails, where the raw bytes have no head, makes a turn that answers Device
 pub head_failed : (old mid new : SourceSide) (P Q : Past → Type 0) → mid.interims ≡ old.interims
     → ((read : List ℕ) → AtHead read old → AtHead read mid) → SameSide mid new → IsFilled P Q mid.raw.items new.raw.items filled.Failed
     → SameLook mid new → (IsLooking old → HasNoHead mid) → HeadTurn old new P Q (Err Device)
@@ -278,6 +292,7 @@ head_failed old mid new P Q n a m f same j = record {
   looks = λ l. none_on mid new m.asks same f.0 (j l);
 }
 
+-- where there is no memory for more bytes of a head, a turn makes no read and says so
 pub head_full : (old mid new : SourceSide) (P Q : Past → Type 0) → mid.interims ≡ old.interims
     → ((read : List ℕ) → AtHead read old → AtHead read mid) → SameSide mid new → IsFilled P Q mid.raw.items new.raw.items filled.NoMemory
     → SameLook mid new → (IsLooking old → HasNoHead mid) → HeadTurn old new P Q (Err NoMemory)
@@ -306,6 +321,7 @@ head_kept old mid new P Q fault m same r t = record {
   looks = λ l. looks_same mid new (Err fault) m.asks m.head same r (t.looks l);
 }
 
+-- a message that begins still does so where room was given back
 begins_given_back : (old new : SourceSide) (read : List ℕ) → GivesBack old new → Begins read old → Begins read new
 begins_given_back old new read b s x count going =
     let one = s x count going in
@@ -315,6 +331,7 @@ begins_given_back old new read b s x count going =
           (subst (λ (t : SourceBody). IfSome x.plan.len (λ n. length_of t.framing ≡ Some n)) b.body len)),
     )
 
+-- what judging the raw bytes gave still holds where room was given back
 judged_given_back : (old new : SourceSide) (read : List ℕ) (result : Result HeadProgress RelayFault) → GivesBack old new
     → JudgesHeadTo result read old → JudgesHeadTo result read new
 judged_given_back old new read (Ok progress.More) b s = still_at_head old new b.asks b.head b.raw b.interims read s

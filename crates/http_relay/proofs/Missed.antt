@@ -22,10 +22,12 @@ use Rattle.http_relay.proofs.Beginning.{at_front}
 abbrev pub EndsLine : List ℕ → Type 0
 EndsLine text = (front : List ℕ) × (text ≡ front ++ 10 ∷ [])
 
+-- each end of a line has LF as its last byte
 end_is : (e : LineEnd) → EndsLine (print_end e)
 end_is crlf = (13 ∷ [], refl)
 end_is lf = ([], refl)
 
+-- any text with an end of a line after it ends a line
 ends_behind : (x f : List ℕ) (e : LineEnd) → EndsLine (x ++ (f ++ print_end e))
 ends_behind x f e =
     let last = end_is e in (
@@ -34,18 +36,21 @@ ends_behind x f e =
           ∙ sym (append_assoc (x ++ f) last.0 (10 ∷ []))),
     )
 
+-- the text of a request's head ends a line
 request_ends : (h : RequestHead) → EndsLine (print_request h)
 unfolding print_request
 request_ends h =
     ends_behind (print_blank h.blank ++ h.method ++ 32 ∷ h.target ++ 32 ∷ print_version h.minor ++ print_end h.line_end)
     (flat_map print_field h.fields) h.last
 
+-- the text of a response's head ends a line
 response_ends : (h : ResponseHead) → EndsLine (print_response h)
 unfolding print_response
 response_ends h =
     ends_behind (print_blank h.blank ++ print_version h.minor ++ 32 ∷ h.digits ++ print_reason h.reason ++ print_end h.line_end)
     (flat_map print_field h.fields) h.last
 
+-- a test, or one that holds, holds
 or_true : (b : Bool) → (b || true) ≡ true
 or_true true = refl
 or_true false = refl
@@ -78,13 +83,16 @@ at_judged raw text rest j e l =
     sym (take-append-drop (length text) (take 16384 (take j raw))) ∙ ap (λ (t : List ℕ). t ++ drop (length text) (take 16384 (take j raw)))
     near
 
+-- a prefix of the first 16,384 raw bytes is a prefix of all raw bytes
 whole_raw : (raw text rest : List ℕ) → take 16384 raw ≡ text ++ rest → raw ≡ text ++ (rest ++ drop 16384 raw)
 whole_raw raw text rest e = sym (take-append-drop 16384 raw) ∙ (ap (λ (t : List ℕ). t ++ drop 16384 raw) e
     ∙ append_assoc text rest (drop 16384 raw))
 
+-- a text that ends a line has a byte at least
 some : (text : List ℕ) → EndsLine text → 0 < length text
 some text ends = omega (arith, ap (λ (t : List ℕ). length t) ends.1, length-append ends.0 (10 ∷ []))
 
+-- raw bytes that were judged to have no head have none of a request
 pub no_request : (s : SourceSide) (r : RequestParts) (len : ℕ) → s.asks ≡ asks.Request → HasNoHead s → IsRead false s.raw.items r len → ⊥
 no_request s r len a none h =
     let text : List ℕ = print_request h.there.head in
@@ -100,6 +108,7 @@ no_request s r len a none h =
           (h.there.reads.0, at_judged s.raw.items text (drop len (take 16384 s.raw.items)) s.judged at l)
     ]
 
+-- raw bytes that were judged to have no head have none of a response
 pub no_response : (s : SourceSide) (to_head : Bool) (r : ResponseParts) (len : ℕ) → s.asks ≡ asks.Response to_head → HasNoHead s
     → IsResponseRead to_head s.raw.items r len → ⊥
 no_response s to_head r len a none h =

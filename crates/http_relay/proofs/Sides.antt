@@ -52,6 +52,7 @@ framed_raw old new events used part ended m b r = record {
       (b.reads x body s.framed closed s.body_read);
 }
 
+-- a wire that has ended before has ended, whether it ends now or not
 closed_or : (ended closed : Bool) → closed ≡ true → ended || closed ≡ true
 closed_or true closed e = refl
 closed_or false closed e = e

@@ -15,12 +15,14 @@ use Rattle.http_relay.specs.Source.{MayTell, Agrees, BodyReads}
 use Rattle.http_relay.specs.Message.{length_of}
 use Rattle.http_relay.specs.declared.source_body.SourceBody.{SourceBody}
 
+-- the events that tell so many bytes of a body tell just as many
 pub sum_is : (n : ℕ) (ended : Bool) → in_sum (source_events n ended) ≡ n
 sum_is zero false = refl
 sum_is (suc n) false = omega arith
 sum_is zero true = omega arith
 sum_is (suc n) true = omega arith
 
+-- the events that tell what was read of a body are all the source's
 only_source : (n : ℕ) (ended : Bool) → AllAre is_of_source (source_events n ended)
 only_source zero false = tt
 only_source (suc n) false = (refl, tt)
@@ -33,6 +35,7 @@ record Told (x y : Seen) (n : ℕ) (ended : Bool) : Type 0 where
   end : x.ended ≡ false → y.ended ≡ ended
   plan : y.plan ≡ x.plan
 
+-- the events that tell of a body add its bytes to what came, and its end just if it is told
 told : (x : Seen) (n : ℕ) (ended : Bool) → Told x (after_all x (source_events n ended)) n ended
 told x zero false = record { count = omega arith; end = λ e. e; plan = refl }
 told x (suc n) false = record { count = refl; end = λ e. e; plan = refl }
@@ -44,10 +47,12 @@ at_len : (o k : Option ℕ) (P : ℕ → Type 0) → IfSome o (λ len. k ≡ Som
 at_len Nothing k P e h = tt
 at_len (Some len) k P e h = subst (λ (j : Option ℕ). IfSome j P) e h
 
+-- where a fact of each number gives another, one of a number that may be known does too
 pub if_more : (o : Option ℕ) (P Q : ℕ → Type 0) → ((n : ℕ) → P n → Q n) → IfSome o P → IfSome o Q
 if_more Nothing P Q f h = tt
 if_more (Some n) P Q f h = f n h
 
+-- bytes and an end that may be told may follow an open history that agrees with a body that goes on
 may_tell : (s : SourceBody) (n : ℕ) (ended : Bool) (x : Seen) → MayTell s n ended → s.ended ≡ false → Agrees x s → x.closed ≡ false
     → MayAllFollow x (source_events n ended)
 may_tell s zero false x f e a c = tt
@@ -82,6 +87,7 @@ may_tell s (suc n) true x f e a c =
     (at_len x.plan.len (length_of s.framing) (λ len. suc n + s.received ≡ len) a.len at) in
     (c, (now, (some, sum), len), (c, (now, end), tt))
 
+-- a history that agrees with a body still agrees when what was read of both is told
 agrees_then : (s new : SourceBody) (n : ℕ) (ended : Bool) (x y : Seen) → Told x y n ended → s.ended ≡ false → new.framing ≡ s.framing
     → new.received ≡ s.received + n → new.ended ≡ ended → Agrees x s → Agrees y new
 agrees_then s new n ended x y t e way count end a = record {

@@ -31,6 +31,7 @@ whole_is (Length n) text body h = ap (λ (t : List ℕ). length t) h.1 ∙ h.0
 whole_is Chunked text body h = tt
 whole_is Close text body h = tt
 
+-- a body that the wire's close ends is as long as the framing says
 closed_is : (way : Framing) (text body : List ℕ) → IsClosedBody way text body → IfSome (length_of way) (λ len. length body ≡ len)
 closed_is None text body h = whole_is None text body h
 closed_is (Length n) text body h = whole_is (Length n) text body h
@@ -48,6 +49,7 @@ passes s n ended within at not =
           (λ len h. omega (arith, long, h)) within,
     )
 
+-- bytes that were read of a body, and may not be told, are refused for its length
 pub too_long : (s : SourceBody) (raw out : List ℕ) (used n : ℕ) (ended : Bool) (new : BodyReader)
     → ReadsOn s.reader raw used (take n out) new → n ≤ length out → n ≤ length raw → ended ≡ is_over new
     → (MayTell s n ended → ⊥) → Refuses faults.Length s raw
@@ -65,6 +67,7 @@ too_long s raw out used n ended new on l few over not x body text shut a b =
     let p = passes s n ended within at not in
     (omega (arith, p.0, few), p.1)
 
+-- the end of a body that the close gives, and that may not be told, is refused for its length
 pub too_long_closed : (s : SourceBody) → ((way : Framing) (text body : List ℕ) → HasRead way text body s.reader
     → IsClosedBody way text body) → (MayTell s 0 true → ⊥) → Refuses faults.Length s []
 too_long_closed s closed not x body text shut a b =

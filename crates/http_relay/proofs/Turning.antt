@@ -28,6 +28,7 @@ pub record SameSide (old new : SourceSide) : Type 0 where
   pub head : new.head ≡ old.head
   pub body : new.body ≡ old.body
 
+-- a past is reached from itself with nothing read and nothing taken
 later_none : (p : Past) → IsLater p [] [] p
 later_none p = record {
   read = sym (append-nil p.read);
@@ -68,6 +69,7 @@ at_once room old answer d = (old, filled_more old old [] false refl refl refl (s
 not_wire : (fault : RelayFault) (s : SourceBody) (raw : List ℕ) → Refuses fault s raw → (fault ≢ Closed) × (fault ≢ Device)
 not_wire fault s raw r = ((λ e. subst (λ (f : RelayFault). Refuses f s raw) e r), (λ e. subst (λ (f : RelayFault). Refuses f s raw) e r))
 
+-- a turn that has an event or bytes, and doesn't wait, says so
 says_spoke : (t : Turn) (delta : List ℕ) → t.waiting ≡ false → (t.events.items ≡ [] → delta ≡ [] → ⊥)
     → SaysWaiting {F = RelayFault} t.events.items delta (Ok t)
 says_spoke t delta w some = record {
@@ -75,15 +77,18 @@ says_spoke t delta w some = record {
   waits = λ u e none no_delta. absurd (some none no_delta);
 }
 
+-- a turn that waits, and has no event and no byte, says so
 says_idle : (t : Turn) → t.waiting ≡ true → t.events.items ≡ [] → SaysWaiting {F = RelayFault} t.events.items [] (Ok t)
 says_idle t w none = record {
   idle = λ h. (none, refl);
   waits = λ u e n d. let same : t ≡ u = cc in ap (λ (v : Turn). v.waiting) (sym same) ∙ w;
 }
 
+-- a turn that answers a fault doesn't wait, whatever bytes it got
 says_err : (fault : RelayFault) (delta : List ℕ) → SaysWaiting [] delta (Err fault)
 says_err fault delta = record { idle = λ h. cc; waits = λ u e n d. cc }
 
+-- zero is at most any number
 zero_le : (n : ℕ) → 0 ≤ n
 zero_le n = omega arith
 
@@ -313,6 +318,7 @@ turn_full room old new P Q out m f = record {
   cause = λ g i. let is : NoMemory ≡ g = cc in inr (inr (inl (sym is)));
 }
 
+-- a read that is due once raw bytes were framed without an event is due before that
 due_behind : (room : ℕ) (old mid : SourceSide) (answer : Option Got) → SideReads old mid [] [] [] false → ReadsWhereDue room mid answer
     → ReadsWhereDue room old answer
 due_behind room old mid None h d = tt
@@ -337,6 +343,7 @@ turn_behind room old mid new P Q out result h going t = record {
   cause = t.cause;
 }
 
+-- a result that fits the wire's answer still does so in a side with the same body
 fits_same : (room : ℕ) (mid new : SourceSide) (answer : Option Got) (result : Result Turn RelayFault) → new.body ≡ mid.body
     → FitsGot room mid answer result → FitsGot room new answer result
 fits_same room mid new None (Ok turn) e f = λ w. subst (λ (b : SourceBody). (b.ended ≡ true) ⊎ (room ≡ 0)) (sym e) (f w)

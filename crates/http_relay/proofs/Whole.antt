@@ -22,10 +22,12 @@ abbrev zeros : ℕ → List ℕ
 zeros zero = []
 zeros (suc n) = 0 ∷ zeros n
 
+-- so many zeros are a text of so many bytes
 length-zeros : (n : ℕ) → length (zeros n) ≡ n
 length-zeros zero = refl
 length-zeros (suc n) = ap suc (length-zeros n)
 
+-- a text of at most no bytes is empty
 nil_of : (xs : List ℕ) → length xs ≤ 0 → xs ≡ []
 nil_of [] l = refl
 nil_of (x ∷ xs) l = absurd (omega arith)
@@ -38,9 +40,11 @@ record Continues (f : Framing) (body text : List ℕ) : Type 0 where
   rest : List ℕ
   whole : behind ≡ text ++ rest
 
+-- a body is its first bytes and what comes after them
 parted : (n : ℕ) (body text : List ℕ) → text ≡ take n body → body ≡ text ++ drop n body
 parted n body text t = sym (ap (λ (xs : List ℕ). xs ++ drop n body) t ∙ take-append-drop n body)
 
+-- without chunks, first bytes of a body within its length begin the text of a whole one
 continues_plain : (f : Framing) (n : ℕ) (body text : List ℕ) → is_chunks f ≡ false → text ≡ take n body
     → IfSome (length_of f) (λ k. length body ≤ k) → Continues f body text
 continues_plain by.None n body text c t l =
@@ -70,6 +74,7 @@ continues_plain by.Close n body text c t l = record {
   whole = parted n body text t;
 }
 
+-- a run of chunks that waits for bytes that came begins the text of a whole body
 continues_run : (f : Framing) (n : ℕ) (body text : List ℕ) (left : ℕ) → is_chunks f ≡ true → n + left ≤ length body
     → Run (take n body) text left → Continues f body text
 continues_run by.None n body text left c l r = cc
@@ -88,15 +93,18 @@ continues_run by.Chunked n body text left c l r =
     }
 continues_run by.Close n body text left c l r = cc
 
+-- what is fixed of a body's text begins that of a whole body that begins with what came, within its length
 continues : (f : Framing) (n : ℕ) (body text : List ℕ) (left : ℕ) → n + left ≤ length body → Front f false (take n body) text left
     → IfSome (length_of f) (λ k. length body ≤ k) → Continues f body text
 continues f n body text left l (plain c z t) i = continues_plain f n body text c t i
 continues f n body text left l (run c w r) i = continues_run f n body text left c l r
 continues f n body text left l (over c w z k j t) i = cc
 
+-- a bound on a number bounds each that is equal
 sized : (o : Option ℕ) (m n : ℕ) → m ≡ n → IfSome o (λ k. m ≤ k) → IfSome o (λ k. n ≤ k)
 sized o m n e h = subst (λ (j : ℕ). IfSome o (λ k. j ≤ k)) e h
 
+-- what was taken of a message is a prefix of one whose body begins with what came, where that is within its length
 front_of : (x : Seen) (f : Framing) (head body taken : List ℕ) (w : Writer) → length body ≡ chosen_received x
     → IfSome (length_of f) (λ n. chosen_received x ≤ n) → GivesMessage x f false head body taken w → IsFrontOfMessage f head body taken
 front_of x f head body taken w l i g =
@@ -113,6 +121,7 @@ front_of x f head body taken w l i g =
       };
     }
 
+-- where a message is written, what was taken is a prefix of one whose body begins with what came, within its length
 pub front_at : (stage : Stage) (x : Seen) (f : Framing) (head body taken : List ℕ) (w : Writer) → stage ≡ at.Message
     → length body ≡ chosen_received x → IfSome (length_of f) (λ n. chosen_received x ≤ n) → GivenAt stage x f head body taken w
     → IsFrontOfMessage f head body taken
@@ -129,6 +138,7 @@ whole_plain (by.Length n) body text c t l = (l, t)
 whole_plain by.Chunked body text c t l = cc
 whole_plain by.Close body text c t l = t
 
+-- in chunks, a cut body and the last chunk are the text of the whole body
 whole_chunks : (f : Framing) (body text chunks : List ℕ) → is_chunks f ≡ true → IsCut body chunks → text ≡ chunks ++ last_chunk false
     → BodyTextOf f body text
 whole_chunks by.None body text chunks c i t = cc
@@ -136,15 +146,18 @@ whole_chunks (by.Length n) body text chunks c i t = cc
 whole_chunks by.Chunked body text chunks c i t = record { chunks = chunks; is_cut = i; whole = t }
 whole_chunks by.Close body text chunks c i t = cc
 
+-- a body's text that is fixed with its end is the text of the body, where this is as long as its framing says
 whole_text : (f : Framing) (body text : List ℕ) (left : ℕ) → Front f true body text left → IfSome (length_of f) (λ n. length body ≡ n)
     → BodyTextOf f body text
 whole_text f body text left (plain c z t) l = whole_plain f body text c t l
 whole_text f body text left (run c w r) l = cc
 whole_text f body text left (over c w z k i t) l = whole_chunks f body text k c i t
 
+-- a number equal to one that is the known length is that length too
 exact : (o : Option ℕ) (m n : ℕ) → m ≡ n → IfSome o (λ k. m ≡ k) → IfSome o (λ k. n ≡ k)
 exact o m n e h = subst (λ (j : ℕ). IfSome o (λ k. j ≡ k)) e h
 
+-- a message that is given whole, and of which nothing waits, was taken to its end
 whole_of : (x : Seen) (f : Framing) (head body taken : List ℕ) (w : Writer) → length body ≡ chosen_received x → waiting w ≡ []
     → GivesMessage x f true head body taken w → IsMessage f head body taken
 whole_of x f head body taken w l o g =
@@ -158,6 +171,7 @@ whole_of x f head body taken w l o g =
       whole = sym (append-nil taken) ∙ (ap (λ (xs : List ℕ). taken ++ xs) (sym o) ∙ g.fixed_is);
     }
 
+-- where the body's end is fixed and nothing waits, what was taken is the message
 pub whole_at : (stage : Stage) (x : Seen) (f : Framing) (head body taken : List ℕ) (w : Writer) → stage ≡ at.Whole
     → length body ≡ chosen_received x → waiting w ≡ [] → GivenAt stage x f head body taken w → IsMessage f head body taken
 whole_at at.Empty x f head body taken w e l o g = cc
@@ -186,6 +200,7 @@ whole_front_of x f head body taken w l g =
       front = record { rest = waiting w; whole = sym g.fixed_is };
     }
 
+-- where the body's end is fixed, what was taken is a prefix of a message whose body begins with what came
 pub whole_front_at : (stage : Stage) (x : Seen) (f : Framing) (head body taken : List ℕ) (w : Writer) → stage ≡ at.Whole
     → length body ≡ chosen_received x → GivenAt stage x f head body taken w → IsFrontOfMessage f head body taken
 whole_front_at at.Empty x f head body taken w e l g = cc
@@ -208,12 +223,14 @@ fills_run by.Chunked body text left c r =
     }
 fills_run by.Close body text left c r = cc
 
+-- what is fixed of a body's text, with its bytes within its length, begins that of a whole body that begins with them
 fills : (f : Framing) (body text : List ℕ) (left : ℕ) → Front f false body text left → IfSome (length_of f) (λ k. length body ≤ k)
     → Continues f body text
 fills f body text left (plain c z t) i = continues_plain f (length body) body text c (t ∙ sym (take-length body)) i
 fills f body text left (run c w r) i = fills_run f body text left c r
 fills f body text left (over c w z k j t) i = cc
 
+-- what was taken of a message that is given is a prefix of one whose body begins with what went out
 out_front_of : (x : Seen) (f : Framing) (head body taken : List ℕ) (w : Writer) → length body ≡ chosen_received x
     → GivesMessage x f false head body taken w → IsFrontOfMessage f head (take (chosen_delivered x) body) taken
 out_front_of x f head body taken w l g =
@@ -232,6 +249,7 @@ out_front_of x f head body taken w l g =
       };
     }
 
+-- where a message is written, what was taken is a prefix of one whose body begins with what went out
 pub out_front_at : (stage : Stage) (x : Seen) (f : Framing) (head body taken : List ℕ) (w : Writer) → stage ≡ at.Message
     → length body ≡ chosen_received x → GivenAt stage x f head body taken w
     → IsFrontOfMessage f head (take (chosen_delivered x) body) taken
@@ -240,10 +258,12 @@ out_front_at at.Message x f head body taken w e l g = out_front_of x f head body
 out_front_at at.Whole x f head body taken w e l g = cc
 out_front_at (at.Refusal status) x f head body taken w e l g = cc
 
+-- where two texts together are empty, the first is
 first_nil : (xs ys : List ℕ) → xs ++ ys ≡ [] → xs ≡ []
 first_nil [] ys e = refl
 first_nil (x ∷ xs) ys e = cc
 
+-- where nothing is written, nothing was taken
 pub empty_at : (stage : Stage) (x : Seen) (f : Framing) (head body taken : List ℕ) (w : Writer) → stage ≡ at.Empty
     → GivenAt stage x f head body taken w → taken ≡ []
 empty_at at.Empty x f head body taken w e g = first_nil taken (waiting w) g.0
@@ -259,10 +279,12 @@ refusal_at at.Message status taken w e g = cc
 refusal_at at.Whole status taken w e g = cc
 refusal_at (at.Refusal s) status taken w e g = let is : s ≡ status = cc in g ∙ ap refusal is
 
+-- what was taken where a refusal is written is a prefix of it
 pub refusal_front : (status : ℕ) (taken : List ℕ) (h : Hop) → h.stage ≡ at.Refusal status → IsAside taken h
     → IsPrefixOf taken (refusal status)
 refusal_front status taken h e a = record { rest = waiting h.writer; whole = sym (refusal_at h.stage status taken h.writer e a.text) }
 
+-- where a refusal is written and nothing waits, it was taken whole
 pub refusal_whole : (status : ℕ) (taken : List ℕ) (h : Hop) → h.stage ≡ at.Refusal status → IsAside taken h → waiting h.writer ≡ []
     → taken ≡ refusal status
 refusal_whole status taken h e a o = sym (append-nil taken) ∙ (ap (λ (xs : List ℕ). taken ++ xs) (sym o)

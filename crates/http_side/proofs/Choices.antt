@@ -18,6 +18,7 @@ use Rattle.http_side.proofs.Passing.{LENGTH, CODING, values-append, values-hoste
 abbrev pub on : Bool → List ℕ → List (List ℕ)
 on b value = if b then value ∷ [] else []
 
+-- among the added fields is a length of 0 where the extra says empty, and else none
 pub added-length : (x : Extra) (minor : ℕ) → values_of LENGTH (added_fields x minor) ≡ on x.empty (codes "0")
 added-length x minor = by_four x.empty x.chunked x.close x.via
   where
@@ -41,6 +42,7 @@ added-length x minor = by_four x.empty x.chunked x.close x.via
     by_four false false false true = refl
     by_four false false false false = refl
 
+-- among the added fields is the coding chunked where the extra says so, and else none
 pub added-coding : (x : Extra) (minor : ℕ) → values_of CODING (added_fields x minor) ≡ on x.chunked (codes "chunked")
 added-coding x minor = by_four x.empty x.chunked x.close x.via
   where
@@ -66,11 +68,13 @@ added-coding x minor = by_four x.empty x.chunked x.close x.via
 
 -- ---- what is kept
 
+-- the Host that may be added has no value for a name other than host
 host-none : (b : Bool) (authority name : List ℕ) → str_eq_ignore_ascii_case (codes "host") name ≡ false
     → values_of name (when b (codes "Host", authority)) ≡ []
 host-none true authority name e = let other : str_eq_ignore_ascii_case (codes "Host") name ≡ false = e in rw other refl
 host-none false authority name e = refl
 
+-- of a request's lengths only the first goes on
 pub request-length : (authority : List ℕ) (fields : List (List ℕ × List ℕ))
     → values_of LENGTH (request_fields authority fields) ≡ take 1 (values_of LENGTH fields)
 request-length authority fields =
@@ -79,6 +83,7 @@ request-length authority fields =
     ∙ ap (λ t. t ++ values_of LENGTH (map (hosted (Some authority)) kept)) (host-none (not (has_host fields)) authority LENGTH refl)
     ∙ values-hosted LENGTH (Some authority) kept refl ∙ kept-length true fields
 
+-- no coding of a request goes on
 pub request-coding : (authority : List ℕ) (fields : List (List ℕ × List ℕ)) → values_of CODING (request_fields authority fields) ≡ []
 request-coding authority fields =
     let kept = kept_fields (record { expect = true; length = false }) fields in
@@ -86,6 +91,7 @@ request-coding authority fields =
     ∙ ap (λ t. t ++ values_of CODING (map (hosted (Some authority)) kept)) (host-none (not (has_host fields)) authority CODING refl)
     ∙ values-hosted CODING (Some authority) kept refl ∙ kept-no_coding (record { expect = true; length = false }) fields
 
+-- of a response's lengths the first goes on, or none where it has a coding too
 pub response-length : (fields : List (List ℕ × List ℕ))
     → values_of LENGTH (response_fields fields) ≡ (if both_lengths fields then [] else take 1 (values_of LENGTH fields))
 response-length fields = by_test (both_lengths fields)
@@ -95,15 +101,18 @@ response-length fields = by_test (both_lengths fields)
     by_test true = kept-no_length false fields
     by_test false = kept-length false fields
 
+-- no coding of a response goes on
 pub response-coding : (fields : List (List ℕ × List ℕ)) → values_of CODING (response_fields fields) ≡ []
 response-coding fields = kept-no_coding (record { expect = false; length = both_lengths fields }) fields
 
 -- ---- the length of a head is the first value's
 
+-- a fault of the lengths stays, whatever values follow
 fold_err : (fault : HttpFault) (values : List (List ℕ)) → fold agreed (Err fault) values ≡ Err fault
 fold_err fault [] = refl
 fold_err fault (v ∷ values) = fold_err fault values
 
+-- after a length was found, values that are taken give no other
 fold_stays : (n : ℕ) (values : List (List ℕ)) (r : Option ℕ) → fold agreed (Ok (Some n)) values ≡ Ok r → r ≡ Some n
 fold_stays n [] r e = let x : Ok (Some n) ≡ Ok r = e in cc
 fold_stays n (v ∷ values) r e = by_value (λ m x. fold_stays m values r x) (length_value v) refl

@@ -18,6 +18,7 @@ pub said : {A : Type 0} (o : Option A) → option_map (λ x. false) o ≡ (if is
 said Nothing = refl
 said (Some x) = refl
 
+-- an option that is there holds something
 pub some_of : {A : Type 0} (o : Option A) → IsTrue (is_some o) → (x : A) × (o ≡ Some x)
 some_of Nothing e = absurd (let f : false ≡ true = e in cc)
 some_of (Some x) e = (x, refl)
@@ -34,9 +35,11 @@ chunks_over text body r h = (
       ap is_some (sym (ap end_of h.read) ∙ ends),
 )
 
+-- nothing is left of a length just where all of it was read
 all_left : (n k : ℕ) → k ≤ n → IsTrue (eqb (n - k) 0) ↔ (k ≡ n)
 all_left n k le = (λ e. omega (arith, eqb-true (n - k) 0 e), λ e. eq-eqb (n - k) 0 (omega arith))
 
+-- a reader is over just where what it has read is a whole body
 pub over_is : (framing : Framing) (text body : List ℕ) (r : BodyReader) → HasRead framing text body r
     → IsTrue (is_over r) ↔ IsBody framing text body
 over_is None text body r h = (λ _. (h.0, h.1), λ _. ap is_over_at h.2)

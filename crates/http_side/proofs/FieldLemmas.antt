@@ -23,6 +23,7 @@ values-front name fields i =
     ap (values_of name) (sym (take-append-drop i fields)) ∙ ap (map (λ f. f.1))
     (filter-append (λ f. str_eq_ignore_ascii_case f.0 name) (take i fields) (drop i fields)) ∙ map-append (λ f. f.1) _ _
 
+-- a look-up that isn't none has at least one value
 some_values : (values : List (List ℕ)) (v : Values) → IsValues values v → (v ≡ NoValue → ⊥) → 0 < length values
 some_values values NoValue is some = absurd (some refl)
 some_values values (One value) is some = rw is (omega arith)

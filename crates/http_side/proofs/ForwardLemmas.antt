@@ -14,6 +14,7 @@ use Rattle.http_side.specs.Forward.{is_named_by, stays, is_length, once, hosted,
 use Rattle.http_side.specs.declared.writing.Beside.{Beside}
 use Rattle.http_side.proofs.FieldLemmas.{values-more, values-front}
 
+-- an element of two joined lists passes a test just where one of either list does
 any-append : {X : Type 0} (p : X → Bool) (xs ys : List X) → list_any p (xs ++ ys) ≡ (list_any p xs || list_any p ys)
 any-append p [] ys = refl
 any-append p (x ∷ xs) ys = ap (λ b. p x || b) (any-append p xs ys) ∙ sym (or_assoc (p x) (list_any p xs) (list_any p ys))
@@ -22,10 +23,12 @@ any-append p (x ∷ xs) ys = ap (λ b. p x || b) (any-append p xs ys) ∙ sym (o
     or_assoc true b c = refl
     or_assoc false b c = refl
 
+-- anything or true is true
 or_true : (a : Bool) → (a || true) ≡ true
 or_true true = refl
 or_true false = refl
 
+-- anything or false is itself
 pub or_false : (a : Bool) → (a || false) ≡ a
 or_false true = refl
 or_false false = refl
@@ -34,6 +37,7 @@ or_false false = refl
 abbrev names : List ℕ → List ℕ → Bool
 names name value = has_item name value
 
+-- a name that is an item of one Connection field is named by Connection
 pub named_here : (fields : List (List ℕ × List ℕ)) (name : List ℕ) (i : ℕ) → i < length fields
     → str_eq_ignore_ascii_case (name_at fields i) (codes "connection") ≡ true
     → has_item name (value_at fields i) ≡ true → is_named_by fields name ≡ true
@@ -73,10 +77,12 @@ module _ (beside : Beside) (fields : List (List ℕ × List ℕ)) (i : ℕ) (l :
   so_far : List (List ℕ × List ℕ)
   so_far = filter (stays beside fields) (take i fields)
 
+  -- a next field that stays comes after those that stay of the fields before it
   pub stays-more : stays beside fields (field_at fields i) ≡ true
       → filter (stays beside fields) (take (i + 1) fields) ≡ filter (stays beside fields) (take i fields) ++ field_at fields i ∷ []
   stays-more e = filter_more (stays beside fields) fields i ([], []) l ∙ rw e refl
 
+  -- a next field that doesn't stay adds nothing to those that stay
   pub stays-same : stays beside fields (field_at fields i) ≡ false
       → filter (stays beside fields) (take (i + 1) fields) ≡ filter (stays beside fields) (take i fields)
   stays-same e = filter_more (stays beside fields) fields i ([], []) l ∙ rw e (append-nil _)
@@ -106,6 +112,7 @@ module _ (beside : Beside) (fields : List (List ℕ × List ℕ)) (i : ℕ) (l :
         ∙ ap (λ b. list_any is_length (filter (stays beside fields) (take i fields)) || b) (or_false (is_length (field_at fields i))),
   )
 
+-- where it is false that a field is removed, it stays
 pub not_removed : {removed : Bool} → removed ≡ false → not removed ≡ true
 not_removed e = rw e refl
 
@@ -113,9 +120,11 @@ not_removed e = rw e refl
 pub first_length : (n old new : Bool) → n ≡ true → old ≡ false → new ≡ true → ((n && old) ≡ false) × ((old || n) ≡ new)
 first_length n old new e f g = (rw (e, f) refl, rw (e, f, g) refl)
 
+-- a field that is no length is no second one, and a length was seen as before
 pub no_length : (n old new : Bool) → n ≡ false → new ≡ old → ((n && old) ≡ false) × ((old || n) ≡ new)
 no_length n old new e g = (rw e refl, rw (e, g) (or_false old))
 
+-- the lines of two lists of fields, joined, are those of the first and then of the second
 pub lines-append : (xs ys : List (List ℕ × List ℕ)) → field_lines (xs ++ ys) ≡ field_lines xs ++ field_lines ys
 lines-append xs ys = flat_map-append field_line xs ys
 
@@ -130,6 +139,7 @@ pub as_they_are : (xs : List (List ℕ × List ℕ)) → map (hosted None) xs �
 as_they_are [] = refl
 as_they_are (x ∷ xs) = ap (λ t. x ∷ t) (as_they_are xs)
 
+-- the parts of a response's head, put one after the other, are its head with its fields unchanged
 pub response_parts : (first : List ℕ) (b c : List (List ℕ × List ℕ)) (last : List ℕ)
     → ((([] ++ (first ++ last)) ++ field_lines (map (hosted None) b)) ++ field_lines c) ++ last ≡ ((first ++ last) ++ field_lines (b ++ c))
     ++ last

@@ -14,18 +14,23 @@ use Rattle.http_side.specs.declared.body.BodyReader.{BodyReader}
 use Rattle.http_side.specs.declared.body.Progress.TheVariants.{Left, Chunks, Open}
 use Rattle.http_side.specs.Body.{HasRead}
 
+-- two equal places with a number of bytes left have the same number
 same_left : {m n : ℕ} → Left m ≡ Left n → m ≡ n
 same_left e = cc
 
+-- two equal places with a reader of chunks have the same reader
 same_chunks : {r s : ChunkReader} → Chunks r ≡ Chunks s → r ≡ s
 same_chunks e = cc
 
+-- a number of bytes left isn't a reader of chunks
 left_chunks : {n : ℕ} {r : ChunkReader} → Left n ≡ Chunks r → ⊥
 left_chunks e = cc
 
+-- a number of bytes left isn't an open body
 left_open : {n : ℕ} → Left n ≡ Open → ⊥
 left_open e = cc
 
+-- a reader of chunks isn't an open body
 chunks_open : {r : ChunkReader} → Chunks r ≡ Open → ⊥
 chunks_open e = cc
 
@@ -78,6 +83,7 @@ chunks_read (Ok fed) piece old new chunks was read = λ framing text body h.
     let P : Framing → Type 0 = λ f. HasRead f (text ++ take fed.used piece) (body ++ slice_range piece fed.part.0 fed.part.1) new in
     subst P (sym is.0) (read text body is.1)
 
+-- a fault that breaks what the chunk reader read also breaks the body that was read, whose framing is chunked
 pub chunks_fault : (r : Result Fed ChunkFault) (piece : List ℕ) (old : BodyReader) (chunks : ChunkReader) → old.place ≡ Chunks chunks
     → IfErr r (λ fault. (text body : List ℕ) → ChunksRead text body chunks → Breaks (text ++ piece) body fault)
     → IfErr r (λ fault. (framing : Framing) (text body : List ℕ) → HasRead framing text body old

@@ -14,10 +14,12 @@ use Rattle.http_side.specs.declared.fault.HttpFault.{HttpFault}
 use Rattle.http_side.specs.Lengths.{is_digit, is_numeral, length_value, agreed, content_length}
 use Rattle.http_side.proofs.FieldLemmas.{values-more, values-front}
 
+-- decimal digits all pass the test for a digit
 pub digits_all : (bs : List ℕ) → AllDigits 10 bs → list_all is_digit bs ≡ true
 digits_all [] h = refl
 digits_all (b ∷ bs) h = rw (lt-ltb (digit_value b) 10 h.0, digits_all bs h.1) refl
 
+-- bytes that all pass the test for a digit are decimal digits
 pub all_digits : (bs : List ℕ) → list_all is_digit bs ≡ true → AllDigits 10 bs
 all_digits [] h = tt
 all_digits (b ∷ bs) h = let s = by_test (is_digit b) refl h in (s.0, all_digits bs s.1)
@@ -26,14 +28,17 @@ all_digits (b ∷ bs) h = let s = by_test (is_digit b) refl h in (s.0, all_digit
     by_test true e h = (ltb-true (digit_value b) 10 e, h)
     by_test false e h = absurd (let f : false ≡ true = h in cc)
 
+-- a value that writes a decimal number is a numeral
 numeral_is : (value : List ℕ) (n : ℕ) → Writes 10 value n → is_numeral value ≡ true
 numeral_is value n w = rw (lt-ltb 0 (length value) w.digits.0, digits_all value w.digits.1) refl
 
+-- a value that writes a number below the limit of counts is that length
 pub length_some : (value : List ℕ) (n : ℕ) → Writes 10 value n → n < COUNT_LIMIT → Some n ≡ length_value value
 length_some value n w l =
     let small : digits_value 10 value < COUNT_LIMIT = omega (arith, w.value) in
     rw (numeral_is value n w, lt-ltb (digits_value 10 value) COUNT_LIMIT small) (ap Some (sym w.value))
 
+-- a value that writes no number below 2^64 is no length
 pub length_none : (value : List ℕ) → ((n : ℕ) → n < 2 ^ 64 → Writes 10 value n → ⊥) → None ≡ length_value value
 length_none value none = by_test (is_numeral value && nat_lt (digits_value 10 value) COUNT_LIMIT) refl
   where
@@ -56,12 +61,14 @@ length_none value none = by_test (is_numeral value && nat_lt (digits_value 10 va
     by_test true e = absurd (writes e)
     by_test false e = rw e refl
 
+-- one more Content-Length field is agreed with the length of the fields before it
 pub length-more : (fields : List (List ℕ × List ℕ)) (i : ℕ) → i < length fields
     → str_eq_ignore_ascii_case (name_at fields i) (codes "content-length") ≡ true
     → content_length (take (i + 1) fields) ≡ agreed (content_length (take i fields)) (value_at fields i)
 length-more fields i l e = ap (fold agreed (Ok None)) (values-more (codes "content-length") fields i l e)
     ∙ fold-append agreed (Ok None) (values_of (codes "content-length") (take i fields)) (value_at fields i ∷ [])
 
+-- lengths that were refused stay refused, whatever values follow
 fold_refused : (fault : HttpFault) (values : List (List ℕ)) → fold agreed (Err fault) values ≡ Err fault
 fold_refused fault [] = refl
 fold_refused fault (value ∷ values) = fold_refused fault values

@@ -23,6 +23,7 @@ use Rattle.http_side.specs.declared.names.PlacedName.{PlacedName}
 use Rattle.http_side.proofs.ForwardLemmas.{or_false}
 use Rattle.http_side.proofs.Passing.{same_as}
 
+-- where one of two rests is empty, the whole lengths are in the order of the rests
 ended : (xs ys : List ℕ) (i m n : ℕ) → i + length xs ≡ m → i + length ys ≡ n → (m ≤ i) ⊎ (n ≤ i) → nat_cmp m n ≡ name_order xs ys
 ended [] [] i m n e f s = grind (arith, tests)
 ended [] (y ∷ ys) i m n e f s = grind (arith, tests)
@@ -36,9 +37,11 @@ pub order_at_end : (a b : List ℕ) (i : ℕ) → i ≤ length a → i ≤ lengt
 order_at_end a b i l m s = ended (drop i a) (drop i b) i (length a) (length b) (omega (arith, length-drop i a))
     (omega (arith, length-drop i b)) s
 
+-- names compare as equal just where they are the same but for case
 same_from_order : (a b : List ℕ) → is_eq (name_order a b) ≡ str_eq_ignore_ascii_case a b
 same_from_order a b = is_eq-slice_cmp (str_to_ascii_lowercase a) (str_to_ascii_lowercase b)
 
+-- an order is equal just where its reverse is
 eq_reversed : (o : Ordering) → is_eq (ordering_reverse o) ≡ is_eq o
 eq_reversed Less = refl
 eq_reversed Equal = refl
@@ -55,6 +58,7 @@ less_or_equal Less l e = absurd (let f : false ≡ true = e in cc)
 less_or_equal Equal l e = absurd (let f : false ≡ true = l in cc)
 less_or_equal Greater l e = absurd (let f : false ≡ true = e in cc)
 
+-- an order that is no higher than less is less
 less_below : (o p : Ordering) → ordering_index o ≤ ordering_index p → is_lt p ≡ true → is_lt o ≡ true
 less_below Less p l e = refl
 less_below Equal Less l e = absurd (omega arith)
@@ -64,6 +68,7 @@ less_below Greater Less l e = absurd (omega arith)
 less_below Greater Equal l e = e
 less_below Greater Greater l e = e
 
+-- an order that is no higher than equal, and not less, is equal
 equal_below : (o p : Ordering) → ordering_index o ≤ ordering_index p → is_lt o ≡ false → is_eq p ≡ true → is_eq o ≡ true
 equal_below Less p l n e = absurd (let f : true ≡ false = n in cc)
 equal_below Equal p l n e = refl
@@ -85,6 +90,7 @@ module _ (fields : List (List ℕ × List ℕ)) (names : List PlacedName) (name 
   abbrev order_of : PlacedName → Ordering
   order_of n = name_order n.name.now name
 
+  -- along names in order, how each compares with one name never falls
   rising : IsNonDecreasingBy (λ n. ordering_index (order_of n)) names
   rising = searchable_from_sorted nat_list_cmp_total (λ n. str_to_ascii_lowercase n.name.now) names (str_to_ascii_lowercase name)
       placed.sorted
@@ -211,6 +217,7 @@ pub run_is : (names : List PlacedName) (name : List ℕ) (k : ℕ) (d : PlacedNa
 run_is names name k d l passes stops = ap (λ n. take n names) (prefix_len_is (λ n. str_eq_ignore_ascii_case name n.name.now) names k d l
     (λ j m. passes j d m) stops)
 
+-- where all names are this one, the first that are it are all of them
 pub run_all : (names : List PlacedName) (name : List ℕ)
     → ((j : ℕ) (e : PlacedName) → j < length names → str_eq_ignore_ascii_case name (slice_index_or names j e).name.now ≡ true)
     → run_of name names ≡ names
@@ -233,6 +240,7 @@ refilled xs ys e = rw (drop_of_length-le xs {i = length ys} (omega arith), appen
 
 -- one more name
 module _ (names : List PlacedName) (at : ℕ) (n : PlacedName) where
+  -- where each place so far has a name, and the next one gets a name, each place up to that one has a name
   pub all_more : ((i : ℕ) → i < at → (m : PlacedName) × Contains names m × (m.place ≡ i)) → n.place ≡ at
       → (i : ℕ) → i < at + 1 → (m : PlacedName) × Contains (names ++ n ∷ []) m × (m.place ≡ i)
   all_more before e i l = elim (cases_lt i at) [

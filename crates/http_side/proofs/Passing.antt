@@ -18,22 +18,27 @@ pub same_as : (a b c : List ℕ) → str_eq_ignore_ascii_case a b ≡ true → s
 same_as a b c e = ap (λ t. bytes_eq t (str_to_ascii_lowercase c)) ((bytes_eq-Decides (str_to_ascii_lowercase a)
     (str_to_ascii_lowercase b)).0 e)
 
+-- of two names that are the same but for case, a third is the same as both or as neither, case ignored
 same_to : (a b c : List ℕ) → str_eq_ignore_ascii_case a b ≡ true → str_eq_ignore_ascii_case c a ≡ str_eq_ignore_ascii_case c b
 same_to a b c e = ap (λ t. bytes_eq (str_to_ascii_lowercase c) t) ((bytes_eq-Decides (str_to_ascii_lowercase a)
     (str_to_ascii_lowercase b)).0 e)
 
+-- of two names that are equal but for case both are among some words, or neither is
 pub among_as : (names : List (List ℕ)) (a b : List ℕ) → str_eq_ignore_ascii_case a b ≡ true → is_among names a ≡ is_among names b
 among_as [] a b e = refl
 among_as (n ∷ names) a b e = rw (same_to a b n e, among_as names a b e) refl
 
+-- a first field of the name puts its value before the others
 pub values-cons-same : (name : List ℕ) (f : List ℕ × List ℕ) (xs : List (List ℕ × List ℕ)) → str_eq_ignore_ascii_case f.0 name ≡ true
     → values_of name (f ∷ xs) ≡ f.1 ∷ values_of name xs
 values-cons-same name f xs e = rw e refl
 
+-- a first field of another name adds no value
 pub values-cons-no : (name : List ℕ) (f : List ℕ × List ℕ) (xs : List (List ℕ × List ℕ)) → str_eq_ignore_ascii_case f.0 name ≡ false
     → values_of name (f ∷ xs) ≡ values_of name xs
 values-cons-no name f xs e = rw e refl
 
+-- the values of a name in two joined lists are those of the first and then of the second
 pub values-append : (name : List ℕ) (xs ys : List (List ℕ × List ℕ)) → values_of name (xs ++ ys) ≡ values_of name xs ++ values_of name ys
 values-append name xs ys = ap (map (λ f. f.1)) (filter-append (λ f. str_eq_ignore_ascii_case f.0 name) xs ys) ∙ map-append (λ f. f.1) _ _
 
@@ -73,14 +78,17 @@ LENGTH = codes "content-length"
 abbrev pub CODING : List ℕ
 CODING = codes "transfer-encoding"
 
+-- a length is dropped where one was seen before
 once-skip : (seen : Bool) (f : List ℕ × List ℕ) (xs : List (List ℕ × List ℕ)) → is_length f ≡ true → seen ≡ true
     → once seen (f ∷ xs) ≡ once seen xs
 once-skip seen f xs e s = rw (e, s) refl
 
+-- a field that is no second length is kept, and after it a length was seen where one was or it is one
 once-keep : (seen : Bool) (f : List ℕ × List ℕ) (xs : List (List ℕ × List ℕ)) → (is_length f && seen) ≡ false
     → once seen (f ∷ xs) ≡ f ∷ once (seen || is_length f) xs
 once-keep seen f xs e = rw e refl
 
+-- anything and false is false
 off_right : (b : Bool) → (b && false) ≡ false
 off_right true = refl
 off_right false = refl
@@ -93,6 +101,7 @@ once-seen (f ∷ xs) = elim (cases_Bool (is_length f)) [
   | inr differ ↦ ap (values_of LENGTH) (once-keep true f xs (rw differ refl)) ∙ values-cons-no LENGTH f (once true xs) differ ∙ once-seen xs
 ]
 
+-- where no length was seen before, only the first of the lengths is left
 pub once-first : (xs : List (List ℕ × List ℕ)) → values_of LENGTH (once false xs) ≡ take 1 (values_of LENGTH xs)
 once-first [] = refl
 once-first (f ∷ xs) = elim (cases_Bool (is_length f)) [
@@ -120,7 +129,7 @@ once-none name seen (f ∷ xs) e = elim (cases_Bool (str_eq_ignore_ascii_case f.
       ]
 ]
 
--- a Host's value has differ part in the other fields
+-- a Host's value has no part in the other fields
 pub values-hosted : (name : List ℕ) (authority : Option (List ℕ)) (xs : List (List ℕ × List ℕ))
     → str_eq_ignore_ascii_case name (codes "host") ≡ false
     → values_of name (map (hosted authority) xs) ≡ values_of name xs
@@ -165,6 +174,7 @@ length_stays expect fields f e =
     both true = refl
     both false = refl
 
+-- a length doesn't stay where the head loses it
 length_goes : (expect : Bool) (fields : List (List ℕ × List ℕ)) (f : List ℕ × List ℕ) → str_eq_ignore_ascii_case f.0 LENGTH ≡ true
     → stays (record { expect = expect; length = true }) fields f ≡ false
 length_goes expect fields f e =
@@ -176,25 +186,28 @@ length_goes expect fields f e =
     both true = refl
     both false = refl
 
+-- a Transfer-Encoding field never stays
 coding_goes : (beside : Beside) (fields : List (List ℕ × List ℕ)) (f : List ℕ × List ℕ) → str_eq_ignore_ascii_case f.0 CODING ≡ true
     → stays beside fields f ≡ false
 coding_goes beside fields f e =
     let hop : is_among hop_names f.0 ≡ true = among_as hop_names f.0 CODING e in
     rw hop refl
 
--- the first length goes on, or none does; differ coding does
+-- the first length goes on, or none does; no coding does
 pub kept-length : (expect : Bool) (fields : List (List ℕ × List ℕ))
     → values_of LENGTH (kept_fields (record { expect = expect; length = false }) fields) ≡ take 1 (values_of LENGTH fields)
 kept-length expect fields =
     let b : Beside = record { expect = expect; length = false } in
     once-first (filter (stays b fields) fields) ∙ ap (take 1) (values-kept LENGTH (stays b fields) fields (length_stays expect fields))
 
+-- where a head loses its length, no length is among the fields that go on
 pub kept-no_length : (expect : Bool) (fields : List (List ℕ × List ℕ))
     → values_of LENGTH (kept_fields (record { expect = expect; length = true }) fields) ≡ []
 kept-no_length expect fields =
     let b : Beside = record { expect = expect; length = true } in
     once-none LENGTH false (filter (stays b fields) fields) (values-gone LENGTH (stays b fields) fields (length_goes expect fields))
 
+-- no coding is among the fields that go on
 pub kept-no_coding : (beside : Beside) (fields : List (List ℕ × List ℕ)) → values_of CODING (kept_fields beside fields) ≡ []
 kept-no_coding beside fields = once-none CODING false (filter (stays beside fields) fields)
     (values-gone CODING (stays beside fields) fields (coding_goes beside fields))

@@ -16,6 +16,7 @@ use Rattle.http_side.specs.Requests.{Refuses, HasRefused, MayRefuseRequest, IsTa
 
 -- ---- one head
 
+-- two requests' heads that a text begins with have the same parts and length
 pub one_at : (text : List ℕ) (r p : RequestParts) (n m : ℕ) → IsRequestAt text r n → IsRequestAt text p m → (r ≡ p) × (n ≡ m)
 one_at text r p n m x y =
     let same = (request_unique text x.head y.head (drop n text) (drop m text) x.reads y.reads).0 in
@@ -31,6 +32,7 @@ Late adapted r f =
 abbrev Cause : Bool → RequestParts → HttpFault → Type 0
 Cause adapted r f = (request_fault r ≡ Some f) ⊎ ((request_fault r ≡ None) × Late adapted r f)
 
+-- what refuses a head is its first fault, or, without one, CONNECT, its target or want of memory
 cause_of : (adapted : Bool) (r : RequestParts) (f : HttpFault) → Refuses adapted r f → Cause adapted r f
 cause_of adapted r More w = absurd w
 cause_of adapted r Bad w = inl w
@@ -47,15 +49,19 @@ cause_of adapted r NoMemory w = inr (w.0, inr (inr (refl, w.1)))
 abbrev pub Allowed : HttpFault → HttpFault → Type 0
 Allowed f g = (f ≡ g) ⊎ ((g ≡ Target) × (f ≡ NoMemory))
 
+-- two equal options that hold faults hold one fault
 some_same : {x y : HttpFault} → Some x ≡ Some y → x ≡ y
 some_same e = cc
 
+-- an option that holds a fault isn't none
 some_none : {x : HttpFault} → Some x ≡ None → ⊥
 some_none e = cc
 
+-- true isn't false
 differ : true ≡ false → ⊥
 differ e = cc
 
+-- of two faults after those of the fields, the first may be answered for a second that isn't want of memory
 late_one : (adapted : Bool) (r : RequestParts) (f g : HttpFault) → g ≢ NoMemory → Late adapted r f → Late adapted r g → Allowed f g
 late_one adapted r f g other (inl x) (inl y) = inl (x.0 ∙ sym y.0)
 late_one adapted r f g other (inl x) (inr (inl y)) = absurd (differ (sym x.1 ∙ y.1))
@@ -67,12 +73,14 @@ late_one adapted r f g other (inl x) (inr (inr y)) = absurd (other y.0)
 late_one adapted r f g other (inr (inl x)) (inr (inr y)) = absurd (other y.0)
 late_one adapted r f g other (inr (inr x)) (inr (inr y)) = absurd (other y.0)
 
+-- of two faults that refuse a head, the first may be answered for the second, unless that is want of memory
 one_cause : (adapted : Bool) (r : RequestParts) (f g : HttpFault) → g ≢ NoMemory → Cause adapted r f → Cause adapted r g → Allowed f g
 one_cause adapted r f g other (inl x) (inl y) = inl (some_same (sym x ∙ y))
 one_cause adapted r f g other (inl x) (inr y) = absurd (some_none (sym x ∙ y.0))
 one_cause adapted r f g other (inr x) (inl y) = absurd (some_none (sym y ∙ x.0))
 one_cause adapted r f g other (inr x) (inr y) = late_one adapted r f g other x.1 y.1
 
+-- a head that is taken is refused for nothing but want of memory
 not_taken : (adapted : Bool) (r : RequestParts) (f : HttpFault) → f ≢ NoMemory → IsTaken adapted r → Cause adapted r f → ⊥
 not_taken adapted r f other t (inl x) = some_none (sym x ∙ t.no_fault)
 not_taken adapted r f other t (inr (none, inl x)) = differ (sym x.1 ∙ t.no_connect)
@@ -81,6 +89,7 @@ not_taken adapted r f other t (inr (none, inr (inr x))) = other x.0
 
 -- ---- what a text begins with
 
+-- a text that no bytes make a request's head has none yet
 never_here : (text : List ℕ) → NeverHasRequest text → HasNoRequest text
 never_here text never = subst HasNoRequest (append-nil text) (never [])
 
@@ -89,12 +98,15 @@ Answer adapted text f =
     ((f ≡ unended (length text)) × IsUnfinished (judged text)) ⊎ ((f ≡ Bad) × NeverHasRequest (judged text))
     ⊎ ((f ≡ TooMany) × RequestExceeds 100 (judged text) × RequestOverflows 100 (judged text)) ⊎ HasRefused adapted (judged text) f
 
+-- of an unended text of fewer than 16,384 bytes more may come
 pub short_is : (n : ℕ) → n < 16384 → More ≡ unended n
 short_is n l = rw (lt-ltb n 16384 l) refl
 
+-- an unended text of 16,384 bytes or more is too long
 pub long_is : (n : ℕ) → 16384 ≤ n → TooLong ≡ unended n
 long_is n l = rw (le-ltb n 16384 l) refl
 
+-- a text that may be refused is unended, no head, one of too many fields, or begins with a refused head
 answer_of : (adapted : Bool) (text : List ℕ) (f : HttpFault) → MayRefuseRequest adapted text f → Answer adapted text f
 answer_of adapted text More w = inl (short_is (length text) w.1, w.0)
 answer_of adapted text Bad (inl w) = inr (inl (refl, w))
@@ -120,6 +132,7 @@ with_head adapted text h rest reads few g (inr (inr (inr s))) =
     let same = (request_unique (judged text) s.1.0 h s.1.1 rest s.1.2 reads).0 in
     (s.0, subst (λ x. Cause adapted (request_parts x) g) same (cause_of adapted (request_parts s.1.0) g s.1.4))
 
+-- what a text may be refused for is what it has to be, or want of memory in place of Target
 agrees : (adapted : Bool) (text : List ℕ) (f g : HttpFault) → Answer adapted text f → RefusesRequest adapted text g → Allowed f g
 agrees adapted text f g (inl x) (inl y) = inl (x.0 ∙ sym y.0)
 agrees adapted text f g (inl x) (inr (inl y)) = absurd (may x.1.1)
@@ -144,9 +157,11 @@ agrees adapted text f g (inr (inr (inr x))) y =
     let it = with_head adapted text x.0 x.1 x.2 x.3 g y in
     one_cause adapted (request_parts x.0) f g it.0 (cause_of adapted (request_parts x.0) f x.4) it.1
 
+-- a request's head has at most 100 fields where its parts have
 pub few_of : (text : List ℕ) (r : RequestParts) (n : ℕ) (at : IsRequestAt text r n) → length r.fields ≤ 100 → length at.head.fields ≤ 100
 few_of text r n at few = omega (arith, length-map at.head.fields name_and_value, ap (λ x. length x.fields) at.parts_are)
 
+-- a text whose head is read as a request hasn't to be refused
 not_read : (adapted : Bool) (text : List ℕ) (r : RequestParts) (n : ℕ) (g : HttpFault) → IsRead adapted text r n
     → RefusesRequest adapted text g → ⊥
 not_read adapted text r n g read stands =
@@ -159,6 +174,7 @@ not_read adapted text r n g read stands =
 abbrev pub Told : Result (Head RequestParts) HttpFault → HttpFault → Type 0
 Told result g = (result ≡ Err g) ⊎ ((g ≡ Target) × (result ≡ Err NoMemory))
 
+-- a text that has to be refused is answered so, or, in place of Target, with want of memory
 pub fault_told : (adapted : Bool) (text : List ℕ) (result : Result (Head RequestParts) HttpFault)
     → IfOk result (λ head. IsRead adapted text head.value head.length)
     → IfErr result (MayRefuseRequest adapted text) → (g : HttpFault) → RefusesRequest adapted text g → Told result g
@@ -169,6 +185,7 @@ fault_told adapted text (Err f) read refused g stands = told (agrees adapted tex
     told (inl same) = inl (ap Err same)
     told (inr other) = inr (other.0, ap Err other.1)
 
+-- a text whose head is read may be refused only for want of memory
 refused_read : (adapted : Bool) (text : List ℕ) (f : HttpFault) (r : RequestParts) (n : ℕ) → Answer adapted text f → IsRead adapted text r n
     → f ≡ NoMemory
 refused_read adapted text f r n (inl x) read = absurd (x.1.0 read.there.head (drop n (judged text)) read.there.reads)
@@ -191,6 +208,7 @@ refused_read adapted text f r n (inr (inr (inr x))) read =
     memory (inr (none, inr (inl c))) = absurd (c.2 read.taken.served)
     memory (inr (none, inr (inr c))) = c.0
 
+-- a text whose head is read is answered with it and its length, or with want of memory
 pub head_told : (adapted : Bool) (text : List ℕ) (result : Result (Head RequestParts) HttpFault)
     → IfOk result (λ head. IsRead adapted text head.value head.length)
     → IfErr result (MayRefuseRequest adapted text) → (r : RequestParts) (n : ℕ) → IsRead adapted text r n
@@ -201,14 +219,17 @@ head_told adapted text (Err f) read refused r n there =
 
 -- ---- one answer
 
+-- a text that has to be refused has no head that is read as a request
 pub head_or_fault : (adapted : Bool) (text : List ℕ) (r : RequestParts) (n : ℕ) (g : HttpFault) → RefusesRequest adapted text g
     → ¬ (IsRead adapted text r n)
 head_or_fault adapted text r n g stands read = not_read adapted text r n g read stands
 
+-- what may be answered for a fault, other than want of memory, is that fault
 same_fault : (f g : HttpFault) → f ≢ NoMemory → Allowed f g → f ≡ g
 same_fault f g other (inl same) = same
 same_fault f g other (inr memory) = absurd (other memory.1)
 
+-- a text has to be refused as a request for one fault at most
 pub one_fault : (adapted : Bool) (text : List ℕ) (f g : HttpFault) → RefusesRequest adapted text f → RefusesRequest adapted text g → f ≡ g
 one_fault adapted text f g (inl x) (inl y) = x.0 ∙ sym y.0
 one_fault adapted text f g (inl x) (inr (inl y)) = absurd (y.1.0 x.1.1.0 x.1.1.1 [] x.1.1.2)

@@ -15,9 +15,11 @@ use Rattle.http_side.specs.Heads.{IsRequestAt, IsRequestText}
 use Rattle.http_side.specs.Lengths.{content_length, coding}
 use Rattle.http_side.specs.Requests.{Refuses, HasRefused, MayRefuseRequest, IsTaken, IsRead}
 
+-- texts that are the same as two others compare as equal just where those do
 pub same_test : (a b x y : List ℕ) → a ≡ x → b ≡ y → bytes_eq a b ≡ bytes_eq x y
 same_test a b x y e f = ap (λ z. bytes_eq z b) e ∙ ap (bytes_eq x) f
 
+-- the fault that a test and the tests after it give is the first's own or one of the others'
 pub unless_is : (b : Bool) (g f : HttpFault) (o : Option HttpFault) → unless b g o ≡ Some f → (g ≡ f) ⊎ (o ≡ Some f)
 unless_is true g f o e = inl (same e)
   where
@@ -45,6 +47,7 @@ refuses adapted r f e =
           ]
     ]
 
+-- a text that begins with a refused head may be refused for that fault
 pub text_refused : (adapted : Bool) (text : List ℕ) (f : HttpFault) → HasRefused adapted (judged text) f → MayRefuseRequest adapted text f
 text_refused adapted text More w = absurd w.4
 text_refused adapted text Bad w = inr w
@@ -62,6 +65,7 @@ pub parts_same : (buf : List ℕ) (headers : List HeaderSpan) (spans : RequestSp
     → parts_at buf spans (take spans.headers headers) ≡ request_parts h
 parts_same buf headers spans h at = rw (at.method, at.path, at.version, at.fields) refl
 
+-- a parsed request's head has at most 100 fields where there is room for at most 100
 pub few_fields : (buf : List ℕ) (headers : List HeaderSpan) (spans : RequestSpans) (h : RequestHead) → IsParsedAt buf headers spans h
     → length headers ≤ 100 → length h.fields ≤ 100
 few_fields buf headers spans h at l =
@@ -116,6 +120,7 @@ pub there_at : (front : List ℕ) (headers : List HeaderSpan) (spans : RequestSp
 there_at front headers spans of =
     record { head = of.0; reads = of.1.reads; len_is = of.1.len; parts_are = sym (parts_same front headers spans of.0 of.1) }
 
+-- the prefix of a joined text, as long as its first part, is that part
 take_front : (a b : List ℕ) → take (length a) (a ++ b) ≡ a
 take_front [] b = refl
 take_front (x ∷ a) b = ap (λ t. x ∷ t) (take_front a b)

@@ -27,6 +27,7 @@ refuses r f e =
       ]
     ]
 
+-- a text that begins with a refused response's head may be refused for that fault
 text_refused : (text : List ℕ) (f : HttpFault) → HasRefusedAnswer (judged text) f → MayRefuseResponse text f
 text_refused text More w = absurd w.4
 text_refused text Bad w = absurd w.4
@@ -45,6 +46,7 @@ parts_same : (buf : List ℕ) (headers : List HeaderSpan) (spans : ResponseSpans
     → response_at buf spans (take spans.headers headers) to_head ≡ response_parts h to_head
 parts_same buf headers spans to_head h at = rw (at.code, at.reason, at.version, at.fields) refl
 
+-- a parsed response's head has at most 100 fields where there is room for at most 100
 few_fields : (buf : List ℕ) (headers : List HeaderSpan) (spans : ResponseSpans) (h : ResponseHead) → IsParsedAt buf headers spans h
     → length headers ≤ 100 → length h.fields ≤ 100
 few_fields buf headers spans h at l =

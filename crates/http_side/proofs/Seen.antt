@@ -26,14 +26,17 @@ use Rattle.http_side.proofs.Choices.{first_is, no_values}
 
 -- ---- the fields of a head that was read
 
+-- where a test and those after it give no fault, the test is off and the others give none
 unless_none : (b : Bool) (g : HttpFault) (o : Option HttpFault) → unless b g o ≡ None → (b ≡ false) × (o ≡ None)
 unless_none true g o e = absurd (let x : Some g ≡ None = e in cc)
 unless_none false g o e = (refl, e)
 
+-- a result of the lengths that is no error holds the length found
 ok_found : (r : Result (Option ℕ) HttpFault) → is_err r ≡ false → r ≡ Ok (length_found r)
 ok_found (Ok o) e = refl
 ok_found (Err f) e = absurd (let x : true ≡ false = e in cc)
 
+-- the lengths of a request that was read are no error
 request_sound : (r : RequestParts) → WasReadRequest r → is_err (content_length r.fields) ≡ false
 request_sound r w =
     let a = unless_none (bad_hosts r) Bad _ w.3.taken.no_fault in
@@ -41,6 +44,7 @@ request_sound r w =
     let c = unless_none (is_err (content_length r.fields)) Lengths _ b.1 in
     c.0
 
+-- the lengths of a response that was read are no error
 response_sound : (r : ResponseParts) → WasReadResponse r → is_err (content_length r.fields) ≡ false
 response_sound r w = (unless_none (is_err (content_length r.fields)) Lengths _ w.3.no_fault).0
 
@@ -50,10 +54,12 @@ abbrev kept_values : Message → List (List ℕ)
 kept_values (Request r) = take 1 (values_of LENGTH r.now.fields)
 kept_values (Response r) = if both_lengths r.now.fields then [] else take 1 (values_of LENGTH r.now.fields)
 
+-- the lengths that go on of a message are those that it keeps
 passed-length : (authority : List ℕ) (m : Message) → values_of LENGTH (passed_fields authority m) ≡ kept_values m
 passed-length authority (Request r) = request-length authority r.now.fields
 passed-length authority (Response r) = response-length r.now.fields
 
+-- no coding of a message goes on
 passed-coding : (authority : List ℕ) (m : Message) → values_of CODING (passed_fields authority m) ≡ []
 passed-coding authority (Request r) = request-coding authority r.now.fields
 passed-coding authority (Response r) = response-coding r.now.fields
@@ -70,9 +76,11 @@ kept_is (Response r) w = by_test (both_lengths r.now.fields)
     by_test false = first_is (values_of LENGTH r.now.fields) (length_of r.now.fields)
         (ok_found (content_length r.now.fields) (response_sound r.now w))
 
+-- a list that is cut after its first value has at most one value
 one_of : (values : List (List ℕ)) → length (take 1 values) ≤ 1
 one_of values = omega (arith, length-take 1 values)
 
+-- a message keeps at most one length
 kept_one : (m : Message) → length (kept_values m) ≤ 1
 kept_one (Request r) = one_of (values_of LENGTH r.now.fields)
 kept_one (Response r) = by_test (both_lengths r.now.fields)
@@ -81,6 +89,7 @@ kept_one (Response r) = by_test (both_lengths r.now.fields)
     by_test true = omega arith
     by_test false = one_of (values_of LENGTH r.now.fields)
 
+-- the lengths of a forwarded head are the one kept, and a 0 where it gets one
 forwarded-length : (f : Forward) → values_of LENGTH (forwarded_fields f) ≡ kept_values f.message ++ on (gets_zero f) (codes "0")
 forwarded-length f =
     values-append LENGTH (passed_fields (authority_of f.user.now.target) f.message) (added_fields (extra_of f) (minor_of f.message))
@@ -88,6 +97,7 @@ forwarded-length f =
     (passed-length (authority_of f.user.now.target) f.message)
     ∙ ap (λ t. kept_values f.message ++ t) (added-length (extra_of f) (minor_of f.message))
 
+-- the codings of a forwarded head are chunked where its framing is, and else none
 forwarded-coding : (f : Forward) → values_of CODING (forwarded_fields f) ≡ on (is_chunks (next_framing f)) (codes "chunked")
 forwarded-coding f =
     values-append CODING (passed_fields (authority_of f.user.now.target) f.message) (added_fields (extra_of f) (minor_of f.message))
@@ -140,13 +150,16 @@ one_length response bare body old k values few none =
     never true false false old None none l = absurd (omega arith)
     never false false false old None none l = absurd (omega arith)
 
+-- a message that was read and goes on without a length keeps no value of one
 no_kept : (m : Message) → WasRead m → kept_length m ≡ None → kept_values m ≡ []
 no_kept m w e = no_values (kept_values m) (kept_is m w ∙ ap Ok e)
 
+-- there are as many fields of a name as it has values
 counted : (name : List ℕ) (fields : List (List ℕ × List ℕ)) (values : List (List ℕ)) → values_of name fields ≡ values
     → count_of name fields ≡ length values
 counted name fields values e = ap length e
 
+-- a forwarded head has at most one length and one coding, and never both
 pub has_one_length : (f : Forward) → WasRead f.message → HasOneLength (forwarded_fields f)
 has_one_length f w =
     let one = one_length (is_response f.message) (has_no_place f.message) (has_body f.part f.message) (f.user.now.minor == 0)
@@ -161,10 +174,12 @@ has_one_length f w =
 
 -- ---- what the reader sees
 
+-- one field that says chunked is the coding chunked
 chunked_is : coding_of (codes "chunked" ∷ []) ≡ Ok true
 unfolding comma_items comma_parts trim
 chunked_is = refl
 
+-- one field that says 0 is a length of 0
 zero_is : fold agreed (Ok None) (codes "0" ∷ []) ≡ Ok (Some 0)
 zero_is = refl
 
@@ -174,6 +189,7 @@ seen codings lengths last = by_coding (coding_of codings) (by_length (fold agree
 abbrev last_of : Bool → Framing
 last_of response = if response then Close else NoBody
 
+-- the lengths and codings of a choice, where a body has its place, show the framing that was chosen
 seen_is : (response body old : Bool) (k : Option ℕ) (values : List (List ℕ)) → fold agreed (Ok None) values ≡ Ok k
     → (k ≡ None → values ≡ [])
     → seen (on (is_chunks (chosen response false body old k)) (codes "chunked")) (values ++ on (zeroed response false body k) (codes "0"))
@@ -186,12 +202,14 @@ seen_is true true true None values is none = rw (none refl) refl
 seen_is true true false None values is none = rw chunked_is refl
 seen_is true false old None values is none = rw (none refl) refl
 
+-- the framing by some fields is the one by the values of their codings and lengths
 by_values : (fields : List (List ℕ × List ℕ)) (codings lengths : List (List ℕ)) (last : Framing) → values_of CODING fields ≡ codings
     → values_of LENGTH fields ≡ lengths
     → by_fields fields last ≡ seen codings lengths last
 by_values fields codings lengths last c l = ap (λ t. by_coding (coding_of t) (by_length (content_length fields) last)) c
     ∙ ap (λ t. by_coding (coding_of codings) (by_length (fold agreed (Ok None) t) last)) l
 
+-- fields with the lengths and codings of a choice show the chosen framing, also where no body follows
 by_place : (bare response body old : Bool) (k : Option ℕ) (fields : List (List ℕ × List ℕ)) (values : List (List ℕ))
     → fold agreed (Ok None) values ≡ Ok k → (k ≡ None → values ≡ [])
     → values_of CODING fields ≡ on (is_chunks (chosen response bare body old k)) (codes "chunked")
@@ -201,6 +219,7 @@ by_place true response body old k fields values is none c l = refl
 by_place false response body old k fields values is none c l =
     by_values fields _ _ (last_of response) c l ∙ seen_is response body old k values is none
 
+-- the framing that the next hop sees in the head of a forwarded message that was read is the chosen one
 pub framed_as_chosen : (f : Forward) → WasRead f.message → framing_seen f.message (forwarded_fields f) ≡ next_framing f
 framed_as_chosen f w = same_seen f.message (forwarded_fields f) ∙ by_place (has_no_place f.message) (is_response f.message)
     (has_body f.part f.message) (f.user.now.minor == 0) (kept_length f.message)

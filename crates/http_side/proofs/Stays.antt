@@ -29,6 +29,7 @@ judged-append text more = elim (cases_lt (length text) 16384) [
 behind : (text p rest : List ℕ) (n : ℕ) → text ≡ p ++ rest → n ≡ length p → drop n text ≡ rest
 behind text p rest n e l = ap (drop n) e ∙ ap (λ k. drop k (p ++ rest)) l ∙ drop-append_seam p rest
 
+-- a request's head that is read stays the same whatever bytes follow
 pub request_stays : (adapted : Bool) (text more : List ℕ) (r : RequestParts) (n : ℕ) → IsRead adapted text r n
     → IsRead adapted (text ++ more) r n
 request_stays adapted text more r n read =
@@ -50,6 +51,7 @@ request_stays adapted text more r n read =
       taken = read.taken;
     }
 
+-- a response's head that is read stays the same whatever bytes follow
 pub response_stays : (to_head : Bool) (text more : List ℕ) (r : ResponseParts) (n : ℕ) → IsResponseRead to_head text r n
     → IsResponseRead to_head (text ++ more) r n
 response_stays to_head text more r n read =
@@ -74,6 +76,7 @@ response_stays to_head text more r n read =
 
 -- ---- beginnings
 
+-- a prefix of a longer prefix of a text is a prefix of the text itself
 front_take : (n k : ℕ) (xs : List ℕ) → k ≤ n → take k (take n xs) ≡ take k xs
 front_take n zero xs l = refl
 front_take zero (suc k) xs l = absurd (omega arith)
@@ -88,6 +91,7 @@ record Cut (text p rest : List ℕ) (cut : ℕ) : Type 0 where
   joined : take cut text ++ drop cut (judged text) ≡ judged text
   size : length (take cut text) ≤ cut
 
+-- a cut within the head that a text begins with leaves fewer than 16,384 bytes, a prefix of the head
 cut_of : (text p rest : List ℕ) (cut : ℕ) → judged text ≡ p ++ rest → cut < length p → Cut text p rest cut
 cut_of text p rest cut e l =
     let room : length p ≤ 16384 = omega (arith, ap length e, length-append p rest, length-take 16384 text) in
@@ -102,6 +106,7 @@ cut_of text p rest cut e l =
       size = size;
     }
 
+-- a text that is cut within its request's head has to be answered that more may come
 pub request_beginning : (adapted : Bool) (text : List ℕ) (r : RequestParts) (n cut : ℕ) → IsRead adapted text r n → cut < n
     → RefusesRequest adapted (take cut text) More
 request_beginning adapted text r n cut read l =
@@ -123,6 +128,7 @@ request_beginning adapted text r n cut read l =
     ) in
     inl (short_is (length (take cut text)) (omega (arith, it.size, it.small)), subst AwaitsRequest (sym it.whole) awaits)
 
+-- a text that is cut within its response's head has to be answered that more may come
 pub response_beginning : (to_head : Bool) (text : List ℕ) (r : ResponseParts) (n cut : ℕ) → IsResponseRead to_head text r n → cut < n
     → RefusesResponse (take cut text) More
 response_beginning to_head text r n cut read l =

@@ -5,6 +5,7 @@ use Rattle.std.proofs.Common.{◌≡◌, ℕ, ◌+◌, ◌-◌, ◌^◌, ◌<◌
 one_more : (m x y a b s : ℕ) → x ≡ min a m → y ≡ min b m → s ≡ min (x + y) m → s ≡ min (a + b) m
 one_more m x y a b s e f g = omega arith
 
+-- the sizes of a head's parts, summed with a stop at each step, are their whole sum with one stop
 pub parts : (m a b c d first host fields added s1 s2 s3 s : ℕ) → 2 ≤ m → first ≡ min a m → host ≡ min b m → fields ≡ min c m
     → added ≡ min d m
     → s1 ≡ min (first + host) m → s2 ≡ min (s1 + fields) m → s3 ≡ min (s2 + added) m → s ≡ min (s3 + 2) m → s ≡ min (a + b + c + d + 2) m

@@ -20,9 +20,11 @@ use Rattle.http_side.specs.Forward.{target_form}
 
 -- ---- counts
 
+-- true isn't false
 differ : true ≡ false → ⊥
 differ e = cc
 
+-- a byte ends an authority of a URI just where it is a slash, a question mark or a hash
 same_delimiter : (b : ℕ) → ends_authority b ≡ is_delimiter b
 same_delimiter b = regroup (b == 47) (b == 63) (b == 35)
   where
@@ -30,9 +32,11 @@ same_delimiter b = regroup (b == 47) (b == 63) (b == 35)
     regroup true y z = refl
     regroup false y z = refl
 
+-- no byte stands before the first that passes where the first one does
 count_stop : (test : ℕ → Bool) (b : ℕ) (t : List ℕ) → test b ≡ true → count_before test (b ∷ t) ≡ 0
 count_stop test b t e = rw e refl
 
+-- a first byte that doesn't pass is one more before the first that does
 count_on : (test : ℕ → Bool) (b : ℕ) (t : List ℕ) → test b ≡ false → count_before test (b ∷ t) ≡ suc (count_before test t)
 count_on test b t e = rw e refl
 
@@ -43,6 +47,7 @@ count_front test [] tail none stops = stops
 count_front test (b ∷ a) tail none stops =
     count_on test b (a ++ tail) (none 0 (omega arith)) ∙ ap suc (count_front test a tail (λ k l. none (suc k) (omega arith)) stops)
 
+-- as many bytes stand before the first hash as the longest prefix without one has
 count_prefix : (t : List ℕ) → count_before is_hash t ≡ prefix_len (λ b. not (b == 35)) t
 count_prefix [] = refl
 count_prefix (b ∷ t) = elim (cases_Bool (b == 35)) [
@@ -50,14 +55,17 @@ count_prefix (b ∷ t) = elim (cases_Bool (b == 35)) [
   | inr off ↦ rw off (omega (arith, count_prefix t))
 ]
 
+-- a text before its first hash is the text without its fragment
 without_is : (t : List ℕ) → before is_hash t ≡ without_fragment t
 without_is t = ap (λ n. take n t) (count_prefix t)
 
 -- ---- an absolute target
 
+-- a colon and two slashes are three bytes
 three : length (codes "://") ≡ 3
 three = refl
 
+-- a slash is UTF-8
 slash_utf8 : IsUtf8 (47 ∷ [])
 slash_utf8 = IsUtf8-from_ascii (47 ∷ []) (λ k. all_low k)
   where
@@ -65,12 +73,15 @@ slash_utf8 = IsUtf8-from_ascii (47 ∷ []) (λ k. all_low k)
     all_low zero = omega arith
     all_low (suc k) = omega arith
 
+-- the text http:// is UTF-8
 scheme_utf8 : IsUtf8 (codes "http://")
 scheme_utf8 = search rules
 
+-- a slash is no byte of a scheme
 no_slash : (b : ℕ) → (b == 47) ≡ true → is_scheme_byte b ≡ true → ⊥
 no_slash b e h = differ (sym (ap is_scheme_byte (sym (eqb-true b 47 e)) ∙ h))
 
+-- a name of the scheme http has four bytes
 name_length : (name : List ℕ) → normal_scheme name ≡ codes "http" → length name ≡ 4
 name_length name e = elim (cases_Bool (bytes_eq (lowercase name) (codes "http"))) [
   | inl http ↦
@@ -85,6 +96,7 @@ name_length name e = elim (cases_Bool (bytes_eq (lowercase name) (codes "http"))
   ]
 ]
 
+-- a text that begins with a scheme that isn't empty doesn't begin with a slash
 first_of_scheme : (name more : List ℕ) → IsScheme name → 0 < length name → is_rooted (name ++ more) ≡ false
 first_of_scheme [] more h l = absurd (omega arith)
 first_of_scheme (b ∷ name) more h l = elim (cases_Bool (b == 47)) [
@@ -92,11 +104,13 @@ first_of_scheme (b ∷ name) more h l = elim (cases_Bool (b == 47)) [
   | inr off ↦ off
 ]
 
+-- what follows an authority is empty or begins with a delimiter
 tail_stops : (tail kept : List ℕ) → IsTail tail kept → count_before is_delimiter tail ≡ 0
 tail_stops [] kept h = refl
 tail_stops (b ∷ tail) kept (inl h) = absurd (let n : suc (length tail) ≡ 0 = ap length h.0 in omega (arith, n))
 tail_stops (b ∷ tail) kept (inr h) = count_stop is_delimiter b tail (sym (same_delimiter b) ∙ h.0)
 
+-- what follows an authority is UTF-8 up to its first hash
 tail_utf8 : (tail kept : List ℕ) → IsTail tail kept → IsUtf8 (before is_hash tail)
 tail_utf8 tail kept (inl h) = subst (λ t. IsUtf8 (before is_hash t)) (sym h.0) IsUtf8-nil
 tail_utf8 tail kept (inr h) = subst IsUtf8 (sym (without_is tail)) h.1.kept.utf8
@@ -112,6 +126,7 @@ abbrev pub Form : Bool → List ℕ → Option (List ℕ) → Type 0
 Form adapted t None = (adapted ≡ true) × (is_rooted t ≡ true) × IsUtf8 (before is_hash t)
 Form adapted t (Some a) = IsAbsolute t a
 
+-- a scheme http, an authority and what follows it are an absolute target of that authority
 absolute : (t name a tail kept : List ℕ) → t ≡ name ++ codes "://" ++ a ++ tail → IsScheme name → normal_scheme name ≡ codes "http"
     → IsAuthority a → IsTail tail kept → IsAbsolute t a
 absolute t name a tail kept spelled scheme http authority ends =
@@ -137,11 +152,13 @@ absolute t name a tail kept spelled scheme http authority ends =
     flip true e = absurd (differ (sym e))
     flip false e = refl
 
+-- both sides of a true conjunction are true
 both : (x y : Bool) → (x && y) ≡ true → (x ≡ true) × (y ≡ true)
 both true true e = (refl, refl)
 both true false e = absurd (differ (sym e))
 both false y e = absurd (differ (sym e))
 
+-- a target that is served has origin form, where that is allowed, or absolute form of its authority
 pub form_of : (adapted needs : Bool) (t : List ℕ) (s a : Option (List ℕ)) (kept : List ℕ) → IsUriText t s a kept
     → serves adapted needs t s a ≡ true → Form adapted t a
 form_of adapted needs t None None kept h e =
@@ -165,6 +182,7 @@ finds_authority needs t uri h e = told (uri_authority uri) (form_of false needs 
 
 -- ---- what is written of it is UTF-8
 
+-- the path and query of a target that is served are UTF-8
 path_utf8 : (adapted needs : Bool) (t : List ℕ) → IsServed adapted needs t → IsUtf8 (path_of t)
 path_utf8 adapted needs t h = told (uri_authority h.0) (form_of adapted needs t (uri_scheme h.0) (uri_authority h.0) (uri_data h.0) h.1 h.2)
   where
@@ -172,12 +190,14 @@ path_utf8 adapted needs t h = told (uri_authority h.0) (form_of adapted needs t 
     told None f = rw f.1 f.2
     told (Some a) f = rw f.plain f.utf8
 
+-- a path that is UTF-8 stays so when a slash is put before it
 rooted_utf8 : (p : List ℕ) → IsUtf8 p → IsUtf8 (rooted p)
 rooted_utf8 p u = elim (cases_Bool (is_rooted p)) [
   | inl on ↦ rw on u
   | inr off ↦ rw off (IsUtf8-append (47 ∷ []) p slash_utf8 u)
 ]
 
+-- the authority of a user's target that is served is UTF-8
 authority_utf8 : (needs : Bool) (t : List ℕ) → IsServed false needs t → IsUtf8 (authority_of t)
 authority_utf8 needs t h = told (uri_authority h.0) (form_of false needs t (uri_scheme h.0) (uri_authority h.0) (uri_data h.0) h.1 h.2)
   where
@@ -185,6 +205,7 @@ authority_utf8 needs t h = told (uri_authority h.0) (form_of false needs t (uri_
     told None f = absurd (differ (sym f.0))
     told (Some a) f = subst IsUtf8 (sym f.cut) (IsAuthority_utf8 a f.authority)
 
+-- the target that is written, of one that is served and a user's authority, is UTF-8
 pub target_utf8 : (adapted needs whose full : Bool) (t user : List ℕ) → IsServed adapted needs t → IsServed false whose user
     → IsUtf8 (target_form full (authority_of user) t)
 target_utf8 adapted needs whose false t user h u = rooted_utf8 (path_of t) (path_utf8 adapted needs t h)

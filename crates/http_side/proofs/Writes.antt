@@ -11,6 +11,7 @@ puts_both {a} {b} {c} {x} {y} p q = record {
   left = omega (arith, length-append x y);
 }
 
+-- the lines of some fields, put after those of others, are the lines of both lists
 pub puts_lines : {a b c : Written} (x y : List (List ℕ × List ℕ)) → Puts a b (field_lines x) → Puts b c (field_lines y)
     → Puts a c (field_lines (x ++ y))
 puts_lines {a} {b} {c} x y p q = let P : List ℕ → Type 0 = λ t. Puts a c t in subst P (sym (lines-append x y)) (puts_both p q)

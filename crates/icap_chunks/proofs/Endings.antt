@@ -15,10 +15,12 @@ use Rattle.icap_chunks.proofs.Standing.{HasEnded}
 use Rattle.icap_chunks.proofs.Standing.{LeavesAt}
 use Rattle.icap_chunks.proofs.Leaves.{text_leaves}
 
+-- a place that has an end is the place after the end
 pub ended_at : (p : Position) (ieof : Bool) → end_at p ≡ Some ieof → p ≡ Ended ieof
 unfolding end_at
 ended_at p ieof e = grind (arith)
 
+-- a reader after the end stays as it is, whatever bytes come
 pub run_ended : (sum : ℕ) (ieof : Bool) (bytes : List ℕ) → run (at sum (Ended ieof)) bytes ≡ at sum (Ended ieof)
 unfolding step
 run_ended sum ieof [] = refl
@@ -29,6 +31,7 @@ pub option_cases : {A : Type 0} (o : Option A) (P : Type 0) → ((x : A) → o �
 option_cases None P some none = none refl
 option_cases (Some x) P some none = some x refl
 
+-- what is there is not nothing
 pub some_none : {A : Type 0} {x : A} → Some x ≡ None → ⊥
 some_none e = cc
 
@@ -38,10 +41,12 @@ end_stays r ieof bytes e =
     let is = at_place r (Ended ieof) (ended_at r.place ieof e) in
     ap (λ x. end_of (run x bytes)) is ∙ ap end_of (run_ended r.sum ieof bytes) ∙ sym (ap end_of is) ∙ e
 
+-- after the CR of the last line, the body has not ended
 no_end_last : (sum count : ℕ) (ieof x : Bool) → end_of (at sum (LastCr count ieof)) ≡ Some x → ⊥
 unfolding end_at
 no_end_last sum count ieof x e = cc
 
+-- a text's first bytes, as many as a prefix has, are that prefix
 take-append-length : (xs ys : List ℕ) → take (length xs) (xs ++ ys) ≡ xs
 take-append-length xs ys = rw (take-append-le (length xs) xs ys (omega arith)) (take-length xs)
 
@@ -49,6 +54,7 @@ take-append-length xs ys = rw (take-append-le (length xs) xs ys (omega arith)) (
 front_of : (xs : List ℕ) (b k : ℕ) → k < length (xs ++ b ∷ []) → take k (xs ++ b ∷ []) ++ drop k xs ≡ xs
 front_of xs b k l = rw (take-append-le k xs (b ∷ []) (omega (arith, length-append xs (b ∷ [])))) (take-append-drop k xs)
 
+-- where the grammar has a body, a reader ends with its last byte, and has found its bytes
 pub chunked_ends : (text body : List ℕ) (ieof : Bool) → IsChunked text body ieof → EndsAt text ieof × (body_of start text ≡ body)
 unfolding end_at
 chunked_ends text body ieof w =
@@ -72,6 +78,7 @@ chunked_ends text body ieof w =
         ∙ (open_walk text body ieof w).reads in
         no_end_last (length body) (length w.trailers + 1) ieof x (ap end_of (sym is) ∙ stays)
 
+-- a text after which a reader is at the end, and after no shorter prefix, is a chunked body of the bytes found
 pub ends_chunked : (text : List ℕ) (ieof : Bool) → EndsAt text ieof → IsChunked text (body_of start text) ieof
 ends_chunked text ieof e =
     let place = ended_at (run start text).place ieof e.ended in
@@ -92,6 +99,7 @@ ends_chunked text ieof e =
 abbrev pub ReadsChunked : Type 0
 ReadsChunked = (text body : List ℕ) (ieof : Bool) → (EndsAt text ieof × (body_of start text ≡ body)) ↔ IsChunked text body ieof
 
+-- a reader ends at the last byte, with these bytes found, just where the grammar has such a body
 pub reads_chunked : ReadsChunked
 reads_chunked text body ieof = (
   λ e. let P : List ℕ → Type 0 = λ x. IsChunked text x ieof in subst P e.1 (ends_chunked text ieof e.0),

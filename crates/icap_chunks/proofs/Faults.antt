@@ -26,6 +26,7 @@ use Rattle.icap_chunks.proofs.Leaves.{step_leaves, start_leaves}
 
 -- ---- a text that stands somewhere leads there
 
+-- where a part after whole chunks leads a reader, chunks and part together lead it from the start
 front_walk : (text body part : List ℕ) (sum : ℕ) (f : Front text body part sum) (r : ChunkReader)
     → Walk (at (length body) (Digits 0 0)) part [] r → Walk start text body r
 front_walk text body part sum f r w = finding (of (on (chunks_walk f.chunks) w) (sym f.text_is)) (append-nil body)
@@ -35,6 +36,7 @@ place_walk : (text body part : List ℕ) (sum : ℕ) (f : Front text body part s
     → Walk (at (length body) (Digits 0 0)) part [] (at (length body) p) → Walk start text body (at sum p)
 place_walk text body part sum f p w = to (front_walk text body part sum f (at (length body) p) w) (ap (λ n. at n p) (sym f.sum_is))
 
+-- the digits of a size line lead a reader from the line's start to their count and their value
 digits_only : (sum count size : ℕ) (ds : List ℕ) → Rattle.std.specs.Str.Parse.AllDigits 16 ds → count ≡ length ds
     → digits_value 16 ds ≡ size → count ≤ 256 → size < 4611686018427387904
     → Walk (at sum (Digits 0 0)) ds [] (at sum (Digits count size))
@@ -44,11 +46,13 @@ digits_only sum count size ds all count_is size_is short fits =
     to (digits_walk sum 0 0 ds all (omega arith) low) (ap (λ k. at sum (Digits k (digits_value 16 ds))) same
     ∙ ap (λ v. at sum (Digits count v)) size_is)
 
+-- a text that stands in the digits of a size line leads a reader there
 digits_stand : (text body : List ℕ) (sum count size : ℕ) → InDigits text body sum count size
     → Walk start text body (at sum (Digits count size))
 digits_stand text body sum count size s = place_walk text body s.digits sum s.front (Digits count size)
     (digits_only (length body) count size s.digits s.all s.count_is s.size_is s.short s.fits)
 
+-- digits and one or more blanks lead a reader from the start of a size line into the blanks
 pad_part : (sum : ℕ) (digits pad : List ℕ) (size : ℕ) → Rattle.adapt_bytes.specs.Numeral.Writes 16 digits size → AllPass is_blank pad
     → 0 < length pad → length digits + length pad ≤ 256 → size < 4611686018427387904
     → Walk (at sum (Digits 0 0)) (digits ++ pad) [] (at sum (Pad (length digits + length pad) size))
@@ -61,11 +65,13 @@ pad_part sum digits (b ∷ pad) size w all some short fits =
     (blanks_walk sum (length digits + 1) size pad all.1 (omega arith))))
     (ap (λ k. at sum (Pad k size)) same)
 
+-- a text that stands in the blanks of a size line leads a reader there
 pad_stand : (text body : List ℕ) (sum count size : ℕ) → InPad text body sum count size → Walk start text body (at sum (Pad count size))
 pad_stand text body sum count size s = place_walk text body (s.digits ++ s.pad) sum s.front (Pad count size)
     (to (pad_part (length body) s.digits s.pad size s.writes s.blanks s.some (omega (arith, s.count_is, s.short)) s.fits)
     (ap (λ k. at (length body) (Pad k size)) (sym s.count_is)))
 
+-- digits, blanks and a semicolon lead a reader to the start of an extension
 extension_part : (sum : ℕ) (digits pad : List ℕ) (size : ℕ) → Rattle.adapt_bytes.specs.Numeral.Writes 16 digits size → AllPass is_blank pad
     → length digits + length pad < 256 → size < 4611686018427387904
     → Walk (at sum (Digits 0 0)) (digits ++ (pad ++ 59 ∷ [])) [] (extends sum (length digits + length pad + 1) size (Blank, false))
@@ -78,6 +84,7 @@ extension_part sum digits (b ∷ pad) size w all short fits =
     of (on (pad_part sum digits (b ∷ pad) size w all (omega arith) (omega arith) fits)
     (pad_extension sum (length digits + suc (length pad)) size short)) (append_assoc digits (b ∷ pad) (59 ∷ []))
 
+-- a text that stands in an extension leads a reader there, with the item and what was found
 extension_stand : (text body : List ℕ) (sum count size : ℕ) (item : Item) (found : Bool) → InExtension text body sum count size item found
     → Walk start text body (at sum (Extension count size item found))
 extension_stand text body sum count size item found s =
@@ -91,6 +98,7 @@ extension_stand text body sum count size item found s =
     ∙ ap (λ x. extends (length body) count size x) s.behind in
     place_walk text body _ sum s.front (Extension count size item found) (of (to walk there) (simp append_assoc))
 
+-- a text that stands after the CR of a size line leads a reader there
 line_end_stand : (text body : List ℕ) (sum size : ℕ) (ieof : Bool) → InLineEnd text body sum size ieof
     → Walk start text body (at sum (LineCr size ieof))
 line_end_stand text body sum size ieof s = place_walk text body (print_line s.l ++ 13 ∷ []) sum s.front (LineCr size ieof)
@@ -104,6 +112,7 @@ some_data sum size bytes s pos short is = record {
   finds = body_of_data sum (size - 1) bytes (omega arith);
 }
 
+-- a text in the data of a chunk, or just after it, leads a reader where the bytes after that data lead it
 chunk_part : (text body : List ℕ) (sum left : ℕ) (tail : List ℕ) (s : InChunk text body sum left tail) (p q : Position)
     → data_behind sum (s.size - 1) (length s.bytes) ≡ at sum p
     → Walk (at sum p) tail [] (at sum q) → Walk start text body (at sum q)
@@ -118,6 +127,7 @@ chunk_part text body sum left tail s p q is behind =
     (append_assoc (print_line s.l) (13 ∷ []) (10 ∷ (s.bytes ++ tail))) in
     finding (of (on (chunks_walk s.front.chunks) line) (sym s.front.text_is)) (ap (λ x. s.done ++ x) (append-nil s.bytes) ∙ sym s.body_is)
 
+-- a text that stands in the trailers leads a reader where the bytes after whole lines lead it
 trailers_part : (text body : List ℕ) (sum count : ℕ) (ieof : Bool) (part : List ℕ) (s : InTrailers text body sum count ieof part)
     (q : Position)
     → Walk (at (length body) (TrailerStart (length s.trailers) ieof)) part [] (at (length body) q) → Walk start text body (at sum q)
@@ -180,19 +190,23 @@ leaves_walk text body sum (Faulted fault) e f s = absurd (some_none f)
 
 -- ---- faults
 
+-- a place that has a fault is the place of that fault
 pub fault_is : (p : Position) (fault : ChunkFault) → faulted_at p ≡ Some fault → p ≡ Faulted fault
 unfolding faulted_at
 fault_is p fault e = grind (arith)
 
+-- nothing is not something
 pub none_some : {A : Type 0} {x : A} → None ≡ Some x → ⊥
 none_some e = cc
 
+-- a reader at a fault stays as it is, and finds no byte of the body any more
 pub fault_stays : (r : ChunkReader) (fault : ChunkFault) (bytes : List ℕ) → fault_of r ≡ Some fault
     → (run r bytes ≡ r) × (body_of r bytes ≡ [])
 fault_stays r fault bytes e =
     let is = at_place r (Faulted fault) (fault_is r.place fault e) in
     (ap (λ x. run x bytes) is ∙ run_faulted r.sum fault bytes ∙ sym is, ap (λ x. body_of x bytes) is ∙ body_of_faulted r.sum fault bytes)
 
+-- in the data of a chunk, or just after it, there is no fault
 data_place : (t : Bool) (n : ℕ) (fault : ChunkFault) → faulted_at (if t then Data n else DataEnd) ≡ Some fault → ⊥
 unfolding faulted_at
 data_place true n fault e = none_some e
@@ -247,6 +261,7 @@ fault_from front body r (b ∷ text) fault s sound e = option_cases (fault_of (s
         let Q : List ℕ → Type 0 = λ y. Breaks (front ++ b ∷ text) y fault in
         subst Q (append_assoc body d (body_of (step r b) text)) (subst P (append_assoc front (b ∷ []) text) x)
 
+-- before its first byte, a reader has no fault
 start_sound : fault_of start ≡ None
 unfolding faulted_at
 start_sound = refl
@@ -256,6 +271,7 @@ abbrev pub AnswersFaults : Type 0
 AnswersFaults = (text body : List ℕ) (fault : ChunkFault)
     → ((fault_of (run start text) ≡ Some fault) × (body_of start text ≡ body)) ↔ Breaks text body fault
 
+-- a reader answers a fault, with these bytes found, just where the text breaks the grammar so
 pub answers_faults : AnswersFaults
 answers_faults text body fault = (
   λ e. let P : List ℕ → Type 0 = λ x. Breaks text x fault in subst P e.1 (fault_from [] [] start text fault start_leaves start_sound e.0),

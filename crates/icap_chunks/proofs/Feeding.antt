@@ -17,13 +17,16 @@ use Rattle.icap_chunks.proofs.Runs.{run-append, body_of-append}
 use Rattle.icap_chunks.proofs.Faults.{answers_faults, fault_stays, fault_is}
 
 module _ (text body : List ℕ) (old new : ChunkReader) (h : HasRead text body old) (piece : List ℕ) where
+  -- more bytes after a text that was read lead where they lead the reader that has read it
   run_on : (bytes : List ℕ) → run start (text ++ bytes) ≡ run old bytes
   run_on bytes = run-append start text bytes ∙ ap (λ r. run r bytes) h.read
 
+  -- with more bytes, the body is what was found, and what the reader finds in them
   body_on : (bytes : List ℕ) → body_of start (text ++ bytes) ≡ body ++ body_of old bytes
   body_on bytes = body_of-append start text bytes ∙ ap (λ x. x ++ body_of (run start text) bytes) h.found
       ∙ ap (λ r. body ++ body_of r bytes) h.read
 
+  -- a reader that goes on, and meets no end before its last byte, has read the longer text
   pub HasRead-more : (used : ℕ) (part : List ℕ) → used ≤ length piece → new ≡ run old (take used piece)
       → part ≡ body_of old (take used piece)
       → ((k : ℕ) → k < used → end_of (run old (take k piece)) ≡ None) → HasRead (text ++ take used piece) (body ++ part) new
@@ -45,6 +48,7 @@ module _ (text body : List ℕ) (old new : ChunkReader) (h : HasRead text body o
     ];
   }
 
+  -- where a piece brings a fault, and none of its bytes is of the body, text and piece break the grammar
   pub breaks_more : (fault : ChunkFault) → fault_of new ≡ Some fault → new ≡ run old piece → body_of old piece ≡ []
       → Breaks (text ++ piece) body fault
   breaks_more fault is read none =
@@ -56,6 +60,7 @@ module _ (text body : List ℕ) (old new : ChunkReader) (h : HasRead text body o
 -- ---- the clauses of `feed`, from those of `read_piece`
 
 module _ (old new : ChunkReader) (piece : List ℕ) where
+  -- what was fed is read: the text and the used bytes, with the body and the part found
   pub fed_read : (r : Result Fed ChunkFault) → IfOk r (λ fed. (fed.part.0 ≤ fed.part.1) × (fed.part.1 ≤ fed.used)
       × (fed.used ≤ length piece))
       → IfOk r (λ fed. new ≡ run old (take fed.used piece))
@@ -66,15 +71,18 @@ module _ (old new : ChunkReader) (piece : List ℕ) where
   fed_read (Ok fed) within read part first = λ text body h. HasRead-more text body old new h piece fed.used _ within.2 read part first
   fed_read (Err fault) within read part first = tt
 
+  -- a piece that is answered with a fault breaks the grammar, after what was read
   pub fed_fault : (r : Result Fed ChunkFault) → IfErr r (λ fault. fault_of new ≡ Some fault) → IfErr r (λ fault. new ≡ run old piece)
       → IfErr r (λ fault. body_of old piece ≡ [])
       → IfErr r (λ fault. (text body : List ℕ) → HasRead text body old → Breaks (text ++ piece) body fault)
   fed_fault (Ok fed) is read none = tt
   fed_fault (Err fault) is read none = λ text body h. breaks_more text body old new h piece fault is read none
 
+  -- two equal answers that hold something hold the same
   same_some : {A : Type 0} {x y : A} → Some x ≡ Some y → x ≡ y
   same_some e = cc
 
+  -- a reader that had a fault before answers it again
   pub fed_faulted : (r : Result Fed ChunkFault) (o : Option ChunkFault) → fault_of old ≡ o
       → IfOk r (λ fed. new ≡ run old (take fed.used piece)) → OnOk r (fault_of new ≡ None)
       → IfErr r (λ fault. fault_of new ≡ Some fault) → IfErr r (λ fault. new ≡ run old piece) → IfSome o (λ fault. r ≡ Err fault)
@@ -84,6 +92,7 @@ module _ (old new : ChunkReader) (piece : List ℕ) where
   fed_faulted (Err x) (Some fault) e read none is read_all =
       ap Err (same_some (sym is ∙ ap fault_of (read_all ∙ (fault_stays old fault piece e).0) ∙ e))
 
+  -- a reader that was at the end stays so: it uses no byte, and says the end again
   pub fed_over : (r : Result Fed ChunkFault) (o : Option Bool) → end_of old ≡ o → IfOk r (λ fed. new ≡ run old (take fed.used piece))
       → IfOk r (λ fed. fed.ended ≡ end_of new)
       → IfOk r (λ fed. (k : ℕ) → k < fed.used → end_of (run old (take k piece)) ≡ None)

@@ -15,6 +15,7 @@ use Rattle.icap_chunks.proofs.LineSteps.{Front_more, Front_text, Front_as, All_p
 use Rattle.icap_chunks.proofs.LineSteps.{is_lt, line_byte_from, digits_step, pad_step, extension_step, line_end_step}
 
 module _ (text body : List ℕ) (sum more b : ℕ) (s : InChunk text body sum (more + 1) []) where
+  -- one more byte of a chunk's data is one more of the body, and one fewer is missing
   data_one : (left : ℕ) → left ≡ more → InChunk (text ++ b ∷ []) (body ++ b ∷ []) sum left []
   data_one left e = record {
     done = s.done;
@@ -30,6 +31,7 @@ module _ (text body : List ℕ) (sum more b : ℕ) (s : InChunk text body sum (m
     some = s.some;
   }
 
+  -- a byte of the data leaves a reader in the data, or after all of it
   data_step : LeavesAt (text ++ b ∷ []) (body ++ b ∷ []) sum (in_data more)
   unfolding in_data
   data_step = choose (LeavesAt (text ++ b ∷ []) (body ++ b ∷ []) sum) (nat_lt 0 more) _ _
@@ -40,6 +42,7 @@ module _ (text body : List ℕ) (sum more b : ℕ) (s : InChunk text body sum (m
       is_zero none = grind (arith, nat_tests)
 
 module _ (text body : List ℕ) (sum b : ℕ) where
+  -- after all data of a chunk, a byte leaves a reader after CR, or at a fault
   data_end_step : InChunk text body sum 0 [] → LeavesAt (text ++ b ∷ []) body sum (in_data_end b)
   unfolding in_data_end
   data_end_step s = choose (LeavesAt (text ++ b ∷ []) body sum) (b == 13) _ _
@@ -59,6 +62,7 @@ module _ (text body : List ℕ) (sum b : ℕ) where
       })
       (λ _. tt)
 
+  -- after the CR that follows a chunk's data, a byte leaves a reader after a whole chunk, or at a fault
   data_cr_step : InChunk text body sum 0 (13 ∷ []) → LeavesAt (text ++ b ∷ []) body sum (in_data_cr b)
   unfolding in_data_cr
   data_cr_step s = choose (LeavesAt (text ++ b ∷ []) body sum) (b == 10) _ _
@@ -101,6 +105,7 @@ module _ (text body : List ℕ) (sum count : ℕ) (ieof : Bool) (b : ℕ) where
     short = omega arith;
   }
 
+  -- at the start of a trailer line, a byte leaves a reader in a line, after the last CR, or at a fault
   trailer_start_step : InTrailers text body sum count ieof [] → LeavesAt (text ++ b ∷ []) body sum (in_trailer_start count ieof b)
   unfolding in_trailer_start
   trailer_start_step s = let G = LeavesAt (text ++ b ∷ []) body sum in choose G ((b == 10) || nat_le 8192 count) _ _ (λ _. tt)
@@ -112,6 +117,7 @@ module _ (text body : List ℕ) (sum count : ℕ) (ieof : Bool) (b : ℕ) where
           → InTrailers (text ++ b ∷ []) body sum (count + 1) ieof (13 ∷ [])
       ending e x = let P : ℕ → Type 0 = λ c. InTrailers (text ++ b ∷ []) body sum (count + 1) ieof (c ∷ []) in subst P e x
 
+  -- within a trailer line, a byte leaves a reader in the line, after its CR, or at a fault
   trailer_step : (part : List ℕ) → InTrailers text body sum count ieof part → 0 < length part → AllPass is_line_byte part
       → LeavesAt (text ++ b ∷ []) body sum (in_trailer count ieof b)
   unfolding in_trailer
@@ -129,14 +135,17 @@ module _ (text body : List ℕ) (sum count : ℕ) (ieof : Bool) (b : ℕ) where
           → InTrailers (text ++ b ∷ []) body sum (count + 1) ieof (part ++ 13 ∷ [])
       ending e x = let P : ℕ → Type 0 = λ c. InTrailers (text ++ b ∷ []) body sum (count + 1) ieof (part ++ c ∷ []) in subst P e x
 
+  -- where both hold, the first does
   both_left : (x y : Bool) → (x && y) ≡ true → x ≡ true
   both_left true y e = refl
   both_left false y e = e
 
+  -- where both hold, the second does
   both_right : (x y : Bool) → (x && y) ≡ true → y ≡ true
   both_right true y e = e
   both_right false y e = absurd (true≢false (sym e))
 
+  -- after the CR of a trailer line, a byte leaves a reader after a whole line, or at a fault
   trailer_cr_step : (part : List ℕ) → InTrailers text body sum count ieof (part ++ 13 ∷ []) → 0 < length part → AllPass is_line_byte part
       → LeavesAt (text ++ b ∷ []) body sum (in_trailer_cr count ieof b)
   unfolding in_trailer_cr
@@ -161,6 +170,7 @@ module _ (text body : List ℕ) (sum count : ℕ) (ieof : Bool) (b : ℕ) where
         short = omega arith;
       }
 
+  -- after the last CR, a byte leaves a reader at the end of the body, or at a fault
   last_cr_step : InTrailers text body sum count ieof (13 ∷ []) → LeavesAt (text ++ b ∷ []) body sum (in_last_cr count ieof b)
   unfolding in_last_cr
   last_cr_step s = choose (LeavesAt (text ++ b ∷ []) body sum) ((b == 10) && nat_lt count 8192) _ _
@@ -186,9 +196,11 @@ module _ (text body : List ℕ) (sum count : ℕ) (ieof : Bool) (b : ℕ) where
 
 -- one byte more
 module _ (text body : List ℕ) (b : ℕ) where
+  -- where no byte of the body comes, the text leaves its reader with the body as it was
   same : (r : ChunkReader) → LeavesReader (text ++ b ∷ []) body r → LeavesReader (text ++ b ∷ []) (body ++ []) r
   same r g = let P : List ℕ → Type 0 = λ x. LeavesReader (text ++ b ∷ []) x r in subst P (sym (append-nil body)) g
 
+  -- a text that begins with a whole body still does so with a byte more
   ended_step : (ieof : Bool) → HasEnded text body ieof → HasEnded (text ++ b ∷ []) body ieof
   ended_step ieof s = record {
     whole = s.whole;
@@ -197,6 +209,7 @@ module _ (text body : List ℕ) (b : ℕ) where
     text_is = ap (λ t. t ++ b ∷ []) s.text_is ∙ append_assoc s.whole s.rest (b ∷ []);
   }
 
+  -- a text with a byte more leaves its reader where the step goes, with the byte in the body if it is data
   pub step_leaves : (sum : ℕ) (p : Position) → LeavesAt text body sum p
       → LeavesReader (text ++ b ∷ []) (body ++ (if is_data p then b ∷ [] else [])) (step (record { sum = sum; place = p }) b)
   unfolding step is_data

@@ -21,6 +21,7 @@ use Rattle.icap_chunks.proofs.Words.{extension_behind-append, answer, extension_
 
 -- ---- one byte more
 
+-- with a byte more, a text has the same whole chunks, and the part after them has the byte more
 pub Front_more : {text body part : List ℕ} {sum : ℕ} (b : ℕ) → Front text body part sum → Front (text ++ b ∷ []) body (part ++ b ∷ []) sum
 Front_more {text} {body} {part} {sum} b f = record {
   front = f.front;
@@ -29,41 +30,52 @@ Front_more {text} {body} {part} {sum} b f = record {
   text_is = ap (λ t. t ++ b ∷ []) f.text_is ∙ append_assoc f.front part (b ∷ []);
 }
 
+-- with a byte more, a text is its whole chunks, the part and that byte
 pub Front_text : {text body part : List ℕ} {sum : ℕ} (b : ℕ) (f : Front text body part sum) → text ++ b ∷ [] ≡ f.front ++ (part ++ b ∷ [])
 Front_text {text} {body} {part} {sum} b f = ap (λ t. t ++ b ∷ []) f.text_is ∙ append_assoc f.front part (b ∷ [])
 
+-- a part that is equal to another stands after the same whole chunks
 pub Front_as : {text body part other : List ℕ} {sum : ℕ} → Front text body part sum → part ≡ other → Front text body other sum
 Front_as f e = record { front = f.front; chunks = f.chunks; sum_is = f.sum_is; text_is = f.text_is ∙ ap (λ p. f.front ++ p) e }
 
+-- bytes that pass, and one more that passes, all pass
 pub All_push : (test : ℕ → Bool) (bytes : List ℕ) (b : ℕ) → AllPass test bytes → test b ≡ true → AllPass test (bytes ++ b ∷ [])
 All_push test [] b all pass = (pass, tt)
 All_push test (c ∷ bytes) b all pass = (all.0, All_push test bytes b all.1 pass)
 
+-- what holds of both places of a choice, each under its test, holds of the choice
 pub choose : (P : Position → Type 0) (t : Bool) (x y : Position) → (t ≡ true → P x) → (t ≡ false → P y) → P (if t then x else y)
 choose P true x y p q = p refl
 choose P false x y p q = q refl
 
+-- a number that isn't zero is more than zero
 pub pos_from : (n : ℕ) → (n == 0) ≡ false → 0 < n
 pos_from n e = grind (arith, nat_tests)
 
+-- where neither of two tests holds, the first doesn't
 pub or_left : (a b : Bool) → (a || b) ≡ false → a ≡ false
 or_left false b e = refl
 or_left true b e = absurd (true≢false e)
 
+-- where neither of two tests holds, the second doesn't
 pub or_right : (a b : Bool) → (a || b) ≡ false → b ≡ false
 or_right false b e = e
 or_right true b e = absurd (true≢false e)
 
+-- where the test for at most fails, the second number is the smaller
 pub is_nle : (m n : ℕ) → nat_le m n ≡ false → n < m
 is_nle m n e = grind (arith, nat_tests)
 
+-- numbers that pass the test for equal are equal
 pub is_eq : (m n : ℕ) → (m == n) ≡ true → m ≡ n
 is_eq m n e = grind (arith, nat_tests)
 
+-- a number that passes the test for less than another is less than it
 pub is_lt : (m n : ℕ) → nat_lt m n ≡ true → m < n
 is_lt m n e = grind (arith, nat_tests)
 
 module _ (text body : List ℕ) (sum count size b : ℕ) (s : InDigits text body sum count size) where
+  -- one more digit, where the line has room and the size fits, is one of the digits of the size line
   digits_one : digit_value b < 16 → count < 256 → size * 16 + digit_value b < 4611686018427387904
       → InDigits (text ++ b ∷ []) body sum (count + 1) (size * 16 + digit_value b)
   digits_one low room fits = record {
@@ -76,9 +88,11 @@ module _ (text body : List ℕ) (sum count size b : ℕ) (s : InDigits text body
     fits = fits;
   }
 
+  -- one or more digits in which a text stands write the size
   writes : 0 < count → Writes 16 s.digits size
   writes pos = record { digits = (omega (arith, s.count_is), s.all); value = s.size_is }
 
+  -- a blank after one or more digits is the first of the blanks, where the line has room
   digits_blank : 0 < count → count < 256 → is_blank b ≡ true → InPad (text ++ b ∷ []) body sum (count + 1) size
   digits_blank pos room pass = record {
     digits = s.digits;
@@ -92,6 +106,7 @@ module _ (text body : List ℕ) (sum count size b : ℕ) (s : InDigits text body
     fits = s.fits;
   }
 
+  -- a semicolon after one or more digits starts an extension, where the line has room
   digits_extension : b ≡ 59 → 0 < count → count < 256 → InExtension (text ++ b ∷ []) body sum (count + 1) size Blank false
   digits_extension e pos room = record {
     digits = s.digits;
@@ -107,6 +122,7 @@ module _ (text body : List ℕ) (sum count size b : ℕ) (s : InDigits text body
     fits = s.fits;
   }
 
+  -- a CR after one or more digits ends a size line that has no extension
   digits_end : b ≡ 13 → 0 < count → InLineEnd (text ++ b ∷ []) body sum size false
   digits_end e pos = record {
     l = record { digits = s.digits; pad = []; extension = None };
@@ -121,6 +137,7 @@ module _ (text body : List ℕ) (sum count size b : ℕ) (s : InDigits text body
     ieof_is = refl;
   }
 
+  -- in the digits, a byte leaves a reader in the size line, after its CR, or at a fault
   pub digits_step : LeavesAt (text ++ b ∷ []) body sum (in_digits count size b)
   unfolding in_digits
   digits_step = let G = LeavesAt (text ++ b ∷ []) body sum in choose G (b == 13) _ _
@@ -132,6 +149,7 @@ module _ (text body : List ℕ) (sum count size b : ℕ) (s : InDigits text body
       (λ _. choose G (b == 59) _ _ (λ e. digits_extension (is_eq b 59 e) (pos_from count pos) room) (λ _. tt))))))
 
 module _ (text body : List ℕ) (sum count size b : ℕ) (s : InPad text body sum count size) where
+  -- one more blank after the digits is one of the blanks, where the line has room
   pad_blank : count < 256 → is_blank b ≡ true → InPad (text ++ b ∷ []) body sum (count + 1) size
   pad_blank room pass = record {
     digits = s.digits;
@@ -145,6 +163,7 @@ module _ (text body : List ℕ) (sum count size b : ℕ) (s : InPad text body su
     fits = s.fits;
   }
 
+  -- a semicolon after the blanks starts an extension, where the line has room
   pad_extension : b ≡ 59 → count < 256 → InExtension (text ++ b ∷ []) body sum (count + 1) size Blank false
   pad_extension e room = record {
     digits = s.digits;
@@ -160,6 +179,7 @@ module _ (text body : List ℕ) (sum count size b : ℕ) (s : InPad text body su
     fits = s.fits;
   }
 
+  -- a CR after the blanks ends a size line that has no extension
   pad_end : b ≡ 13 → InLineEnd (text ++ b ∷ []) body sum size false
   pad_end e = record {
     l = record { digits = s.digits; pad = s.pad; extension = None };
@@ -175,6 +195,7 @@ module _ (text body : List ℕ) (sum count size b : ℕ) (s : InPad text body su
     ieof_is = refl;
   }
 
+  -- in the blanks, a byte leaves a reader in the size line, after its CR, or at a fault
   pub pad_step : LeavesAt (text ++ b ∷ []) body sum (in_pad count size b)
   unfolding in_pad
   pad_step = let G = LeavesAt (text ++ b ∷ []) body sum in choose G (b == 13) _ _ (λ e. pad_end (is_eq b 13 e))
@@ -182,6 +203,7 @@ module _ (text body : List ℕ) (sum count size b : ℕ) (s : InPad text body su
       choose G (is_blank b) _ _ (λ pass. pad_blank room pass)
       (λ _. choose G (b == 59) _ _ (λ e. pad_extension (is_eq b 59 e) room) (λ _. tt))))
 
+-- a byte that is neither CR nor LF may stand in an extension or a trailer line
 pub line_byte_from : (b : ℕ) → (b == 13) ≡ false → (b == 10) ≡ false → is_line_byte b ≡ true
 line_byte_from b p q = rw (p, q) refl
 
@@ -240,16 +262,19 @@ module _ (text body : List ℕ) (sum count size : ℕ) (item : Item) (found : Bo
 abbrev pub LeavesReader : List ℕ → List ℕ → ChunkReader → Type 0
 LeavesReader text body r = LeavesAt text body r.sum r.place
 
+-- what holds of both readers of a choice, each under its test, holds of the choice
 pub choose_reader : (P : ChunkReader → Type 0) (t : Bool) (x y : ChunkReader) → (t ≡ true → P x) → (t ≡ false → P y)
     → P (if t then x else y)
 choose_reader P true x y p q = p refl
 choose_reader P false x y p q = q refl
 
 module _ (text body : List ℕ) (sum size : ℕ) (ieof : Bool) (b : ℕ) (s : InLineEnd text body sum size ieof) where
+  -- after the LF of a size line, the line with its CR LF is all that stands after the whole chunks
   line_front : b ≡ 10 → Front (text ++ b ∷ []) body (print_line s.l ++ (13 ∷ 10 ∷ ([] ++ []))) sum
   line_front e = Front_as (Front_more b s.front) (append_assoc (print_line s.l) (13 ∷ []) (b ∷ [])
       ∙ ap (λ c. print_line s.l ++ (13 ∷ c ∷ [])) e)
 
+  -- the LF of a size line whose size is zero begins the trailers
   last_one : b ≡ 10 → size ≡ 0 → InTrailers (text ++ b ∷ []) body (sum + size) 0 ieof []
   last_one e none = record {
     l = s.l;
@@ -262,6 +287,7 @@ module _ (text body : List ℕ) (sum size : ℕ) (ieof : Bool) (b : ℕ) (s : In
     short = lit≤ tt;
   }
 
+  -- the LF of a size line of one or more bytes, whose sum fits, begins the data of a chunk
   first_data : b ≡ 10 → 0 < size → sum + size < 4611686018427387904 → InChunk (text ++ b ∷ []) body (sum + size) (size - 1 + 1) []
   first_data e some fits = record {
     done = body;
@@ -277,6 +303,7 @@ module _ (text body : List ℕ) (sum size : ℕ) (ieof : Bool) (b : ℕ) (s : In
     some = some;
   }
 
+  -- after the CR of a size line, a byte leaves a reader in the data, at the trailers, or at a fault
   pub line_end_step : LeavesReader (text ++ b ∷ []) body (in_line_cr sum size ieof b)
   unfolding in_line_cr
   line_end_step = let G = LeavesReader (text ++ b ∷ []) body in choose_reader G (b == 10) _ _

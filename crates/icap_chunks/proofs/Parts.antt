@@ -35,9 +35,11 @@ pub record AtPlace (text body : List ℕ) (part : Part) : Type 0 where
   pub sound : faulted_at place ≡ None
   pub same : SameFaults body sum place part
 
+-- where a part stands after whole chunks, a tail that equals it comes after the same chunks
 behind_of : {text body part tail : List ℕ} {sum : ℕ} → Front text body part sum → part ≡ tail → Behind text body tail
 behind_of f e = record { front = f.front; chunks = f.chunks; text_is = f.text_is ∙ ap (λ t. f.front ++ t) e }
 
+-- where a tail comes after whole chunks, a part that equals it stands there, with the body's length as the sum
 front_of : {text body tail part : List ℕ} → Behind text body tail → tail ≡ part → Front text body part (length body)
 front_of f e = record { front = f.front; chunks = f.chunks; text_is = f.text_is ∙ ap (λ t. f.front ++ t) e; sum_is = refl }
 
@@ -48,6 +50,7 @@ summed body sum place part is same b = ap (λ n. fault_of (step (at n place) b))
 
 -- ---- from a place
 
+-- a text that stands in the digits of a size line ends in a part with the same faults
 digits_part : (text body : List ℕ) (sum count size : ℕ) → InDigits text body sum count size → InPart text body sum (Digits count size)
 digits_part text body sum count size s =
     let nil : s.digits ≡ s.digits ++ ([] ++ []) = sym (append-nil s.digits) in
@@ -78,6 +81,7 @@ pad_same body sum count size (d ∷ digits) (p ∷ pad) some more count_is b = p
     pad_table_at : (base : ℕ) → fault_of (step (at sum (Pad count size)) b) ≡ fault_at base (in_line (d ∷ digits) (p ∷ pad) None) b
     pad_table_at base = pad_table sum count size b d p digits pad count_is
 
+-- a text that stands in the blanks of a size line ends in a part with the same faults
 pad_part : (text body : List ℕ) (sum count size : ℕ) → InPad text body sum count size → InPart text body sum (Pad count size)
 pad_part text body sum count size s =
     let nil : s.digits ++ s.pad ≡ s.digits ++ (s.pad ++ []) = ap (λ p. s.digits ++ p) (sym (append-nil s.pad)) in
@@ -96,6 +100,7 @@ pad_part text body sum count size s =
       same = pad_same body sum count size s.digits s.pad s.writes.digits.0 s.some count_is;
     }
 
+-- an extension after one or more digits has the same faults for the reader as in the grammar
 extension_same : (body : List ℕ) (sum count size : ℕ) (digits pad extension : List ℕ) (item : Item) (found : Bool) → 0 < length digits
     → count ≡ length (digits ++ (pad ++ 59 ∷ extension))
     → SameFaults body sum (Extension count size item found) (in_line digits pad (Some extension))
@@ -108,10 +113,12 @@ extension_same body sum count size (d ∷ digits) pad extension item found some 
     extension_table_at [] is = extension_table sum count size b d digits [] extension item found is
     extension_table_at (p ∷ pad) is = extension_table sum count size b d digits (p ∷ pad) extension item found is
 
+-- digits, blanks, a semicolon and an extension are together as long as their line
 extension_count : (digits pad extension : List ℕ) → length digits + (length pad + suc (length extension))
     ≡ length (digits ++ (pad ++ 59 ∷ extension))
 extension_count digits pad extension = omega (arith, length-append digits (pad ++ 59 ∷ extension), length-append pad (59 ∷ extension))
 
+-- a text that stands in an extension ends in a part with the same faults
 extension_part : (text body : List ℕ) (sum count size : ℕ) (item : Item) (found : Bool) → InExtension text body sum count size item found
     → InPart text body sum (Extension count size item found)
 extension_part text body sum count size item found s =
@@ -130,6 +137,7 @@ extension_part text body sum count size item found s =
       same = extension_same body sum count size s.digits s.pad s.extension item found s.writes.digits.0 count_is;
     }
 
+-- a text that stands in a chunk for the reader ends in one for the grammar, with as much missing
 chunk_part : {text body tail : List ℕ} {sum left : ℕ} → ChunkStands text body sum left tail → InChunk text body left tail
 chunk_part s = record {
   done = s.done;
@@ -144,6 +152,7 @@ chunk_part s = record {
   missing_is = s.left_is;
 }
 
+-- a text that stands in the trailers ends in them, where its part is bytes of a line and a tail
 trailers_part : {text body part tail : List ℕ} {sum count : ℕ} {ieof : Bool} (line : List ℕ) → AllPass is_line_byte line
     → part ≡ line ++ tail
     → TrailersStand text body sum count ieof part → InTrailers text body count tail
@@ -159,6 +168,7 @@ trailers_part {text} {body} {part} {tail} {sum} {count} line bytes is s = record
   short = s.short;
 }
 
+-- a text that stands at a place that is no end and no fault ends in a part with the same faults
 pub place_part : (text body : List ℕ) (sum : ℕ) (place : Position) → LeavesAt text body sum place → end_at place ≡ None
     → faulted_at place ≡ None → InPart text body sum place
 unfolding end_at faulted_at
@@ -203,6 +213,7 @@ place_part text body sum (Faulted fault) s quiet sound = absurd cc
 
 -- ---- from a part
 
+-- a text that ends within a size line stands at a place with the same faults
 line_place : (text body digits pad : List ℕ) (extension : Option (List ℕ)) → InLine text body digits pad extension
     → AtPlace text body (in_line digits pad extension)
 unfolding end_at faulted_at
@@ -280,6 +291,7 @@ line_place text body (d ∷ digits) pad (Some extension) s =
           b d digits pad extension kept.0 kept.1 count;
     }
 
+-- a text that ends in a chunk for the grammar stands in one for the reader, with its size in the sum
 chunk_place : {text body tail : List ℕ} {left : ℕ} (s : InChunk text body left tail)
     → ChunkStands text body (length s.done + s.size) left tail
 chunk_place s = record {
@@ -296,6 +308,7 @@ chunk_place s = record {
   some = s.some;
 }
 
+-- a text that ends in trailers for the grammar stands in them for the reader, at the same line
 trailers_place : {text body tail : List ℕ} {count : ℕ} (s : InTrailers text body count tail) (line : List ℕ) → s.line ≡ line
     → TrailersStand text body (length body) count (has_ieof s.last.extension) (line ++ tail)
 trailers_place {text} {body} {tail} {count} s line is = record {
@@ -309,6 +322,7 @@ trailers_place {text} {body} {tail} {count} s line is = record {
   short = s.short;
 }
 
+-- a text that ends within the trailers stands at a place with the same faults
 in_trailers_place : (text body : List ℕ) (count : ℕ) (s : InTrailers text body count []) (line : List ℕ) → s.line ≡ line
     → AtPlace text body (in_trailers count)
 unfolding end_at faulted_at
@@ -338,6 +352,7 @@ in_trailers_place text body count s (c ∷ line) is = record {
     lit_pos : (c : ℕ) (line : List ℕ) → 0 < length (c ∷ line)
     lit_pos c line = omega arith
 
+-- a text that ends after a CR of the trailers stands at a place with the same faults
 behind_trailers_place : (text body : List ℕ) (count : ℕ) (s : InTrailers text body count (13 ∷ [])) (line : List ℕ) → s.line ≡ line
     → AtPlace text body (behind_trailers_cr count)
 unfolding end_at faulted_at
@@ -366,6 +381,7 @@ behind_trailers_place text body count s (c ∷ line) is = record {
     lit_pos : (c : ℕ) (line : List ℕ) → 0 < length (c ∷ line)
     lit_pos c line = omega arith
 
+-- a text that ends in a part stands at a place with the same faults, which is no end and no fault
 pub part_place : (text body : List ℕ) (part : Part) → EndsIn text body part → AtPlace text body part
 unfolding end_at faulted_at
 part_place text body (in_line digits pad extension) s = line_place text body digits pad extension s

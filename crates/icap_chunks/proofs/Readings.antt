@@ -30,6 +30,7 @@ record Open (text body : List ℕ) : Type 0 where
   no_fault : fault_of (run start text) ≡ None
   found : body_of start text ≡ body
 
+-- a text that ends in a part leaves its reader at no end and no fault, with the part's body found
 more_open : (text body : List ℕ) (part : Part) → EndsIn text body part → Open text body
 more_open text body part ends =
     let p = part_place text body part ends in
@@ -43,6 +44,7 @@ ended_run text body ieof used is =
     ap (λ t. end_of (run start t)) (sym (take-append-drop used text)) ∙ ap end_of (run-append start (take used text) (drop used text))
     ∙ end_stays (run start (take used text)) ieof (drop used text) ends
 
+-- a reader isn't both at the end and at a fault
 not_both : (r : ChunkReader) (ieof : Bool) (fault : ChunkFault) → end_of r ≡ Some ieof → fault_of r ≡ Some fault → ⊥
 not_both r ieof fault e f = apart r.place (ended_at r.place ieof e) (fault_is r.place fault f)
   where
@@ -59,6 +61,7 @@ not_before text a b i j u v within x y l =
     let none = (chunked_ends (take v text) b j y).0.first u (omega (arith, len)) in
     some_none (sym ends ∙ ap (λ t. end_of (run start t)) (sym cut) ∙ none)
 
+-- two prefixes of one text that are whole bodies are equally long
 same_use : (text a b : List ℕ) (i j : Bool) (u v : ℕ) → u ≤ length text → v ≤ length text → IsChunked (take u text) a i
     → IsChunked (take v text) b j → u ≡ v
 same_use text a b i j u v uw vw x y = elim (cases_lt u v) [
@@ -69,9 +72,11 @@ same_use text a b i j u v uw vw x y = elim (cases_lt u v) [
   ]
 ]
 
+-- what two answers hold is the same where the answers are equal
 same_some : {A : Type 0} {x y : A} → Some x ≡ Some y → x ≡ y
 same_some e = cc
 
+-- two readings of a text have the same body and the same outcome
 pub one_outcome : (text a b : List ℕ) (p q : Outcome) → IsReading text a p → IsReading text b q → (a ≡ b) × (p ≡ q)
 one_outcome text a b (Ended i u) (Ended j v) x y =
     let at = same_use text a b i j u v x.0 y.0 x.1 y.1 in
@@ -104,12 +109,15 @@ reads_more text body r h no_end no_fault =
     let P : List ℕ → Type 0 = λ b. (part : Part) × EndsIn text b part in
     subst P h.found (p.part, p.ends)
 
+-- a text whose reader is at the end, and wasn't before its last byte, is a whole body
 pub reads_end : (text body : List ℕ) (r : ChunkReader) (ieof : Bool) → HasRead text body r → end_of r ≡ Some ieof → IsChunked text body ieof
 reads_end text body r ieof h e = (reads_chunked text body ieof).0 (record { ended = ap end_of h.read ∙ e; first = h.first }, h.found)
 
+-- a reader before its first byte has read the empty text
 pub reads_nothing : end_of start ≡ None → HasRead [] [] start
 reads_nothing none = record { read = refl; found = refl; first = λ k l. absurd (omega arith) }
 
+-- a text that breaks the grammar breaks it in the same way with more bytes after it
 pub breaks_longer : (text more body : List ℕ) (fault : ChunkFault) → Breaks text body fault → Breaks (text ++ more) body fault
 breaks_longer text more body fault b = record {
   good = b.good;
@@ -121,6 +129,7 @@ breaks_longer text more body fault b = record {
   text_is = ap (λ t. t ++ more) b.text_is ∙ append_assoc b.good _ more;
 }
 
+-- a text whose reader has a fault breaks the grammar with that fault
 pub reads_fault : (text body : List ℕ) (r : ChunkReader) (fault : ChunkFault) → HasRead text body r → fault_of r ≡ Some fault
     → Breaks text body fault
 reads_fault text body r fault h e = (answers_faults text body fault).0 (ap fault_of h.read ∙ e, h.found)

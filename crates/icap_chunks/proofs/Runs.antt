@@ -12,22 +12,27 @@ use Rattle.icap_chunks.specs.declared.reader.ChunkReader.{ChunkReader}
 use Rattle.icap_chunks.specs.declared.fault.ChunkFault.{ChunkFault}
 use Rattle.icap_chunks.specs.Machine.{step, run, body_of, is_data, pauses_at, end_at, end_of, faulted_at, fault_of, in_data, data_behind}
 
+-- two lists of bytes lead a reader where the second leads it from after the first
 pub run-append : (r : ChunkReader) (xs ys : List ℕ) → run r (xs ++ ys) ≡ run (run r xs) ys
 run-append r [] ys = refl
 run-append r (x ∷ xs) ys = run-append (step r x) xs ys
 
+-- the body in two lists of bytes is that in the first, and then that in the second
 pub body_of-append : (r : ChunkReader) (xs ys : List ℕ) → body_of r (xs ++ ys) ≡ body_of r xs ++ body_of (run r xs) ys
 body_of-append r [] ys = refl
 body_of-append r (x ∷ xs) ys = rw (body_of-append (step r x) xs ys) (sym
     (append_assoc _ (body_of (step r x) xs) (body_of (run (step r x) xs) ys)))
 
+-- a reader after one byte more of a text is one step further
 pub run_more : (r : ChunkReader) (xs : List ℕ) (k : ℕ) → k < length xs → run r (take (k + 1) xs) ≡ step (run r (take k xs)) (get_or xs k 0)
 run_more r xs k l = ap (run r) (take_more xs k 0 l) ∙ run-append r (take k xs) (get_or xs k 0 ∷ [])
 
+-- where framing does not pause, the next byte is none of the body
 pub no_data : (p : Position) → pauses_at p ≡ false → is_data p ≡ false
 unfolding pauses_at is_data
 no_data p h = grind (arith)
 
+-- where framing does not pause, the body has not ended
 pub no_end : (p : Position) → pauses_at p ≡ false → end_at p ≡ None
 unfolding pauses_at end_at
 no_end p h = grind (arith)
@@ -42,21 +47,27 @@ framing_body r xs (suc n) l h =
     let cut : take (suc n) xs ≡ take n xs ++ get_or xs n 0 ∷ [] = take-suc xs n 0 (omega arith) in
     rw cut (body_of-append r (take n xs) (get_or xs n 0 ∷ []) ∙ rw (before, here) refl)
 
+-- a number that is at most another passes the test for that
 leb-is-true : (m n : ℕ) → m ≤ n → nat_le m n ≡ true
 leb-is-true m n l = grind (arith, nat_tests)
 
+-- a number that is more than another fails the test for at most
 leb-is-false : (m n : ℕ) → n < m → nat_le m n ≡ false
 leb-is-false m n l = grind (arith, nat_tests)
 
+-- a number that is less than another passes the test for that
 ltb-is-true : (m n : ℕ) → m < n → nat_lt m n ≡ true
 ltb-is-true m n l = grind (arith, nat_tests)
 
+-- after some bytes of a run, but not all, the reader is in the data
 pub behind_more : (sum more n : ℕ) → n ≤ more → data_behind sum more n ≡ record { sum = sum; place = Data (more - n) }
 behind_more sum more n l = rw (leb-is-true n more l) refl
 
+-- after all bytes of a run, the reader is just after the data
 pub behind_all : (sum more n : ℕ) → more < n → data_behind sum more n ≡ record { sum = sum; place = DataEnd }
 behind_all sum more n l = rw (leb-is-false n more l) refl
 
+-- a run with one byte fewer, of which one byte fewer is read, leaves the reader the same
 same_behind : (sum more n : ℕ) → 0 < more → data_behind sum (more - 1) n ≡ data_behind sum more (suc n)
 same_behind sum more n pos = elim (cases_lt more (suc n)) [
   | inl over ↦ behind_all sum (more - 1) n (omega arith) ∙ sym (behind_all sum more (suc n) over)
@@ -68,10 +79,12 @@ same_behind sum more n pos = elim (cases_lt more (suc n)) [
       first ∙ sym (behind_more sum more (suc n) below)
 ]
 
+-- a byte of a run that has others after it leaves one fewer of them
 in_data_more : (more : ℕ) → 0 < more → in_data more ≡ Data (more - 1)
 unfolding in_data
 in_data_more more pos = rw (ltb-is-true 0 more pos) refl
 
+-- the last byte of a run leaves the reader where the whole run does
 last_data : (sum : ℕ) → record { sum = sum; place = in_data 0 } ≡ data_behind sum 0 1
 unfolding in_data
 last_data sum = refl
@@ -98,33 +111,40 @@ body_of_data sum zero (b ∷ c ∷ bytes) l = absurd (omega arith)
 body_of_data sum (suc more) (b ∷ bytes) l =
     rw (in_data_more (suc more) (omega arith)) (ap (λ rest. b ∷ rest) (body_of_data sum (suc more - 1) bytes (omega arith)))
 
+-- a reader at a fault stays at it, whatever bytes come
 pub run_faulted : (sum : ℕ) (fault : ChunkFault) (bytes : List ℕ)
     → run (record { sum = sum; place = Faulted fault }) bytes ≡ record { sum = sum; place = Faulted fault }
 unfolding step
 run_faulted sum fault [] = refl
 run_faulted sum fault (b ∷ bytes) = run_faulted sum fault bytes
 
+-- a reader at a fault finds no byte of the body
 pub body_of_faulted : (sum : ℕ) (fault : ChunkFault) (bytes : List ℕ) → body_of (record { sum = sum; place = Faulted fault }) bytes ≡ []
 unfolding step is_data
 body_of_faulted sum fault [] = refl
 body_of_faulted sum fault (b ∷ bytes) = body_of_faulted sum fault bytes
 
+-- a place in the data, or just after it, has no end
 end_of_choice : (b : Bool) (n : ℕ) → end_at (if b then Data n else DataEnd) ≡ None
 unfolding end_at
 end_of_choice true n = refl
 end_of_choice false n = refl
 
+-- after any bytes of a run, the body has not ended
 pub end_of_behind : (sum more n : ℕ) → end_of (data_behind sum more n) ≡ None
 end_of_behind sum more n = end_of_choice (nat_le n more) (more - n)
 
+-- a place in the data, or just after it, has no fault
 fault_of_choice : (b : Bool) (n : ℕ) → faulted_at (if b then Data n else DataEnd) ≡ None
 unfolding faulted_at
 fault_of_choice true n = refl
 fault_of_choice false n = refl
 
+-- after any bytes of a run, there is no fault
 pub fault_of_behind : (sum more n : ℕ) → fault_of (data_behind sum more n) ≡ None
 fault_of_behind sum more n = fault_of_choice (nat_le n more) (more - n)
 
+-- after all bytes of a run, the next byte is none of the body
 pub no_data_behind : (sum more n : ℕ) → more < n → is_data (data_behind sum more n).place ≡ false
 unfolding is_data
 no_data_behind sum more n l = ap (λ r. is_data r.place) (behind_all sum more n l)
@@ -135,14 +155,17 @@ pub pauses_cases : (p : Position) → pauses_at p ≡ true
 unfolding pauses_at
 pauses_cases p h = grind (arith)
 
+-- a place that is that of no fault has none
 pub no_fault_here : (p : Position) → ((fault : ChunkFault) → p ≡ Faulted fault → ⊥) → faulted_at p ≡ None
 unfolding faulted_at
 no_fault_here p h = grind (arith)
 
+-- a place that is that of no end has none
 pub no_end_here : (p : Position) → ((ieof : Bool) → p ≡ Ended ieof → ⊥) → end_at p ≡ None
 unfolding end_at
 no_end_here p h = grind (arith)
 
+-- a reader is its sum, and the place at which it is
 pub at_place : (r : ChunkReader) (p : Position) → r.place ≡ p → r ≡ record { sum = r.sum; place = p }
 at_place r p at = ap (λ q. record { sum = r.sum; place = q }) at
 
@@ -154,19 +177,23 @@ pub record Framing (old : ChunkReader) (piece : List ℕ) (n : ℕ) (new : Chunk
   pub stops : n < length piece → pauses_at new.place ≡ true
 
 module _ (old : ChunkReader) (piece : List ℕ) (n : ℕ) (mid : ChunkReader) (f : Framing old piece n mid) where
+  -- the bytes of the body in framing are none, as in the empty range of the piece where the framing stops
   pub framing_part : slice_range piece n n ≡ body_of old (take n piece)
   framing_part = let none : n - n ≡ 0 = omega arith in
       ap (λ k. take k (drop n piece)) none ∙ sym (framing_body old piece n f.within f.framing)
 
+  -- before all of the framing is read, the body has not ended
   pub framing_end_first : (k : ℕ) → k < n → end_of (run old (take k piece)) ≡ None
   framing_end_first k below = no_end (run old (take k piece)).place (f.framing k below)
 
+  -- where framing stops at a fault, the reader is as after the whole piece
   pub fault_read : (fault : ChunkFault) → mid.place ≡ Faulted fault → mid ≡ run old piece
   fault_read fault at =
       let mid-is = at_place mid (Faulted fault) at in
       mid-is ∙ sym (run_faulted mid.sum fault (drop n piece)) ∙ ap (λ r. run r (drop n piece)) (sym mid-is ∙ f.read)
       ∙ sym (run-append old (take n piece) (drop n piece)) ∙ ap (run old) (take-append-drop n piece)
 
+  -- where framing stops at a fault, the whole piece has no byte of the body
   pub fault_part : (fault : ChunkFault) → mid.place ≡ Faulted fault → body_of old piece ≡ []
   fault_part fault at =
       let mid-is = at_place mid (Faulted fault) at in

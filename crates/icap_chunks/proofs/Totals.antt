@@ -18,10 +18,12 @@ NoneEnds text n = (k : ℕ) → k < n → end_of (run start (take k text)) ≡ N
 abbrev FirstEnds : List ℕ → ℕ → Type 0
 FirstEnds text n = (k : ℕ) × (ieof : Bool) × (k < n) × (end_of (run start (take k text)) ≡ Some ieof) × NoneEnds text k
 
+-- there is an end, with or without `ieof`, or there is none
 kinds : (o : Option Bool) → ((ieof : Bool) × (o ≡ Some ieof)) ⊎ (o ≡ None)
 kinds None = inr refl
 kinds (Some ieof) = inl (ieof, refl)
 
+-- there is a fault, or there is none
 fault_kinds : (o : Option ChunkFault) → ((fault : ChunkFault) × (o ≡ Some fault)) ⊎ (o ≡ None)
 fault_kinds None = inr refl
 fault_kinds (Some fault) = inl (fault, refl)

@@ -20,6 +20,7 @@ item_behind i (b ∷ bytes) = item_behind (machine.item_with i b) bytes
 abbrev tells : Item → List ℕ → Bool
 tells i bytes = machine.is_word (item_behind i bytes)
 
+-- an item that is another word stays so, whatever bytes come
 other : (bytes : List ℕ) → tells Other bytes ≡ false
 unfolding machine.item_with machine.is_word
 other [] = refl
@@ -35,10 +36,12 @@ abbrev trimmed_end : List ℕ → List ℕ
 trimmed_end [] = []
 trimmed_end (b ∷ text) = kept (is_blank b) b (trimmed_end text)
 
+-- before a text with one or more bytes, a byte is kept, blank or not
 kept_last : (blank : Bool) (b : ℕ) (text : List ℕ) (c : ℕ) → kept blank b (text ++ c ∷ []) ≡ b ∷ (text ++ c ∷ [])
 kept_last blank b [] c = refl
 kept_last blank b (x ∷ text) c = refl
 
+-- a text turned round without its first blanks is its last byte and the others so turned, unless all are blanks
 skip_last : (text : List ℕ) (b : ℕ) → reverse (skip_blanks (text ++ b ∷ [])) ≡ kept (is_blank b) b (reverse (skip_blanks text))
 skip_last [] b = by_test (is_blank b)
   where
@@ -60,6 +63,7 @@ skip_last (c ∷ text) b = by_test (is_blank c) (skip_last text b)
     by_test true h = h
     by_test false h = whole
 
+-- a text turned round, without its first blanks, and turned back has lost the blanks at its end
 trimmed_end_is : (text : List ℕ) → reverse (skip_blanks (reverse text)) ≡ trimmed_end text
 trimmed_end_is [] = refl
 trimmed_end_is (b ∷ text) = ap (λ x. reverse (skip_blanks x)) (reverse-append (b ∷ []) text) ∙ skip_last (reverse text) b
@@ -69,6 +73,7 @@ trimmed_end_is (b ∷ text) = ap (λ x. reverse (skip_blanks x)) (reverse-append
 abbrev spells : List ℕ → List ℕ → Bool
 spells word text = bytes_eq (map to_ascii_lowercase (trimmed_end text)) word
 
+-- after `ieof`, an item is the word just where only blanks follow
 behind_ieof : (bytes : List ℕ) → tells Ieof bytes ≡ spells [] bytes
 unfolding machine.item_with machine.is_word
 behind_ieof [] = refl
@@ -85,6 +90,7 @@ behind_ieof (b ∷ bytes) = by_test (is_blank b) (trimmed_end bytes) (behind_ieo
 abbrev IsNoBlank : ℕ → Type 0
 IsNoBlank letter = (b : ℕ) → is_blank b ≡ true → (to_ascii_lowercase b == letter) ≡ false
 
+-- a letter that is neither a space nor a tab is no blank
 no_blank : (letter : ℕ) → (to_ascii_lowercase 32 == letter) ≡ false → (to_ascii_lowercase 9 == letter) ≡ false → IsNoBlank letter
 no_blank letter space tab b h = by_test (b == 32) refl h
   where
@@ -110,21 +116,25 @@ letter_then letter word next b bytes apart behind = by_rest (is_blank b) (trimme
     by_rest false [] never h = chosen (to_ascii_lowercase b == letter) _ h
     by_rest false (c ∷ rest) never h = chosen (to_ascii_lowercase b == letter) _ h
 
+-- after `ieo`, an item is the word just where `f`, in either case, follows, with any blanks at its end
 behind_ieo : (bytes : List ℕ) → tells Ieo bytes ≡ spells (codes "f") bytes
 unfolding machine.item_with machine.is_word
 behind_ieo [] = refl
 behind_ieo (b ∷ bytes) = letter_then 102 [] Ieof b bytes (no_blank 102 refl refl) (behind_ieof bytes)
 
+-- after `ie`, an item is the word just where `of`, in either case, follows, with any blanks at its end
 behind_ie : (bytes : List ℕ) → tells Ie bytes ≡ spells (codes "of") bytes
 unfolding machine.item_with machine.is_word
 behind_ie [] = refl
 behind_ie (b ∷ bytes) = letter_then 111 (codes "f") Ieo b bytes (no_blank 111 refl refl) (behind_ieo bytes)
 
+-- after `i`, an item is the word just where `eof`, in either case, follows, with any blanks at its end
 behind_i : (bytes : List ℕ) → tells I bytes ≡ spells (codes "eof") bytes
 unfolding machine.item_with machine.is_word
 behind_i [] = refl
 behind_i (b ∷ bytes) = letter_then 101 (codes "of") Ie b bytes (no_blank 101 refl refl) (behind_ie bytes)
 
+-- an item is the word just where `ieof`, in either case, follows its first blanks, with any blanks at its end
 behind_blanks : (bytes : List ℕ) → tells Blank bytes ≡ spells (codes "ieof") (skip_blanks bytes)
 unfolding machine.item_with machine.is_word
 behind_blanks [] = refl
@@ -143,6 +153,7 @@ item_found : (bytes : List ℕ) → tells Blank bytes ≡ is_ieof bytes
 unfolding trim
 item_found bytes = behind_blanks bytes ∙ ap (λ x. str_eq_ignore_ascii_case x (codes "ieof")) (sym (trimmed_end_is (skip_blanks bytes)))
 
+-- what is kept of two lists of bytes is what the second makes of what is kept of the first
 pub extension_behind-append : (s : Item × Bool) (xs ys : List ℕ)
     → extension_behind s (xs ++ ys) ≡ extension_behind (extension_behind s xs) ys
 extension_behind-append s [] ys = refl
@@ -157,23 +168,28 @@ abbrev any_from : Item → List (List ℕ) → Bool
 any_from i [] = tells i []
 any_from i (part ∷ parts) = tells i part || list_any is_ieof parts
 
+-- whether one of three tests holds is the same however they are grouped
 or_assoc : (a b c : Bool) → ((a || b) || c) ≡ (a || (b || c))
 or_assoc true b c = refl
 or_assoc false b c = refl
 
+-- a test, or one that fails, is that test
 or_false : (a : Bool) → (a || false) ≡ a
 or_false true = refl
 or_false false = refl
 
+-- items, the first of them from its start, have the word just where one is `ieof`
 any_from_blank : (parts : List (List ℕ)) → any_from Blank parts ≡ list_any is_ieof parts
 unfolding machine.is_word
 any_from_blank [] = refl
 any_from_blank (part ∷ parts) = ap (λ x. x || list_any is_ieof parts) (item_found part)
 
+-- a byte put before the first of some items is one that the reader has read of it
 any_from-onto_first : (i : Item) (b : ℕ) (parts : List (List ℕ)) → any_from i (onto_first b parts) ≡ any_from (machine.item_with i b) parts
 any_from-onto_first i b [] = or_false (tells i (b ∷ []))
 any_from-onto_first i b (part ∷ parts) = refl
 
+-- with more of an extension, `ieof` is found where it was before, or where the item begun or a later one is it
 pub answer_behind : (s : Item × Bool) (text : List ℕ) → answer (extension_behind s text) ≡ (s.1 || any_from s.0 (items text))
 answer_behind s [] = ap (λ x. s.1 || x) (sym (or_false (machine.is_word s.0)))
 answer_behind s (b ∷ text) = by_byte (b == 59) s b text (answer_behind (Blank, s.1 || machine.is_word s.0) text)

@@ -12,6 +12,7 @@ use Rattle.icap_chunks.proofs.Endings.{chunked_ends}
 abbrev pub plain_line : ℕ → SizeLine
 plain_line n = record { digits = numeral 16 n; pad = []; extension = None }
 
+-- the numeral of a size that fits is a size line
 pub IsSizeLine-plain : (n : ℕ) → n < 4611686018427387904 → IsSizeLine (plain_line n) n
 IsSizeLine-plain n fits =
     let short = length-numeral-le 16 n 16 (lit≤ tt) (lit< tt) (omega arith) in
@@ -27,6 +28,7 @@ IsSizeLine-plain n fits =
 abbrev pub written_chunk : List ℕ → List ℕ
 written_chunk bytes = chunk_head (length bytes) ++ (bytes ++ crlf)
 
+-- a chunk as it is written, of one or more bytes whose sum fits, is one more of the whole chunks
 pub chunk_written : (front body bytes : List ℕ) → Chunks front body → 0 < length bytes → length body + length bytes < 4611686018427387904
     → Chunks (front ++ written_chunk bytes) (body ++ bytes)
 chunk_written front body bytes c some fits =
@@ -41,6 +43,7 @@ abbrev last_line : Bool → SizeLine
 last_line true = record { digits = 48 ∷ []; pad = []; extension = Some (32 ∷ 105 ∷ 101 ∷ 111 ∷ 102 ∷ []) }
 last_line false = record { digits = 48 ∷ []; pad = []; extension = None }
 
+-- the last size line, with or without `ieof`, has the size zero
 last_is : (ieof : Bool) → IsSizeLine (last_line ieof) 0
 last_is true = record {
   digits = record { digits = (lit< tt, (lit< tt, tt)); value = refl };
@@ -57,15 +60,18 @@ last_is false = record {
   fits = lit< tt;
 }
 
+-- the last size line, and an empty line after it, are what is written last
 last_text : (ieof : Bool) → print_line (last_line ieof) ++ (13 ∷ 10 ∷ ([] ++ crlf)) ≡ last_chunk ieof
 last_text true = refl
 last_text false = refl
 
+-- the last size line has `ieof` just where it is asked for
 last_ieof : (ieof : Bool) → has_ieof (last_line ieof).extension ≡ ieof
 unfolding trim
 last_ieof true = refl
 last_ieof false = refl
 
+-- whole chunks, and the last one as it is written, are a whole body
 pub last_written : (front body : List ℕ) (ieof : Bool) → Chunks front body → IsChunked (front ++ last_chunk ieof) body ieof
 last_written front body ieof c = record {
   front = front;

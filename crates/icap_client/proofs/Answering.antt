@@ -16,6 +16,7 @@ use Rattle.icap_client.specs.Sending.{KeepsUnsent, Decides, sending_events}
 use Rattle.icap_client.specs.Turns.{GoesOn, WriteTurn, FitsOffer, FitsAnswer, events_of}
 use Rattle.icap_client.proofs.Turning.{goes_on, nothing_due}
 
+-- a turn whose moves, wire's answer and events fit what it decided is a write turn
 pub turned : {most : ℕ} (x : Seen) (tape : Tape) (next : Next) (v w : Writer) (before after : Past → Type 0)
     (result : Result Turn ClientFault) (answer : Option Put) (k : ℕ) (e : Bool)
     → Sound x → KeepsUnsent x tape → Decides most x v next → Offers before after (offered v tape next) answer
@@ -32,6 +33,7 @@ turned x tape next v w before after result answer k e s u c o a m h f = record {
   fits = f;
 }
 
+-- a turn whose wire took bytes, and that doesn't wait, fits this answer
 pub fits_took : (x : Seen) (w : Writer) (answer : Option Put) (n : ℕ) (turn : Turn) → answer ≡ Some (put.Took n)
     → (turn.waiting ≡ true → true ≡ false) → FitsAnswer x w answer turn
 fits_took x w answer n turn a t = record {
@@ -43,27 +45,33 @@ fits_took x w answer n turn a t = record {
   woke = λ h i. cc;
 }
 
+-- where the wire answered Wait, no body byte is counted and no end is fixed
 still_wait : (answer : Option Put) (k : ℕ) (e : Bool) → answer ≡ Some put.Wait → IsStill answer k e → (k ≡ 0) × (e ≡ false)
 still_wait None k e a s = cc
 still_wait (Some (put.Took n)) k e a s = cc
 still_wait (Some put.Wait) k e a s = s
 still_wait (Some put.Fault) k e a s = s
 
+-- where the wire failed, no body byte is counted and no end is fixed
 still_fault : (answer : Option Put) (k : ℕ) (e : Bool) → answer ≡ Some put.Fault → IsStill answer k e → (k ≡ 0) × (e ≡ false)
 still_fault None k e a s = cc
 still_fault (Some (put.Took n)) k e a s = cc
 still_fault (Some put.Wait) k e a s = s
 still_fault (Some put.Fault) k e a s = s
 
+-- no body byte and no fixed end make no event
 none_by : (k : ℕ) (e : Bool) → (k ≡ 0) × (e ≡ false) → [] ≡ sending_events k e
 none_by k e s = subst (λ (n : ℕ). [] ≡ sending_events n e) (sym s.0) (subst (λ (b : Bool). [] ≡ sending_events 0 b) (sym s.1) refl)
 
+-- where the wire answered Wait, a turn has no event
 pub none_at_wait : (answer : Option Put) (k : ℕ) (e : Bool) → answer ≡ Some put.Wait → IsStill answer k e → [] ≡ sending_events k e
 none_at_wait answer k e a s = none_by k e (still_wait answer k e a s)
 
+-- where the wire failed, a turn has no event
 pub none_at_fault : (answer : Option Put) (k : ℕ) (e : Bool) → answer ≡ Some put.Fault → IsStill answer k e → [] ≡ sending_events k e
 none_at_fault answer k e a s = none_by k e (still_fault answer k e a s)
 
+-- a turn without events, which then waits, fits the wire's Wait
 pub fits_wait : (x : Seen) (w : Writer) (answer : Option Put) (turn : Turn) → answer ≡ Some put.Wait → turn.events.items ≡ []
     → (turn.waiting ≡ false → turn.events.items ≡ [] → ⊥) → FitsAnswer x w answer turn
 fits_wait x w answer turn a n t = record {
@@ -75,6 +83,7 @@ fits_wait x w answer turn a n t = record {
   woke = λ h i. t h n;
 }
 
+-- a turn that offered nothing, and waits just if it has no event, fits that
 pub fits_none : {most : ℕ} (x : Seen) (tape : Tape) (next : Next) (v w : Writer) (answer : Option Put) (k : ℕ) (e : Bool) (d : List ℕ)
     (turn : Turn) → answer ≡ None → Decides most x v next → Moves tape next v k e d w → IsIdle v next k e
     → turn.events.items ≡ sending_events 0 e
@@ -88,5 +97,6 @@ fits_none x tape next v w answer k e d turn a c m i h t f = record {
   woke = λ b o. cc;
 }
 
+-- the events of an idle turn are those of no body byte
 pub idle_events : (next : Next) (w : Writer) (k : ℕ) (e : Bool) → IsIdle w next k e → sending_events 0 e ≡ sending_events k e
 idle_events next w k e i = ap (λ (n : ℕ). sending_events n e) (sym i.none_sent)

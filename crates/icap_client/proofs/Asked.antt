@@ -20,11 +20,13 @@ use Rattle.icap_client.proofs.Skipping.{tells_still, tells_then}
 
 -- ---- more bytes are wanted
 
+-- where more bytes are wanted, fewer are kept than a head may have at most
 pub ask_short : (s : OptionsStage) (raw : List ℕ) → HasToAsk s raw → length raw < 16384
 ask_short Head raw h = h.short
 ask_short (Body chunks) raw h = omega (arith, ap (λ (t : List ℕ). length t) h)
 ask_short Over raw h = absurd h
 
+-- where more bytes are wanted, the answer isn't at its end
 pub ask_on : (s : OptionsStage) (raw : List ℕ) → HasToAsk s raw → s ≡ Over → ⊥
 ask_on Head raw h e = cc
 ask_on (Body chunks) raw h e = cc
@@ -32,6 +34,7 @@ ask_on Over raw h e = h
 
 -- ---- what was read
 
+-- a weaker property of an optional response follows from a stronger one
 some_map : (o : Option Response) (P Q : Response → Type 0) → ((v : Response) → P v → Q v) → IfSome o P → IfSome o Q
 some_map None P Q f h = tt
 some_map (Some v) P Q f h = f v h
@@ -58,9 +61,11 @@ answer_by old mid new given found s r e g =
       tells = subst (λ (t : OptionsStage). Tells t new.stage found) s g.tells;
     }
 
+-- what was framed of the raw bytes, with none read, says what is answered
 framed_none : (old new : Asker) (found : Option Response) → Frames old new found → AnswersOptions old new [] found
 framed_none old new found f = answer_by old old new [] found refl refl (sym (append-nil old.raw)) f
 
+-- a side at the same stage, with the same head and raw bytes, answers no head
 answers_same : (old new : Asker) → new.stage ≡ old.stage → new.response ≡ old.response → new.raw ≡ old.raw → AnswersOptions old new [] None
 answers_same old new s r e = record {
   answered = λ read h. record {
@@ -83,6 +88,7 @@ answers_then a b c d e found f g = record {
   tells = tells_then a.stage b.stage c.stage found f.tells g.tells;
 }
 
+-- a side whose raw bytes are refused with the given ones after them refuses the given ones
 refused_by : (old mid : Asker) (given : List ℕ) (fault : ClientFault) → mid.stage ≡ old.stage → mid.response ≡ old.response
     → mid.raw ≡ old.raw ++ given → RefusesRaw fault mid → RefusesGiven fault old given
 refused_by old mid given fault s r e g = record {
@@ -91,12 +97,14 @@ refused_by old mid given fault s r e g = record {
   refuses = g.refuses;
 }
 
+-- bytes that are refused after some were framed without an answer are refused before that too
 refused_behind : (a b : Asker) (given : List ℕ) (fault : ClientFault) → AnswersOptions a b [] None → RefusesGiven fault b given
     → RefusesGiven fault a given
 refused_behind a b given fault f g = record { at = g.at; answers = answers_then a b g.at [] given None f g.answers; refuses = g.refuses }
 
 -- ---- turns
 
+-- a weaker property of a result's value, if it has one, follows from a stronger one
 ok_of : {A B : Type 0} (r : Result A B) (P Q : A → Type 0) → ((x : A) → P x → Q x) → IfOk r P → IfOk r Q
 ok_of (Ok x) P Q f h = f x h
 ok_of (Err e) P Q f h = tt
@@ -115,6 +123,7 @@ is_offered old P Q bytes answer is some q f = (
   refl,
 )
 
+-- a turn that offers what waits, and whose wire takes a part, leaves the rest and answers no head
 pub asks_took : (old new : Asker) (P Q : Past → Type 0) (bytes : List ℕ) (n : ℕ) → bytes ≡ old.waiting → 0 < length old.waiting
     → (1 ≤ n) × (n ≤ length bytes) → ((p : Past) → P p → Q (after_write p bytes (put.Took n)))
     → new.waiting ≡ drop n bytes → new.stage ≡ old.stage → new.response ≡ old.response → new.raw ≡ old.raw → Asks old new P Q (Ok None)
@@ -128,6 +137,7 @@ asks_took old new P Q bytes n is some f q w s r e = record {
   answers = answers_same old new s r e;
 }
 
+-- a turn that offers what waits, and whose wire answers Wait, answers no head
 pub asks_later : (old new : Asker) (P Q : Past → Type 0) (bytes : List ℕ) → bytes ≡ old.waiting → 0 < length old.waiting
     → ((p : Past) → P p → Q (after_write p bytes put.Wait))
     → new.waiting ≡ old.waiting → new.stage ≡ old.stage → new.response ≡ old.response → new.raw ≡ old.raw → Asks old new P Q (Ok None)
@@ -141,6 +151,7 @@ asks_later old new P Q bytes is some q w s r e = record {
   answers = answers_same old new s r e;
 }
 
+-- a turn that offers what waits, and whose wire fails, answers Device
 pub asks_broken : (old new : Asker) (P Q : Past → Type 0) (bytes : List ℕ) → bytes ≡ old.waiting → 0 < length old.waiting
     → ((p : Past) → P p → Q (after_write p bytes put.Fault)) → new.waiting ≡ old.waiting
     → Asks old new P Q (Err faults.Device)
@@ -162,6 +173,7 @@ bytes_fit : (old mid new : Asker) (given : List ℕ) (result : Result (Option Ic
 bytes_fit old mid new given (Ok found) s r e t g = t
 bytes_fit old mid new given (Err fault) s r e t g = refused_by old mid given fault s r e g
 
+-- a turn whose read gave bytes answers what is framed of them, or refuses them
 pub asks_bytes : (old mid new : Asker) (P Q : Past → Type 0) (raw : List ℕ) (result : Result (Option IcapResponse) ClientFault)
     → old.waiting ≡ [] → (old.stage ≡ Over → ⊥) → new.waiting ≡ old.waiting → IsFilled P Q old.raw raw fills.Bytes
     → mid.stage ≡ old.stage → mid.response ≡ old.response → mid.raw ≡ raw
@@ -178,6 +190,7 @@ asks_bytes old mid new P Q raw result out on w f s r e g t b = record {
   answers = ok_of result _ _ (λ found h. answer_by old mid new f.0 (option_map response_parts found) s r (e ∙ f.2) h) g;
 }
 
+-- a turn whose read waits, where more bytes are wanted, answers no head
 pub asks_wait : (old new : Asker) (P Q : Past → Type 0) (raw : List ℕ) → old.waiting ≡ [] → HasToAsk old.stage old.raw
     → new.waiting ≡ old.waiting → IsFilled P Q old.raw raw fills.Wait → new.stage ≡ old.stage → new.response ≡ old.response → new.raw ≡ raw
     → Asks old new P Q (Ok None)
@@ -191,6 +204,7 @@ asks_wait old new P Q raw out h w f s r e = record {
   answers = answers_same old new s r (e ∙ f.0);
 }
 
+-- a turn whose wire has ended before the answer's end answers Closed
 pub asks_ended : (old new : Asker) (P Q : Past → Type 0) (raw : List ℕ) → old.waiting ≡ [] → (old.stage ≡ Over → ⊥)
     → new.waiting ≡ old.waiting → IsFilled P Q old.raw raw fills.Ended → Asks old new P Q (Err faults.Closed)
 asks_ended old new P Q raw out on w f = record {
@@ -203,6 +217,7 @@ asks_ended old new P Q raw out on w f = record {
   answers = tt;
 }
 
+-- a turn whose wire failed in a read answers Device
 pub asks_failed : (old new : Asker) (P Q : Past → Type 0) (raw : List ℕ) → old.waiting ≡ [] → (old.stage ≡ Over → ⊥)
     → new.waiting ≡ old.waiting → IsFilled P Q old.raw raw fills.Failed → Asks old new P Q (Err faults.Device)
 asks_failed old new P Q raw out on w f = record {
@@ -215,6 +230,7 @@ asks_failed old new P Q raw out on w f = record {
   answers = tt;
 }
 
+-- a turn with no memory for a read answers NoMemory
 pub asks_full : (old new : Asker) (P Q : Past → Type 0) (raw : List ℕ) → old.waiting ≡ [] → (old.stage ≡ Over → ⊥)
     → new.waiting ≡ old.waiting → IsFilled P Q old.raw raw fills.NoMemory → Asks old new P Q (Err faults.NoMemory)
 asks_full old new P Q raw out on w f = record {
@@ -239,6 +255,7 @@ asks_over old P out o = record {
   answers = answers_same old old refl refl refl;
 }
 
+-- a turn that frames an answer's end of kept bytes leaves the wire alone and answers the head
 pub asks_told : (old new : Asker) (P : Past → Type 0) (head : IcapResponse) → old.waiting ≡ [] → Frames old new (Some (response_parts head))
     → Asks old new P P (Ok (Some head))
 asks_told old new P head out f = record {
@@ -251,6 +268,7 @@ asks_told old new P head out f = record {
   answers = framed_none old new (Some (response_parts head)) f;
 }
 
+-- a turn that refuses bytes that were kept leaves the wire alone and answers the fault
 pub asks_refused : (old new : Asker) (P : Past → Type 0) (fault : ClientFault) → old.waiting ≡ [] → new.waiting ≡ old.waiting
     → RefusesRaw fault old → Asks old new P P (Err fault)
 asks_refused old new P fault out w g = record {
@@ -265,6 +283,7 @@ asks_refused old new P fault out w g = record {
 
 -- ---- a turn behind bytes that were framed
 
+-- a call that was due after more was framed was due before it, if the answer wasn't at its end
 call_behind : (call : Call) (P Q : Past → Type 0) (old at : Asker) (given taken : List ℕ) → at.waiting ≡ old.waiting
     → (old.stage ≡ Over → ⊥) → IsCall call P Q at given taken → IsCall call P Q old given taken
 call_behind (offered answer) P Q old at given taken w n c =
@@ -272,6 +291,7 @@ call_behind (offered answer) P Q old at given taken w n c =
 call_behind (filled answer) P Q old at given taken w n c = (sym w ∙ c.0, n, c.2, c.3)
 call_behind rested P Q old at given taken w n c = (sym w ∙ c.0, c.1, c.2, c.3)
 
+-- what kept bytes make of a turn after a framing without an answer they make before it
 kept_behind : (old at : Asker) (result : Result (Option IcapResponse) ClientFault) → AnswersOptions old at [] None → FitsKept at result
     → FitsKept old result
 kept_behind old at (Ok None) a f = was_over (a.tells.told f)
@@ -282,11 +302,13 @@ kept_behind old at (Ok None) a f = was_over (a.tells.told f)
 kept_behind old at (Ok (Some head)) a f = tt
 kept_behind old at (Err fault) a f = refused_behind old at [] fault a f
 
+-- what given bytes make of a turn after a framing without an answer they make before it
 bytes_behind : (old at new : Asker) (given : List ℕ) (result : Result (Option IcapResponse) ClientFault) → AnswersOptions old at [] None
     → FitsBytes at new given result → FitsBytes old new given result
 bytes_behind old at new given (Ok found) a f = f
 bytes_behind old at new given (Err fault) a f = refused_behind old at given fault a f
 
+-- what a call makes of a turn after a framing without an answer it makes before it
 fits_behind : (call : Call) (old at new : Asker) (given : List ℕ) (result : Result (Option IcapResponse) ClientFault)
     → AnswersOptions old at [] None → FitsCall call at new given result → FitsCall call old new given result
 fits_behind (offered (put.Took n)) old at new given result a f = f
@@ -299,6 +321,7 @@ fits_behind (filled fills.Failed) old at new given result a f = f
 fits_behind (filled fills.NoMemory) old at new given result a f = f
 fits_behind rested old at new given result a f = kept_behind old at result a f
 
+-- a turn after kept bytes were framed without an answer is one from before they were framed
 pub asks_behind : (old at new : Asker) (P Q : Past → Type 0) (result : Result (Option IcapResponse) ClientFault) → (old.stage ≡ Over → ⊥)
     → Frames old at None → Asks at new P Q result → Asks old new P Q result
 asks_behind old at new P Q result n f a =
@@ -321,16 +344,19 @@ record IsLike (new kept : Asker) : Type 0 where
   pub response : kept.response ≡ new.response
   pub raw : kept.raw ≡ new.raw
 
+-- where a side wants more bytes, so does one that is like it
 ask_as : (new kept : Asker) → IsLike new kept → HasToAsk new.stage new.raw → HasToAsk kept.stage kept.raw
 ask_as new kept l h = subst (λ (s : OptionsStage). HasToAsk s kept.raw) (sym l.stage)
     (subst (λ (raw : List ℕ). HasToAsk new.stage raw) (sym l.raw) h)
 
+-- what given bytes make of a turn they make also if it leaves a side like that one
 bytes_as : (old new kept : Asker) (given : List ℕ) (result : Result (Option IcapResponse) ClientFault) → IsLike new kept
     → FitsBytes old new given result → FitsBytes old kept given result
 bytes_as old new kept given (Ok None) l f = ask_as new kept l f
 bytes_as old new kept given (Ok (Some head)) l f = tt
 bytes_as old new kept given (Err fault) l f = f
 
+-- what a call makes of a turn it makes also if it leaves a side like that one
 fits_as : (call : Call) (old new kept : Asker) (given : List ℕ) (result : Result (Option IcapResponse) ClientFault) → IsLike new kept
     → FitsCall call old new given result → FitsCall call old kept given result
 fits_as (offered (put.Took n)) old new kept given result l f = f
@@ -343,6 +369,7 @@ fits_as (filled fills.Failed) old new kept given result l f = f
 fits_as (filled fills.NoMemory) old new kept given result l f = f
 fits_as rested old new kept given result l f = f
 
+-- the bytes that a side has read are those that one like it has read
 answered_as : (read : List ℕ) (new kept : Asker) → IsLike new kept → HasAnswered read new → HasAnswered read kept
 answered_as read new kept l h = record {
   framed = h.framed;
@@ -351,6 +378,7 @@ answered_as read new kept l h = record {
       (subst (λ (s : OptionsStage). AnsweredTo s new.response h.framed) (sym l.stage) h.answered);
 }
 
+-- what is answered stays the same if a side like the new one is left
 answers_as : (old new kept : Asker) (given : List ℕ) (found : Option Response) → IsLike new kept → AnswersOptions old new given found
     → AnswersOptions old kept given found
 answers_as old new kept given found l a = record {
@@ -361,6 +389,7 @@ answers_as old new kept given found l a = record {
   tells = subst (λ (t : OptionsStage). Tells old.stage t found) (sym l.stage) a.tells;
 }
 
+-- a turn to one side is also a turn to a side like it
 asks_as : (old new kept : Asker) (P Q : Past → Type 0) (result : Result (Option IcapResponse) ClientFault) → IsLike new kept
     → Asks old new P Q result → Asks old kept P Q result
 asks_as old new kept P Q result l a = record {
@@ -373,11 +402,13 @@ asks_as old new kept P Q result l a = record {
   answers = ok_of result _ _ (λ found h. answers_as old new kept a.given (option_map response_parts found) l h) a.answers;
 }
 
+-- a turn to one side is one to any with the same text, stage, head and raw bytes
 pub asks_kept : (old new kept : Asker) (P Q : Past → Type 0) (result : Result (Option IcapResponse) ClientFault)
     → kept.waiting ≡ new.waiting → kept.stage ≡ new.stage → kept.response ≡ new.response → kept.raw ≡ new.raw
     → Asks old new P Q result → Asks old kept P Q result
 asks_kept old new kept P Q result w s r e a = asks_as old new kept P Q result (record { waiting = w; stage = s; response = r; raw = e }) a
 
+-- a turn stays what it is if room is let go after it
 pub asks_drop_text : (old new kept : Asker) (P Q : Past → Type 0) (result : Result (Option IcapResponse) ClientFault) → LetsRoomGo new kept
     → Asks old new P Q result → Asks old kept P Q result
 asks_drop_text old new kept P Q result l a = asks_as old new kept P Q result

@@ -78,6 +78,7 @@ reads_kept a b c raw used out ys count k f e h =
     subst (λ (t : List ℕ). ReadsOn a raw used t c) (sym (take-put_mid_below count k out ys count same h))
     (subst (λ (r : ChunkReader). ReadsOn a raw used (take count out) r) (sym e) f)
 
+-- of no bytes nothing is read, and the chunk reader stays as it is
 pub reads_none : (a : ChunkReader) (raw : List ℕ) → ReadsOn a raw 0 [] a
 reads_none a raw text body h = subst (λ (t : List ℕ). HasRead t (body ++ []) a) (sym (append-nil text))
     (subst (λ (t : List ℕ). HasRead text t a) (sym (append-nil body)) h)
@@ -96,9 +97,11 @@ breaks_behind a b raw rest used count out fault z f is g text body h =
     (ap (λ (t : List ℕ). take used raw ++ t) is ∙ take-append-drop used raw) in
     subst (λ (t : List ℕ). Breaks t body fault) texts (subst (λ (t : List ℕ). Breaks ((text ++ take used raw) ++ rest) t fault) none there)
 
+-- an option that isn't some is none
 not_some : {A : Type 0} (o : Option A) → is_some o ≡ false → o ≡ None
 not_some None e = refl
 not_some (Some x) e = cc
 
+-- a body whose mark says that it hasn't ended has no end
 pub not_ended : (r : ChunkReader) (ended : Bool) → ended ≡ is_some (end_of r) → ended ≡ false → end_of r ≡ None
 not_ended r ended e f = not_some (end_of r) (sym e ∙ f)

@@ -30,9 +30,11 @@ use Rattle.adapt_sides.specs.Turns.{HasReason, OfClientWire}
 
 -- ---- writing
 
+-- where a tape keeps what is unsent, the bytes that it follows are those that came
 came_by : (x : Seen) (tape : Tape) (came : List ℕ) → KeepsUnsent x tape → Follows tape came → Came x tape came
 came_by x tape came k f = record { count = sym f.end ∙ k.end; bytes = sym f.bytes }
 
+-- a wire that was asked nothing has read and taken no further byte
 later_none : (p : Past) → IsLater p [] [] p
 later_none p = record {
   read = sym (append-nil p.read);
@@ -43,6 +45,7 @@ later_none p = record {
   faults = omega arith;
 }
 
+-- after an offer a wire has taken just what its answer says, and read nothing
 later_offer : (p : Past) (bytes : List ℕ) (answer : Option Put) → IsLater p [] (delta_of bytes answer) (after_offer p bytes answer)
 later_offer p bytes None = later_none p
 later_offer p bytes (Some (put.Took n)) = record {
@@ -70,6 +73,7 @@ later_offer p bytes (Some put.Fault) = record {
   faults = omega arith;
 }
 
+-- a turn that was told Wait, or offered nothing as nothing was due, has more write waits or nothing due
 waits_by : (x : Seen) (w : Writer) (p : Past) (bytes : List ℕ) (answer : Option Put) → (answer ≡ Some put.Wait) ⊎ (answer ≡ None)
     → (answer ≡ None → NothingDue x w)
     → NothingDue x w ⊎ (p.write_waits < (after_offer p bytes answer).write_waits)
@@ -78,6 +82,7 @@ waits_by x w p bytes answer (inl e) n =
     inr (subst (λ (a : Option Put). p.write_waits < (after_offer p bytes a).write_waits) (sym e) more)
 waits_by x w p bytes answer (inr e) n = inl (n e)
 
+-- a write that fails or waits has its reason in the wire's answer, or nothing is due
 cause : (x : Seen) (w : Writer) (p : Past) (bytes : List ℕ) (answer : Option Put) (fault : Option ClientFault)
     (result : Result Turn ClientFault) → FitsOffer x w answer result
     → HasReason OfClientWire p (after_offer p bytes answer) fault (NothingDue x w) (λ past. past.write_waits) result
@@ -95,14 +100,17 @@ cause x w p bytes answer fault (Err g) f = record {
   waiting = λ h. cc;
 }
 
+-- an offer that was told Wait, or none, brings no byte onto the wire
 none_out : (bytes : List ℕ) (answer : Option Put) → (answer ≡ Some put.Wait) ⊎ (answer ≡ None) → delta_of bytes answer ≡ []
 none_out bytes answer (inl e) = ap (λ (a : Option Put). delta_of bytes a) e
 none_out bytes answer (inr e) = ap (λ (a : Option Put). delta_of bytes a) e
 
+-- a part of at least one byte of a text isn't empty
 some_out : (bytes : List ℕ) (n : ℕ) → (1 ≤ n) × (n ≤ length bytes) → take n bytes ≡ [] → ⊥
 some_out bytes n h e = let l = length-take-le n bytes h.1 in let z : length (take n bytes) ≡ 0 = ap (λ (t : List ℕ). length t) e in
     absurd (omega (arith, h.0, l, z))
 
+-- a write turn without events or bytes on the wire waits
 not_idle : (x : Seen) (w : Writer) (bytes : List ℕ) (answer : Option Put) (turn : Turn) → FitsAnswer x w answer turn
     → IfSome answer (FitsPut (length bytes)) → turn.events.items ≡ []
     → delta_of bytes answer ≡ [] → turn.waiting ≡ false → ⊥
@@ -111,10 +119,12 @@ not_idle x w bytes (Some (put.Took n)) turn f s e d h = some_out bytes n s d
 not_idle x w bytes (Some put.Wait) turn f s e d h = f.woke h refl
 not_idle x w bytes (Some put.Fault) turn f s e d h = f.no_fault refl
 
+-- a bit that isn't false is true
 or_true : (b : Bool) → (b ≡ false → ⊥) → b ≡ true
 or_true true h = refl
 or_true false h = absurd (h refl)
 
+-- a write that waits did nothing, and one that did nothing waits
 says : (x : Seen) (w : Writer) (bytes : List ℕ) (answer : Option Put) (result : Result Turn ClientFault) → FitsOffer x w answer result
     → IfSome answer (FitsPut (length bytes))
     → SaysWaiting (events_of result) (delta_of bytes answer) result
@@ -125,6 +135,7 @@ says x w bytes answer (Ok turn) f s = record {
 }
 says x w bytes answer (Err g) f s = record { idle = λ h. cc; waits = λ t e n d. cc }
 
+-- a write turn of a side without a fault does what a transaction asks of a write
 pub sends_by : {most : ℕ} (x : Seen) (tape : Tape) (old new : Writer) (fault kept : Option ClientFault) (P Q : Past → Type 0)
     (result : Result Turn ClientFault) → fault ≡ None → KeepsUnsent x tape
     → WriteTurn most x tape old new P Q result → ((turn : Turn) → result ≡ Ok turn → kept ≡ None)
@@ -164,6 +175,7 @@ sends_none x tape w fault g P e = record {
 
 -- ---- reading
 
+-- after a read a wire has given just these bytes, and taken none
 later_given : (p : Past) (given : List ℕ) (answer : Option Got) → IsGiven given answer → IsLater p given [] (after_ask p given answer)
 later_given p given None e = subst (λ (t : List ℕ). IsLater p t [] p) (sym e) (later_none p)
 later_given p given (Some (got.Bytes n)) f =
@@ -205,6 +217,7 @@ later_given p given (Some got.Fault) e = record {
 never_waits : (result : Result Turn ClientFault) (g : ClientFault) → result ≡ Err g → waits_of result ≡ true → ⊥
 never_waits result g e h = let odd : false ≡ true = sym (ap (λ (r : Result Turn ClientFault). waits_of r) e) ∙ h in cc
 
+-- a read that fails or waits has its reason in the wire's answer, or nothing is to be read
 read_cause : (x : Seen) (a : Bool) (room : ℕ) (stage : Stage) (p : Past) (given : List ℕ) (answer : Option Got) (fault : Option ClientFault)
     (result : Result Turn ClientFault) → FitsGot x a room stage answer result
     → HasReason OfClientWire p (after_ask p given answer) fault (NothingToRead x a room stage) (λ past. past.read_waits) result
@@ -246,6 +259,7 @@ came_cause x a old new room out delta (Ok turn) c fault e = cc
 came_cause x a old new room out delta (Err g) c fault e = let is : g ≡ fault = cc in
     subst (λ (k : ClientFault). IsCause k x a new.reader new.raw) is c.1
 
+-- a read that waits did nothing, and one that did nothing waits
 read_says : (x : Seen) (a : Bool) (old new : ReadSide) (room : ℕ) (out delta : List ℕ) (result : Result Turn ClientFault)
     → CameOf x a old new room out delta result → SaysWaiting (events_of result) delta result
 read_says x a old new room out delta (Ok turn) c = record {
@@ -258,6 +272,7 @@ read_says x a old new room out delta (Ok turn) c = record {
 }
 read_says x a old new room out delta (Err g) c = record { idle = λ h. cc; waits = λ t e n d. cc }
 
+-- a read turn of a side without a fault does what a transaction asks of a read
 pub hears_by : (x : Seen) (a : Bool) (room : ℕ) (old new : ReadSide) (P Q : Past → Type 0) (out : List ℕ) (result : Result Turn ClientFault)
     → old.fault ≡ None → room ≡ length out
     → ReadTurn x a room old new P Q out result → OnOk result (new.fault ≡ None) → ((g : ClientFault) → result ≡ Err g → new.fault ≡ Some g)
@@ -296,6 +311,7 @@ hears_by x a room old new P Q out (Err g) none long t sound stays = record {
   fault = record { sound = λ s e. cc; again = λ f e. cc; stays = stays };
 }
 
+-- after a fault a read hears nothing, answers the fault again and keeps it
 pub hears_none : (x : Seen) (s : ReadSide) (rests all_framed : Type 0) (g : ClientFault) (P Q : Past → Type 0) (out : List ℕ)
     → s.fault ≡ Some g → ((p : Past) → P p → Q p)
     → Hears x (λ x adapted read. SideHeard x adapted read s) (λ x adapted read. SideHeard x adapted read s) s.fault s.fault rests all_framed
@@ -314,11 +330,13 @@ hears_none x s rests all_framed g P Q out e w = record {
   fault = record { sound = λ t i. cc; again = λ f i. cc; stays = λ f i. cc };
 }
 
+-- the fault that a result has is the one that is kept
 stays_by : (k : Option ClientFault) (result : Result Turn ClientFault) → IfErr result (λ g. k ≡ Some g) → (g : ClientFault) → result ≡ Err g
     → k ≡ Some g
 stays_by k (Ok t) s g e = cc
 stays_by k (Err f) s g e = let same : f ≡ g = cc in s ∙ ap Some same
 
+-- a read does what a transaction asks, whichever fault stood before it, or none
 hears_case : (x : Seen) (a : Bool) (room : ℕ) (old new : ReadSide) (P Q : Past → Type 0) (out : List ℕ) (result : Result Turn ClientFault)
     (fault : Option ClientFault) → old.fault ≡ fault → room ≡ length out
     → (old.fault ≡ None → ReadTurn x a room old new P Q out result) → OnOk result (new.fault ≡ None)
@@ -336,6 +354,7 @@ hears_case x a room old new P Q out result (Some g) e long t o s f u =
     old.fault n.fault (NothingToRead x a room n.reader.stage) (HasToWait n.reader.stage n.raw room) P Q out (Err g)) (sym f.1)
     (hears_none x old (NothingToRead x a room old.reader.stage) (HasToWait old.reader.stage old.raw room) g P Q out e u))
 
+-- a read does what a transaction asks, where a side with a fault stays and answers it again
 pub hears_all : (x : Seen) (a : Bool) (room : ℕ) (old new : ReadSide) (P Q : Past → Type 0) (out : List ℕ)
     (result : Result Turn ClientFault) → room ≡ length out
     → (old.fault ≡ None → ReadTurn x a room old new P Q out result) → OnOk result (new.fault ≡ None)
@@ -347,6 +366,7 @@ hears_all x a room old new P Q out result long t o s f u = hears_case x a room o
 
 -- ---- the laws
 
+-- at a history's beginning a side with a first reader and no raw byte has heard nothing
 pub side_begins : (plan : Plan) (point : Point) (s : ReadSide) → s.reader ≡ first_reader point → s.raw ≡ []
     → SideHeard (seen plan []) [] [] s
 side_begins plan point s e r = record {

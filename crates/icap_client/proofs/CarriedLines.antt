@@ -9,6 +9,7 @@ use Rattle.adapt_bytes.specs.Text.{is_among}
 use Rattle.icap_head.specs.Written.{field_text}
 use Rattle.icap_client.specs.Carried.{carried_text}
 
+-- the carried lines of two lists of fields in a row are those of the first, then those of the second
 both_parts : (names : List (List ℕ)) (xs ys : FieldList) → carried_text names (xs ++ ys) ≡ carried_text names xs ++ carried_text names ys
 both_parts names xs ys =
     ap (flat_map field_text) (filter-append (λ (field : List ℕ × List ℕ). is_among names field.0) xs ys)

@@ -28,22 +28,27 @@ use Rattle.icap_client.specs.declared.stage.Stage.{Stage}
 use Rattle.icap_client.specs.declared.stage.Stage.TheVariants.{Replies, Head, Body, Over}
 use Rattle.icap_client.proofs.Unique.{split_one, layout_one, body_one, First, one_status, longer, first_bare}
 
+-- true isn't false
 true_false : true ≡ false → ⊥
 true_false e = cc
 
+-- an option isn't both none and some
 none_some : {A : Type 0} {a : A} → None ≡ Some a → ⊥
 none_some e = cc
 
 -- ---- the front of a head is no whole head
 
+-- one or the other is true if the other is
 or_true : (a b : Bool) → b ≡ true → (a || b) ≡ true
 or_true true b e = refl
 or_true false b e = e
 
+-- bytes with an LF among them have a line
 has_feed : (xs ys : List ℕ) → has_line (xs ++ 10 ∷ ys) ≡ true
 has_feed [] ys = refl
 has_feed (x ∷ xs) ys = or_true (x == 10) (has_line (xs ++ 10 ∷ ys)) (has_feed xs ys)
 
+-- a head that ends within the judged bytes is a head of these
 in_judged : (raw : List ℕ) (j : ℕ) (value : Response) (size : ℕ) → size ≤ j → HasResponse raw value size
     → HasResponse (take j raw) value size
 in_judged raw j value size l h = in_front (StartsResponse value) raw value.fields size j l h
@@ -52,11 +57,13 @@ in_judged raw j value size l h = in_front (StartsResponse value) raw value.field
 head_inside : (text : List ℕ) (value : Response) (size : ℕ) → HasResponse text value size → size ≤ length text
 head_inside text value size h = omega (arith, h.inside, unfolded_length text)
 
+-- a response's head has at least one byte
 some_size : (text : List ℕ) (value : Response) (size : ℕ) → HasResponse text value size → 0 < size
 some_size text value size h =
     let e = head_ends (StartsResponse value) text value.fields size h in
     omega (arith, head_inside text value size h, length-take size text, ap (λ (t : List ℕ). length t) e.1, length-append e.0 (10 ∷ []))
 
+-- no head ends after the judged bytes if no line ends after them
 behind_judged : (raw : List ℕ) (j : ℕ) (value : Response) (size : ℕ) → j < size → has_line (drop j raw) ≡ false → HasResponse raw value size
     → ⊥
 behind_judged raw j value size l n h =
@@ -74,6 +81,7 @@ behind_judged raw j value size l n h =
     ap (λ (t : List ℕ). drop j t) all ∙ drop-append-le j e.0 (10 ∷ drop size raw) long in
     true_false (sym (has_feed (drop j e.0) (drop size raw)) ∙ (ap has_line (sym cut) ∙ n))
 
+-- a prefix of a head begins with no whole head, ending within its judged bytes or after them
 no_head_by : (raw : List ℕ) (f : IsHeadFront raw) (value : Response) (size : ℕ) → (size ≤ f.judged) ⊎ (f.judged < size)
     → (f.judged ≡ 0) ⊎ RefusesResponse More (take f.judged raw) → HasResponse raw value size → ⊥
 no_head_by raw f value size (inl l) (inl z) h = let some = some_size raw value size h in omega (arith, l, z, some)
@@ -81,10 +89,12 @@ no_head_by raw f value size (inl l) (inr s) h = no_response_fault More (unfolded
     (in_judged raw f.judged value size l h) s
 no_head_by raw f value size (inr m) k h = behind_judged raw f.judged value size m f.no_line h
 
+-- the two cases of an order of numbers change places
 order : (a b : ℕ) → (a < b) ⊎ (b ≤ a) → (b ≤ a) ⊎ (a < b)
 order a b (inl l) = inr l
 order a b (inr l) = inl l
 
+-- a prefix of a head doesn't begin with a whole head of any status
 no_head : (raw : List ℕ) (status : ℕ) → IsHeadFront raw → First raw status → ⊥
 no_head raw status f h = no_head_by raw f h.value h.size (order f.judged h.size (cases_lt f.judged h.size)) f.more h.has
 
@@ -109,10 +119,12 @@ record Parsed (x : Seen) (xs raw : List ℕ) (r : Reader) (read : List ℕ) : Ty
   interim : IsContinueOrNothing r.point x.continued before
   told : Told x xs raw r r.point rest
 
+-- a side that waits in a body, with room, has no raw byte
 no_raw : (raw : List ℕ) (room : ℕ) (chunks : ChunkReader) → 0 < room → HasToWait (Body chunks) raw room → raw ≡ []
 no_raw raw room chunks some (inl e) = e
 no_raw raw room chunks some (inr h) = absurd (omega (arith, some, h.0))
 
+-- bytes up to a whole final response are a 100 or none, then that response, and the raw ones
 parsed_final : (x : Seen) (xs framed raw : List ℕ) (r : Reader) (read : List ℕ) → r.stage ≡ Over → read ≡ framed ++ raw
     → HeardFinal x xs framed r → Parsed x xs raw r read
 parsed_final x xs framed raw r read s e (was_unchanged h) = record {
@@ -130,6 +142,7 @@ parsed_final x xs framed raw r read s e (was_changed h) = record {
   told = change h.layout h.last s refl h.reply h.layout_is h.marks;
 }
 
+-- what a waiting side with room has read is a 100 or none, and then what its stage tells
 parsed : (stage : Stage) (x : Seen) (xs framed raw : List ℕ) (r : Reader) (read : List ℕ) (room : ℕ) → r.stage ≡ stage → 0 < room
     → read ≡ framed ++ raw → HeardTo stage x xs framed r → HasToWait stage raw room → Parsed x xs raw r read
 parsed Replies x xs framed raw r read room s some e h w = record {
@@ -165,11 +178,13 @@ record Begins (point : Point) (layout : Layout) (rest tail : List ℕ) : Type 0 
   text_is : rest ≡ icap ++ tail
   is : IsModHead point layout icap
 
+-- bytes that begin with the ICAP head of a 200 have status 200 first
 begins_first : (point : Point) (layout : Layout) (rest tail : List ℕ) → Begins point layout rest tail → First rest 200
 begins_first point layout rest tail h =
     let icap : First h.icap 200 = record { value = h.is.value; size = length h.icap; has = h.is.head; status_is = h.is.status_is } in
     subst (λ (t : List ℕ). First t 200) (sym h.text_is) (longer h.icap tail 200 icap)
 
+-- bytes begin with the ICAP head of a 200 in one way: with one layout and one rest
 begins_one : (point : Point) (l k : Layout) (rest a b : List ℕ) → Begins point l rest a → Begins point k rest b → (l ≡ k) × (a ≡ b)
 begins_one point l k rest a b h i =
     let v = h.is.value in
@@ -183,20 +198,24 @@ begins_one point l k rest a b h i =
       (split_one h.icap a i.icap b (sym h.text_is ∙ i.text_is) same.1).1,
     )
 
+-- the heads of a 200 begin with its ICAP head, and the adapted head and the body's text follow
 body_begins : (point : Point) (layout : Layout) (head heads text rest : List ℕ) → rest ≡ heads ++ text → IsModHeads point layout head heads
     → Begins point layout rest (head ++ text)
 body_begins point layout head heads text rest e h =
     record { icap = h.icap; text_is = e ∙ (ap (λ (t : List ℕ). t ++ text) h.text_is ∙ append_assoc h.icap head text); is = h.is }
 
+-- a whole 200 begins with its ICAP head, and the adapted head and what follows that come after
 change_begins : (point : Point) (layout : Layout) (head xs last raw rest : List ℕ) (e : rest ≡ last ++ raw)
     (m : IsMod point layout head xs last) → Begins point layout rest (head ++ (m.rest ++ raw))
 change_begins point layout head xs last raw rest e m =
     body_begins point layout head m.heads (m.rest ++ raw) rest (e ∙ (ap (λ (t : List ℕ). t ++ raw) m.text_is
     ∙ append_assoc m.heads m.rest raw)) m.heads_are
 
+-- bytes that begin with a bare 204 have status 204 first
 bare_first : (point : Point) (last raw rest : List ℕ) → rest ≡ last ++ raw → IsBareReply point 204 last → First rest 204
 bare_first point last raw rest e h = subst (λ (t : List ℕ). First t 204) (sym e) (first_bare point 204 last raw h)
 
+-- bytes with status 200 first don't have 204 first
 other_status : (rest : List ℕ) → First rest 200 → First rest 204 → ⊥
 other_status rest f g = omega (arith, one_status rest 200 204 f g)
 
@@ -220,6 +239,7 @@ no_interim x xs raw r point rest (change layout last s e h k m) g =
           (change_begins point layout r.head xs last raw rest e h)) g,
     )
 
+-- bytes are in one way a 100 or none and a rest that doesn't begin with a 100
 interim_one : (point : Point) (c d : Bool) (before rest first other : List ℕ) → before ++ rest ≡ first ++ other
     → IsContinueOrNothing point c before → IsContinueOrNothing point d first → (First rest 100 → ⊥) → (First other 100 → ⊥)
     → (c ≡ d) × (rest ≡ other)
@@ -241,14 +261,17 @@ interim_one point false false before rest first other e h i n m =
 
 -- ---- what stands behind the heads
 
+-- bytes fewer than a layout's offset don't begin with a head of that length
 head_short : (head text raw : List ℕ) (l k : Layout) → l ≡ k → raw ≡ head ++ text → length raw < l.offset → length head ≡ k.offset → ⊥
 head_short head text raw l k e t less long =
     omega (arith, less, long, ap (λ (m : Layout). m.offset) e, ap (λ (s : List ℕ). length s) t, length-append head text)
 
+-- two heads of one layout's length that a text begins with are the same, and so is what follows them
 tails_one : (head a other b : List ℕ) (l k : Layout) → l ≡ k → head ++ a ≡ other ++ b → length head ≡ l.offset → length other ≡ k.offset
     → (head ≡ other) × (a ≡ b)
 tails_one head a other b l k e t x y = split_one head a other b t (x ∙ (ap (λ (m : Layout). m.offset) e ∙ sym y))
 
+-- two chunk readers that read the same text are the same, with the same body
 read_one : (text xs ys : List ℕ) (c d : ChunkReader) → HasRead text xs c → HasRead text ys d → (c ≡ d) × (xs ≡ ys)
 read_one text xs ys c d h i = (sym h.read ∙ i.read, sym h.found ∙ i.found)
 
@@ -272,6 +295,7 @@ not_shorter a raw b other xs ys i j e l h k =
     let open_still : end_of (run start (take (length a) b)) ≡ None = (chunked_ends b ys j k).0.first (length a) l in
     none_some (sym open_still ∙ (ap (λ (t : List ℕ). end_of (run start t)) first ∙ ends.ended))
 
+-- two whole chunked bodies that one text begins with, by their lengths, have the same bytes and rest
 bodies_by : (a raw b other xs ys : List ℕ) (i j : Bool) → a ++ raw ≡ b ++ other → IsChunked a xs i → IsChunked b ys j
     → (length a < length b) ⊎ (length b ≤ length a) → (length b < length a) ⊎ (length a ≤ length b) → (raw ≡ other) × (xs ≡ ys)
 bodies_by a raw b other xs ys i j e h k (inl l) q = absurd (not_shorter a raw b other xs ys i j e l h k)
@@ -280,6 +304,7 @@ bodies_by a raw b other xs ys i j e h k (inr m) (inr l) =
     let cut = split_one a raw b other e (omega (arith, m, l)) in
     (cut.1, body_one true b xs ys (i, subst (λ (t : List ℕ). IsChunked t xs i) cut.0 h) (j, k))
 
+-- two bodies that one text begins with, both chunked or both none, have the same bytes and rest
 bodies_one : (t : Bool) (a raw b other xs ys : List ℕ) → a ++ raw ≡ b ++ other → IsBody t a xs → IsBody t b ys → (raw ≡ other) × (xs ≡ ys)
 bodies_one true a raw b other xs ys e h k = bodies_by a raw b other xs ys h.0 k.0 e h.1 k.1 (cases_lt (length a) (length b))
     (cases_lt (length b) (length a))
@@ -301,6 +326,7 @@ record Alike (x y : Seen) (xs ys raw other : List ℕ) (a b : Reader) : Type 0 w
   left : raw ≡ other
   heads : x.modified ≡ true → (a.layout ≡ b.layout) × (a.head ≡ b.head)
 
+-- two sides with the same marks, adapted bytes, stage, raw bytes and heads are alike
 alike_by : (x y : Seen) (xs ys raw other : List ℕ) (a b : Reader) (n m h o i : Bool) → Marks x n m h o → Marks y n m i o → h ≡ i → xs ≡ ys
     → a.stage ≡ b.stage → raw ≡ other → (x.modified ≡ true → (a.layout ≡ b.layout) × (a.head ≡ b.head)) → Alike x y xs ys raw other a b
 alike_by x y xs ys raw other a b n m h o i p q e d s l k = record {
@@ -314,12 +340,15 @@ alike_by x y xs ys raw other a b n m h o i p q e d s l k = record {
   heads = k;
 }
 
+-- a history without a 200 doesn't have one
 unmodified : (x : Seen) {A : Type 0} → x.modified ≡ false → x.modified ≡ true → A
 unmodified x e f = absurd (true_false (sym f ∙ e))
 
+-- two stages that wait for a head of the same layout are the same
 head_layout : (a b : Stage) (l k : Layout) → a ≡ Head l → b ≡ Head k → l ≡ k → a ≡ b
 head_layout a b l k e f g = e ∙ (ap Head g ∙ sym f)
 
+-- two sides that were told the same rest at the same point are alike
 told_one : (x y : Seen) (xs ys raw other : List ℕ) (a b : Reader) (point : Point) (rest : List ℕ) → Told x xs raw a point rest
     → Told y ys other b point rest → Alike x y xs ys raw other a b
 told_one x y xs ys raw other a b point rest (nothing s f e n m) (nothing t g d o p) =
@@ -421,6 +450,7 @@ told_one x y xs ys raw other a b point rest (change layout last s e h k m) (chan
     alike_by x y xs ys raw other a b false true (has_body layout.body) true (has_body layout'.body) m p
     (ap (λ (z : Layout). has_body z.body) same.0) bodies.1 (s ∙ sym t) bodies.0 (λ q. (k ∙ (ap Some same.0 ∙ sym k'), tails.0))
 
+-- two waiting sides with room that read the same bytes, cut in any way, are equally far
 pub cut_anyhow : (x y : Seen) (xs ys read : List ℕ) (a b : ReadSide) (room more : ℕ) → b.reader.point ≡ a.reader.point → 0 < room → 0 < more
     → SideHeard x xs read a → HasToWait a.reader.stage a.raw room → SideHeard y ys read b → HasToWait b.reader.stage b.raw more
     → AreSame x y xs ys a b

@@ -17,6 +17,7 @@ use Rattle.icap_client.specs.Front.{Front, HasBody}
 use Rattle.icap_client.specs.Sending.{HasSent, DropsText, NothingDue}
 use Rattle.icap_client.specs.Turns.{WriteTurn, FitsOffer, is_flushed}
 
+-- what was sent stays so after the heads' text is let go
 pub sent_still : (head : List ℕ) (x : Seen) (came taken : List ℕ) (old new : Writer) → DropsText old new → HasSent head x came taken old
     → HasSent head x came taken new
 sent_still head x came taken old new l h = record {
@@ -29,12 +30,15 @@ sent_still head x came taken old new l h = record {
   waits = λ some. subst (WaitsBehind (HasBody (take x.sent came)) h.chunks) (sym l.waiting_is) (h.waits some);
 }
 
+-- where nothing is due, nothing is due either after the heads' text is let go
 pub due_still : (x : Seen) (old new : Writer) → DropsText old new → NothingDue x old → NothingDue x new
 due_still x old new l n = record { flushed = l.waiting_is ∙ n.flushed; none = n.none; no_stop = n.no_stop }
 
+-- whether all that was fixed is out stays so after the heads' text is let go
 pub flushed_still : (old new : Writer) → DropsText old new → is_flushed new ≡ is_flushed old
 flushed_still old new l = ap (λ (t : List ℕ). length t == 0) l.waiting_is
 
+-- a write's result fits its wire's answer also after the heads' text is let go
 fits_still : (x : Seen) (mid new : Writer) (answer : Option Put) (result : Result Turn ClientFault) → DropsText mid new
     → FitsOffer x mid answer result → FitsOffer x new answer result
 fits_still x mid new answer (Ok turn) l f = record {
@@ -47,6 +51,7 @@ fits_still x mid new answer (Ok turn) l f = record {
 }
 fits_still x mid new answer (Err fault) l f = f
 
+-- a write turn stays one after the heads' text is let go
 pub write_still : {most : ℕ} (x : Seen) (tape : Tape) (old mid new : Writer) (P Q : Past → Type 0) (result : Result Turn ClientFault)
     → DropsText mid new → WriteTurn most x tape old mid P Q result → WriteTurn most x tape old new P Q result
 write_still x tape old mid new P Q result l t = record {
@@ -63,6 +68,7 @@ write_still x tape old mid new P Q result l t = record {
   fits = fits_still x mid new t.answer result l t.fits;
 }
 
+-- body bytes that go out leave the heads' text as it was
 same_head : (b : Bool) (v : Writer) (k : ℕ) → (after_data b v k).head ≡ v.head
 same_head true v k = refl
 same_head false v k = refl

@@ -37,6 +37,7 @@ use Rattle.icap_client.specs.declared.replies.Reply.TheVariants as replies
 use Rattle.icap_client.specs.declared.stage.Stage.{Stage}
 use Rattle.icap_client.specs.declared.stage.Stage.TheVariants.{Replies, Head, Body, Over}
 
+-- bytes that begin with a head which spells no reply that is taken are refused for that
 pub refuses_said : (fault : ClientFault) (x : Seen) (point : Point) (raw : List ℕ) (value : Response) (size : ℕ)
     → HasResponse raw value size → SpellsNoReply fault point value → RefusesReply fault x point raw
 refuses_said faults.Head x point raw value size h s = absurd s
@@ -54,6 +55,7 @@ pub stands_for : {A : Type 0} (fault : HeadFault) (text : List ℕ) → fault �
 stands_for fault text n (inl h) = absurd (n h.0)
 stands_for fault text n (inr s) = s
 
+-- bytes without a head are refused for that, or for want of memory
 pub refuses_head : {A : Type 0} (fault : HeadFault) (found : ClientFault) (x : Seen) (point : Point) (raw : List ℕ)
     → (((fault ≡ heads.NoMemory) × (found ≡ faults.NoMemory)) ⊎ ((found ≡ faults.Head) × (fault ≢ heads.NoMemory) × (fault ≢ heads.More)))
     → ((fault ≡ heads.NoMemory) × A) ⊎ RefusesResponse fault raw → RefusesReply found x point raw
@@ -61,6 +63,7 @@ refuses_head fault found x point raw (inl m) s = subst (λ (f : ClientFault). Re
 refuses_head fault found x point raw (inr h) s = subst (λ (f : ClientFault). RefusesReply f x point raw) (sym h.0)
     (fault, h.2, stands_for fault raw h.1 s)
 
+-- an adapted head that ends before the layout's last byte of it is a misfit
 pub misfit_early : (layout : Layout) (raw : List ℕ) (size : ℕ) → size ≤ length (take layout.offset raw)
     → IsEncapsulatedHead (take size (take layout.offset raw)) → size ≢ layout.offset → IsMisfit layout raw
 misfit_early layout raw size l h n =
@@ -82,13 +85,16 @@ fit_refused fault x layout raw head e h l (inr n) =
     } in
     subst (λ (f : ClientFault). RefusesHead f x layout raw) (sym n.0) (fit, n.1)
 
+-- false isn't true
 false_is_not_true : false ≡ true → ⊥
 false_is_not_true e = cc
 
+-- a chunk reader before its first byte has no end
 none_starts : end_of start ≡ None
 unfolding end_at
 none_starts = refl
 
+-- a chunk reader before its first byte has no fault
 sound_starts : fault_of start ≡ None
 unfolding faulted_at
 sound_starts = refl
@@ -169,10 +175,12 @@ is_head raw value size h =
     let e : length (take size raw) ≡ size = length-take-le size raw (omega (arith, h.inside, unfolded_length raw)) in
     subst (λ (n : ℕ). HasResponse (take size raw) value n) (sym e) (head_of_front (StartsResponse value) raw value.fields size h)
 
+-- a head of this status that bytes begin with, and that encapsulates nothing, is a bare reply
 is_bare : (point : Point) (status : ℕ) (raw : List ℕ) (value : Response) (size : ℕ) → HasResponse raw value size → value.status ≡ status
     → HasNothing point (lists_of value) → IsBareReply point status (take size raw)
 is_bare point status raw value size h s l = record { value = value; head = is_head raw value size h; status_is = s; list = l }
 
+-- a head of status 200 that bytes begin with, with a layout and an adapted head, is the ICAP head of a 200
 is_mod : (point : Point) (raw : List ℕ) (value : Response) (size : ℕ) (layout : Layout) → HasResponse raw value size
     → (value.status ≡ 200) × HasLayout point (lists_of value) layout × HasAdaptedHead layout → IsModHead point layout (take size raw)
 is_mod point raw value size layout h s = record {
@@ -183,6 +191,7 @@ is_mod point raw value size layout h s = record {
   adapted = s.2;
 }
 
+-- a reader that waits for replies has heard a 100 or nothing
 interim_at : (x : Seen) (adapted read : List ℕ) (r : Reader) → r.stage ≡ Replies → HasHeard x adapted read r → HeardInterim x adapted read r
 interim_at x adapted read r stage h = subst (λ (s : Stage). HeardTo s x adapted read r) stage h
 
@@ -265,12 +274,14 @@ hears_head x r new raw value size layout is stage h s n = subst (λ (n : Reader)
       };
 })
 
+-- the ICAP head of a 200 is used without an event
 pub passes_head : (r new : Reader) (raw : List ℕ) (value : Response) (size : ℕ) (layout : Layout) → new ≡ in_stage r (Head layout)
     → HasResponse raw value size
     → (value.status ≡ 200) × HasLayout r.point (lists_of value) layout × HasAdaptedHead layout → PassesWithoutEvent r new size raw
 passes_head r new raw value size layout is h s = goes_on layout (ap (λ (r : Reader). r.stage) is) (ap (λ (r : Reader). r.point) is)
     (is_mod r.point raw value size layout h s)
 
+-- a prefix of an ICAP head of which none is used makes no event
 pub passes_none : (r : Reader) (raw : List ℕ) → RefusesResponse heads.More raw → PassesWithoutEvent r r 0 raw
 passes_none r raw s = waits refl refl refl s
 
@@ -288,6 +299,7 @@ hears_noted x r new remarks closes events bytes part stage h = record {
       h.heard adapted read (subst (λ (s : Stage). HeardTo s x adapted read (noted r remarks closes)) (sym stage) n);
 }
 
+-- bytes that make no event after a response's remarks were noted make none for the reader before that
 pub passes_noted : (r new : Reader) (remarks : FieldList) (closes : Bool) (used : ℕ) (raw : List ℕ)
     → PassesWithoutEvent (noted r remarks closes) new used raw → PassesWithoutEvent r new used raw
 passes_noted r new remarks closes used raw (waits z e p s) = waits z e p s
@@ -315,11 +327,13 @@ untimely_continue : (t : Bool) (x : Seen) (point : Point) (raw : List ℕ) (valu
     → (value.status ≡ 100) × HasNothing point (lists_of value) → RefusesReply faults.NotLegal x point raw
 untimely_continue t x point raw value size e m h s = (value, size, h, inl (s.0, s.1, λ may. false_is_not_true (sym e ∙ m may)))
 
+-- a 204 that may not come is refused as not legal
 untimely_no_mod : (t : Bool) (x : Seen) (point : Point) (raw : List ℕ) (value : Response) (size : ℕ) → t ≡ false
     → (MayCome x NoMod → IsTrue t) → HasResponse raw value size
     → (value.status ≡ 204) × HasNothing point (lists_of value) → RefusesReply faults.NotLegal x point raw
 untimely_no_mod t x point raw value size e m h s = (value, size, h, inr (s.0, s.1, λ may. false_is_not_true (sym e ∙ m may)))
 
+-- a reply that may not come now is refused as not legal
 pub untimely : (t : Bool) (reply : Reply) (x : Seen) (point : Point) (raw : List ℕ) (value : Response) (size : ℕ) → t ≡ false
     → (MayReply x reply → IsTrue t) → HasResponse raw value size
     → SpellsReply point value reply → RefusesReply faults.NotLegal x point raw
@@ -331,6 +345,7 @@ untimely t (replies.Mod layout) x point raw value size e m h s = absurd (false_i
 pub keeps_start : (s : Stage) (chunks : ChunkReader) → s ≡ Body chunks → chunks ≡ start → KeepsLimits s
 keeps_start s chunks e f = subst KeepsLimits (sym (e ∙ ap Body f)) (none_starts, sound_starts)
 
+-- after a final response's end a stage keeps its limits
 pub keeps_over : (s : Stage) → s ≡ Over → KeepsLimits s
 keeps_over s e = subst KeepsLimits (sym e) tt
 

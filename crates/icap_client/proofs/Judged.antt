@@ -10,22 +10,27 @@ use Rattle.adapt_sides.specs.Filling.{IsFilled}
 use Rattle.adapt_sides.specs.declared.filling.Filled.{Filled}
 use Rattle.adapt_sides.specs.declared.filling.Filled.TheVariants as filled
 
+-- of a prefix of a head all bytes may be judged
 pub all_judged : (bytes : List ℕ) → RefusesResponse More bytes → IsJudged (length bytes) bytes
 all_judged bytes s = inr (subst (λ (t : List ℕ). RefusesResponse More t) (sym (take-length bytes)) s)
 
+-- a bit whose negation is true is false
 pub is_false : (b : Bool) → not b ≡ true → b ≡ false
 is_false true e = cc
 is_false false e = refl
 
+-- judged bytes stay judged with more bytes after them
 more_judged : (judged : ℕ) (bytes delta : List ℕ) → judged ≤ length bytes → IsJudged judged bytes → IsJudged judged (bytes ++ delta)
 more_judged judged bytes delta l (inl e) = inl e
 more_judged judged bytes delta l (inr s) = inr (subst (λ (t : List ℕ). RefusesResponse More t) (sym (take-append-le judged bytes delta l))
     s)
 
+-- judged bytes are still there, and judged, if the bytes stay the same
 same_judged : (judged : ℕ) (old new : List ℕ) → new ≡ old → judged ≤ length old → IsJudged judged old
     → (judged ≤ length new) × IsJudged judged new
 same_judged judged old new e l h = subst (λ (t : List ℕ). (judged ≤ length t) × IsJudged judged t) (sym e) (l, h)
 
+-- judged bytes are still there, and judged, after a read of the wire
 pub filled_judged : (P Q : Past → Type 0) (old new : List ℕ) (result : Filled) (judged : ℕ) → IsFilled P Q old new result
     → judged ≤ length old → IsJudged judged old → (judged ≤ length new) × IsJudged judged new
 filled_judged P Q old new filled.Bytes judged f l h =

@@ -20,10 +20,12 @@ use Rattle.icap_client.specs.Turns.{Service, ServiceSent, ServiceHeard, Sends, H
 
 -- ---- a preview that was answered
 
+-- a bit or false is that bit
 or_none : (b : Bool) → b ≡ (b || false)
 or_none true = refl
 or_none false = refl
 
+-- whether one of three bits is true stays so if the first two change places
 or_swap : (a b c : Bool) → ((a || b) || c) ≡ (b || (a || c))
 or_swap true true c = refl
 or_swap true false c = refl
@@ -33,11 +35,13 @@ or_swap false b c = or_same b c
     or_same true c = refl
     or_same false c = refl
 
+-- after events the history has a 100 just if it had one or they bring one
 continued_after : (x : Seen) (events : List Event) → (after_all x events).continued ≡ (x.continued || list_any is_continue events)
 continued_after x [] = or_none x.continued
 continued_after x (event ∷ events) = continued_after (after x event) events
     ∙ or_swap (is_continue event) x.continued (list_any is_continue events)
 
+-- whether one of five bits is true doesn't depend on their order
 or_mixed : (a n b m c : Bool) → (((a || n) || (b || m)) || c) ≡ ((n || m) || ((a || b) || c))
 or_mixed true true true true c = refl
 or_mixed true true true false c = refl
@@ -56,16 +60,19 @@ or_mixed false false true false c = refl
 or_mixed false false false true c = refl
 or_mixed false false false false c = refl
 
+-- after events the history has a final response just if it had one or they bring one
 final_after : (x : Seen) (events : List Event) → ((after_all x events).no_mod || (after_all x events).modified)
     ≡ ((x.no_mod || x.modified) || list_any is_final events)
 final_after x [] = or_none (x.no_mod || x.modified)
 final_after x (event ∷ events) = final_after (after x event) events ∙ or_mixed (is_no_mod event) x.no_mod (is_mod event) x.modified
     (list_any is_final events)
 
+-- events leave the plan of a history
 plan_after : (x : Seen) (events : List Event) → (after_all x events).plan ≡ x.plan
 plan_after x [] = refl
 plan_after x (event ∷ events) = plan_after (after x event) events
 
+-- whether a preview is answered after events is told by what stood before and what they bring
 pub answered_after : (x : Seen) (events : List Event)
     → (is_preview x.plan.kind && (not (x.continued || list_any is_continue events) &&
     ((x.no_mod || x.modified) || list_any is_final events))) ≡ is_answered (after_all x events)
@@ -75,11 +82,13 @@ answered_after x events =
     ∙ (ap (λ (c : Bool). is_preview x.plan.kind && (not c && (y.no_mod || y.modified))) (sym (continued_after x events))
     ∙ ap (λ (p : Plan). is_preview p.kind && (not y.continued && (y.no_mod || y.modified))) (sym (plan_after x events)))
 
+-- bits of which one is false aren't true together
 and_none : (a b : Bool) → (a && (b && false)) ≡ false
 and_none true true = refl
 and_none true false = refl
 and_none false b = refl
 
+-- before the first byte of a reply a history has neither a 204 nor a 200
 unheard_marks : (x : Seen) (adapted read : List ℕ) → HasBegun x read ⊎ NotBegun x adapted read → x.heard ≡ false
     → (x.no_mod ≡ false) × (x.modified ≡ false)
 unheard_marks x adapted read (inl h) f = let odd : true ≡ false = sym h.0 ∙ f in cc
@@ -96,21 +105,26 @@ none_answered x adapted read s f h =
 
 -- ---- the last Stop
 
+-- a Stop after no further byte is the last one just if a Stop now is
 last_here : (x : Seen) → is_last_at x x.sent ≡ is_last_at x (x.sent + 0)
 last_here x = ap (λ (n : ℕ). is_last_at x n) (omega arith)
 
+-- whether a Stop is the last one after more bytes doesn't depend on how these are added
 last_moved : (x : Seen) (n : ℕ) → is_last_at x (x.sent + n) ≡ is_last_at x (n + x.sent)
 last_moved x n = let e : x.sent + n ≡ n + x.sent = omega arith in ap (λ (m : ℕ). is_last_at x m) e
 
+-- after a Stop the last one stands just if this is it or it stood before
 stop_none : (x : Seen) → (after x Stop).last_stop ≡ (is_last_at x x.sent || x.last_stop)
 stop_none x = refl
 
+-- after body bytes and a Stop the last one stands just if this is it or it stood before
 stop_some : (x : Seen) (n : ℕ) → (after (after x (Svc n)) Stop).last_stop ≡ (is_last_at x (n + x.sent) || x.last_stop)
 stop_some x n =
     let r : 0 + x.received ≡ x.received = omega arith in
     ap (λ (m : ℕ). (is_whole x.plan.kind || (is_preview x.plan.kind && not x.stopped && x.ended && (n + x.sent == m)) ||
     (is_preview x.plan.kind && x.continued)) || x.last_stop) r
 
+-- after body bytes, if any, and a Stop the last one stands just if this is it or it stood before
 last_by : (x : Seen) (n : ℕ) (b : Bool) → (n == 0) ≡ b
     → (after_all x (sending_events n true)).last_stop ≡ (is_last_at x (x.sent + n) || x.last_stop)
 last_by x n true e =
@@ -118,6 +132,7 @@ last_by x n true e =
     rw e (stop_none x ∙ ap (λ (m : ℕ). is_last_at x m || x.last_stop) (omega (arith, z)))
 last_by x n false e = rw e (stop_some x n ∙ ap (λ (l : Bool). l || x.last_stop) (sym (last_moved x n)))
 
+-- body bytes without a Stop leave whether the last Stop stands
 last_still : (x : Seen) (n : ℕ) (b : Bool) → (n == 0) ≡ b → (after_all x (sending_events n false)).last_stop ≡ x.last_stop
 last_still x n true e = rw e refl
 last_still x n false e = rw e refl
@@ -135,6 +150,7 @@ last_after x n count from false events i f all = sym (last_still x n (n == 0) re
 
 -- ---- both in a turn
 
+-- an event of sending is no Retry
 sending_is_no_retry : (event : Event) → is_of_sending event ≡ true → is_retry event ≡ false
 sending_is_no_retry (Svc k) o = refl
 sending_is_no_retry Stop o = refl
@@ -146,6 +162,7 @@ might_retry_all : (x : Seen) (events : List Event) → AllAre is_of_sending even
 might_retry_all x [] o m = m
 might_retry_all x (event ∷ events) o m = might_retry x event (sending_is_no_retry event o.0) (might_retry_all (after x event) events o.1 m)
 
+-- a write of the writing half that keeps its mark and its head is one of the whole side
 pub sends_marked : (x : Seen) (tape : Tape) (old new : Service) (fault kept : Option ClientFault) (P Q : Past → Type 0)
     (result : Result Turn ClientFault)
     → (old.last_stop ≡ x.last_stop → new.last_stop ≡ (after_all x (events_of result)).last_stop)
@@ -168,6 +185,7 @@ sends_marked x tape old new fault kept P Q result mark same s = record {
   fault = s.fault;
 }
 
+-- a read of the reading half that keeps the mark of an answered preview is one of the whole side
 pub hears_marked : (x : Seen) (old new : Service) (fault kept : Option ClientFault) (rests all_framed : Type 0) (P Q : Past → Type 0)
     (out : List ℕ) (result : Result Turn ClientFault)
     → (old.answered ≡ is_answered x → new.answered ≡ is_answered (after_all x (events_of result)))

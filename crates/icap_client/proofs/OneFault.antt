@@ -31,11 +31,13 @@ use Rattle.icap_client.specs.declared.stage.Stage.{Stage}
 use Rattle.icap_client.specs.declared.stage.Stage.TheVariants.{Replies, Head, Body, Over}
 use Rattle.icap_client.proofs.Unique.{split_one, layout_one}
 
+-- true isn't false
 true_false : true ≡ false → ⊥
 true_false e = cc
 
 -- ---- the adapted message's head
 
+-- an adapted head isn't both a misfit and a fit
 no_fit : (layout : Layout) (raw : List ℕ) → IsMisfit layout raw → IsFit layout raw → ⊥
 no_fit layout raw (ends_early size l h o m) f =
     let less : size < length (take layout.offset raw) = omega (arith, m, o, length-take-le layout.offset raw f.there) in
@@ -51,6 +53,7 @@ data HeadReason (f : ClientFault) (x : Seen) (layout : Layout) (raw : List ℕ) 
   misfit : f ≡ faults.Layout → IsMisfit layout raw → HeadReason f x layout raw
   untimely : f ≡ faults.NotLegal → IsFit layout raw → HeadReason f x layout raw
 
+-- an adapted head is refused, memory aside, as a misfit or as a response that may not come
 head_reason : (f : ClientFault) (x : Seen) (layout : Layout) (raw : List ℕ) → f ≢ faults.NoMemory → RefusesHead f x layout raw
     → HeadReason f x layout raw
 head_reason faults.Head x layout raw n h = absurd h
@@ -62,6 +65,7 @@ head_reason faults.Closed x layout raw n h = absurd h
 head_reason faults.Device x layout raw n h = absurd h
 head_reason faults.NoMemory x layout raw n h = absurd (n refl)
 
+-- two reasons to refuse the same adapted head are of one fault
 same_reason : (f g : ClientFault) (x : Seen) (layout : Layout) (raw : List ℕ) → HeadReason f x layout raw → HeadReason g x layout raw
     → f ≡ g
 same_reason f g x layout raw (misfit e h) (misfit d i) = e ∙ sym d
@@ -69,6 +73,7 @@ same_reason f g x layout raw (misfit e h) (untimely d i) = absurd (no_fit layout
 same_reason f g x layout raw (untimely e h) (misfit d i) = absurd (no_fit layout raw i h)
 same_reason f g x layout raw (untimely e h) (untimely d i) = e ∙ sym d
 
+-- an adapted head is refused for one fault, memory aside
 head_one : (f g : ClientFault) (x : Seen) (layout : Layout) (raw : List ℕ) → f ≢ faults.NoMemory → g ≢ faults.NoMemory
     → RefusesHead f x layout raw → RefusesHead g x layout raw → f ≡ g
 head_one f g x layout raw n m h i = same_reason f g x layout raw (head_reason f x layout raw n h) (head_reason g x layout raw m i)
@@ -86,6 +91,7 @@ data ReplyReason (f : ClientFault) (x : Seen) (point : Point) (raw : List ℕ) :
   other : f ≡ faults.Status → WithHead raw IsOtherStatus → ReplyReason f x point raw
   behind : RefusesBehind f x point raw → ReplyReason f x point raw
 
+-- a reply's ICAP head is refused, memory aside, for its text, its list, its time or its status
 reply_reason : (f : ClientFault) (x : Seen) (point : Point) (raw : List ℕ) → f ≢ faults.NoMemory → RefusesReply f x point raw
     → ReplyReason f x point raw
 reply_reason faults.Head x point raw n h = no_head refl h.0 h.2
@@ -101,9 +107,11 @@ reply_reason faults.NoMemory x point raw n h = absurd (n refl)
 with_both : (raw : List ℕ) (P Q : Response → Type 0) → WithHead raw P → WithHead raw Q → ((value : Response) → P value → Q value → ⊥) → ⊥
 with_both raw P Q h i odd = odd i.0 (subst P (response_unique (unfolded raw) h.0 i.0 h.1 i.1 h.2 i.2).0 h.3) i.3
 
+-- bytes that begin with a whole head aren't refused as having none
 without : (raw : List ℕ) (P : Response → Type 0) (e : HeadFault) → WithHead raw P → RefusesResponse e raw → ⊥
 without raw P e h s = no_response_fault e (unfolded raw) h.0 h.1 h.2 s
 
+-- bytes of which an adapted head is refused begin with the ICAP head of a 200
 behind_is : (f : ClientFault) (x : Seen) (point : Point) (raw : List ℕ) (h : RefusesBehind f x point raw)
     → WithHead raw (IsOf point h.layout)
 unfolding IsOf
@@ -116,32 +124,38 @@ behind_is f x point raw h =
       (h.is.status_is, h.is.list, h.is.adapted),
     )
 
+-- a response with a bad list isn't a well-formed one that may not come now
 list_time : (point : Point) (x : Seen) (v : Response) → HasBadList point v → IsUntimely point x v → ⊥
 list_time point x v (inl b) (inl t) = b.1 t.1
 list_time point x v (inl b) (inr t) = b.1 t.1
 list_time point x v (inr b) (inl t) = omega (arith, b.0, t.0)
 list_time point x v (inr b) (inr t) = omega (arith, b.0, t.0)
 
+-- a response with a bad list isn't one of another status
 list_other : (point : Point) (v : Response) → HasBadList point v → IsOtherStatus v → ⊥
 list_other point v (inl (inl e, n)) o = o.not_continue e
 list_other point v (inl (inr e, n)) o = o.not_unchanged e
 list_other point v (inr b) o = o.not_ok b.0
 
+-- a response with a bad list isn't a 200 with a layout and an adapted head
 list_of : (point : Point) (layout : Layout) (v : Response) → HasBadList point v → IsOf point layout v → ⊥
 unfolding IsOf
 list_of point layout v (inl (inl e, n)) o = omega (arith, e, o.0)
 list_of point layout v (inl (inr e, n)) o = omega (arith, e, o.0)
 list_of point layout v (inr b) o = b.1 layout o.1 o.2
 
+-- a 100 or 204 that may not come now isn't a response of another status
 time_other : (point : Point) (x : Seen) (v : Response) → IsUntimely point x v → IsOtherStatus v → ⊥
 time_other point x v (inl t) o = o.not_continue t.0
 time_other point x v (inr t) o = o.not_unchanged t.0
 
+-- a 100 or 204 that may not come now isn't a 200 with a layout and an adapted head
 time_of : (point : Point) (layout : Layout) (x : Seen) (v : Response) → IsUntimely point x v → IsOf point layout v → ⊥
 unfolding IsOf
 time_of point layout x v (inl t) o = omega (arith, t.0, o.0)
 time_of point layout x v (inr t) o = omega (arith, t.0, o.0)
 
+-- a response of another status isn't a 200 with a layout and an adapted head
 other_of : (point : Point) (layout : Layout) (v : Response) → IsOtherStatus v → IsOf point layout v → ⊥
 unfolding IsOf
 other_of point layout v n o = n.not_ok o.0
@@ -160,6 +174,7 @@ behind_one f g x point raw n m h i =
     head_one f g x i.layout i.rest n m (subst (λ (t : List ℕ). RefusesHead f x i.layout t) rests.1
     (subst (λ (l : Layout). RefusesHead f x l h.rest) layouts h.refuses)) i.refuses
 
+-- two reasons to refuse the same bytes of a reply are of one fault, memory aside
 reply_one : (f g : ClientFault) (x : Seen) (point : Point) (raw : List ℕ) → f ≢ faults.NoMemory → g ≢ faults.NoMemory
     → ReplyReason f x point raw → ReplyReason g x point raw → f ≡ g
 reply_one f g x point raw n m (no_head e a h) (no_head d b i) = e ∙ sym d
@@ -198,6 +213,7 @@ reply_one f g x point raw n m (behind h) (other d i) =
     absurd (with_both raw IsOtherStatus (IsOf point h.layout) i (behind_is f x point raw h) (other_of point h.layout))
 reply_one f g x point raw n m (behind h) (behind i) = behind_one f g x point raw n m h i
 
+-- bytes that are refused where a reply begins, memory aside, are refused for one of a reply's reasons
 either_reason : (f : ClientFault) (x : Seen) (point : Point) (raw : List ℕ) → f ≢ faults.NoMemory
     → RefusesReply f x point raw ⊎ RefusesBehind f x point raw → ReplyReason f x point raw
 either_reason f x point raw n (inl h) = reply_reason f x point raw n h
@@ -210,6 +226,7 @@ data BodyReason (f : ClientFault) (x : Seen) (chunks : ChunkReader) (raw : List 
       → BodyReason f x chunks raw
   too_soon : f ≡ faults.NotLegal → IsUntimelyBody x chunks raw → BodyReason f x chunks raw
 
+-- bytes of a body are refused as broken or as ones that may not come
 body_reason : (f : ClientFault) (x : Seen) (chunks : ChunkReader) (raw : List ℕ) → RefusesBody f x chunks raw → BodyReason f x chunks raw
 body_reason faults.Head x chunks raw h = absurd h
 body_reason faults.Layout x chunks raw h = absurd h
@@ -225,6 +242,7 @@ cut_at : (text raw : List ℕ) (used : ℕ) → text ++ raw ≡ (text ++ take us
 cut_at text raw used = ap (λ (t : List ℕ). text ++ t) (sym (take-append-drop used raw))
     ∙ sym (append_assoc text (take used raw) (drop used raw))
 
+-- a place after a body's end has no fault
 ended_sound : (ieof : Bool) → faulted_at (Ended ieof) ≡ None
 unfolding faulted_at
 ended_sound ieof = refl
@@ -262,6 +280,7 @@ no_end text body raw rest used fault new ieof e h b =
         sound_end : (r : ChunkReader) (ieof : Bool) → end_of r ≡ Some ieof → fault_of r ≡ None
         sound_end r ieof e = ap faulted_at (ended_at r.place ieof e) ∙ ended_sound ieof
 
+-- a body whose bytes or end may not come isn't broken before its next byte
 untimely_broken : (x : Seen) (chunks : ChunkReader) (raw text body : List ℕ) (fault : ChunkFault) → HasRead text body chunks
     → IsUntimelyBody x chunks raw → Breaks (text ++ raw) body fault → ⊥
 untimely_broken x chunks raw text body fault h (bytes used part new on some late) b =
@@ -269,6 +288,7 @@ untimely_broken x chunks raw text body fault h (bytes used part new on some late
 untimely_broken x chunks raw text body fault h (end used new ieof on e late) b =
     no_end text body raw (body ++ []) used fault new ieof e (on text body h) b
 
+-- two reasons to refuse the same bytes of a body are of one fault
 body_one : (f g : ClientFault) (x : Seen) (chunks : ChunkReader) (raw text body : List ℕ) → HasRead text body chunks
     → BodyReason f x chunks raw → BodyReason g x chunks raw → f ≡ g
 body_one f g x chunks raw text body r (broken e a h) (broken d b i) = e ∙ sym d
@@ -278,6 +298,7 @@ body_one f g x chunks raw text body r (too_soon e h) (too_soon d i) = e ∙ sym 
 
 -- ---- all
 
+-- at any stage the bytes after those heard are refused for one fault, memory aside
 by_stage : (stage : Stage) (f g : ClientFault) (x : Seen) (adapted read raw : List ℕ) (r : Reader) → f ≢ faults.NoMemory
     → g ≢ faults.NoMemory → HeardTo stage x adapted read r
     → Refuses f x r.point stage raw → Refuses g x r.point stage raw → f ≡ g
@@ -288,6 +309,7 @@ by_stage (Body chunks) f g x adapted read raw r n m h i j =
     body_one f g x chunks raw h.text adapted h.body (body_reason f x chunks raw i) (body_reason g x chunks raw j)
 by_stage Over f g x adapted read raw r n m h i j = absurd i
 
+-- the bytes after those that a reader has heard are refused for one fault, memory aside
 pub one_fault : (f g : ClientFault) (x : Seen) (adapted read raw : List ℕ) (r : Reader) → f ≢ faults.NoMemory → g ≢ faults.NoMemory
     → HasHeard x adapted read r
     → Refuses f x r.point r.stage raw → Refuses g x r.point r.stage raw → f ≡ g

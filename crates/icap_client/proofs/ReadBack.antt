@@ -16,10 +16,12 @@ use Rattle.trace_core.specs.declared.history.Point.TheVariants.{Reqmod, Respmod}
 use Rattle.trace_core.specs.Points.{method_of}
 use Rattle.icap_client.specs.RequestHead.{joined, list_pieces, layout_of, IsReadBack}
 
+-- the numeral of 0 is one digit 0
 zero_is : numeral 10 0 ≡ 48 ∷ []
 unfolding numeral
 zero_is = refl
 
+-- two line ends after a number are two line ends after the whole list
 behind_number : (a b n e : List ℕ) → (((a ++ b) ++ n) ++ e) ++ e ≡ (a ++ (b ++ n)) ++ (e ++ e)
 behind_number a b n e = append_assoc ((a ++ b) ++ n) e e ∙ ap (λ (t : List ℕ). t ++ (e ++ e)) (append_assoc a b n)
 
@@ -35,17 +37,20 @@ two_heads body zero m n = ((name_of ReqHdr ++ 61 ∷ zero) ++ codes ", ")
 abbrev lines_of : List ℕ → List ℕ
 lines_of list = codes "Encapsulated: " ++ (list ++ (crlf ++ crlf))
 
+-- the lines of a list with one head are those of the layout that it writes
 one_is : (body : BodyPart) (req : ℕ) (l : Layout) → written l ≡ one_head body (numeral 10 0) (numeral 10 req)
     → lines_of (one_head body (48 ∷ []) (numeral 10 req)) ≡ lines_of (written l)
 one_is body req l e = ap (λ (zero : List ℕ). lines_of (one_head body zero (numeral 10 req))) (sym zero_is)
     ∙ ap (λ (list : List ℕ). lines_of list) (sym e)
 
+-- the lines of a list with two heads are those of the layout that it writes
 two_is : (body : BodyPart) (req sum : ℕ) (l : Layout) → written l ≡ two_heads body (numeral 10 0) (numeral 10 req) (numeral 10 sum)
     → lines_of (two_heads body (48 ∷ []) (numeral 10 req) (numeral 10 sum)) ≡ lines_of (written l)
 two_is body req sum l e =
     ap (λ (zero : List ℕ). lines_of (two_heads body zero (numeral 10 req) (numeral 10 sum))) (sym zero_is)
     ∙ ap (λ (list : List ℕ). lines_of list) (sym e)
 
+-- the pieces of a request's list are the lines of its layout as it is written
 lines_are : (point : Point) (null : Bool) (req res : ℕ)
     → joined (list_pieces point null req res) [] ≡ lines_of (written (layout_of point null req res))
 unfolding numeral
@@ -71,12 +76,14 @@ lines_are Respmod false req res =
     (behind_number (numeral 10 req ++ codes ", ") (codes "res-body=") (numeral 10 (req + res)) crlf)
     ∙ two_is ResBody req (req + res) l is
 
+-- a request may have the layout that its list says
 may_be : (point : Point) (null : Bool) (req res : ℕ) → MayHave (method_of point) Request (layout_of point null req res)
 may_be Reqmod true req res = record { whole = (1, omega arith, refl); rises = (refl, (omega arith, tt)) }
 may_be Reqmod false req res = record { whole = (0, omega arith, refl); rises = (refl, (omega arith, tt)) }
 may_be Respmod true req res = record { whole = (1, omega arith, refl); rises = (refl, (omega arith, (omega arith, tt))) }
 may_be Respmod false req res = record { whole = (0, omega arith, refl); rises = (refl, (omega arith, (omega arith, tt))) }
 
+-- the written list of a request's layout says that layout, while its heads are few enough bytes to count
 layout_by : (point : Point) (null : Bool) (req res : ℕ) → req + res < COUNT_LIMIT
     → IsLayout (method_of point) Request (written (layout_of point null req res)) (layout_of point null req res)
 layout_by Reqmod null req res small = record {
@@ -89,6 +96,7 @@ layout_by Respmod null req res small = record {
   may = may_be Respmod null req res;
 }
 
+-- a server reads a request's list as the layout it was written from, while its heads are few enough bytes to count
 pub read_back : (point : Point) (null : Bool) (req res : ℕ) → req + res < COUNT_LIMIT → IsReadBack point null req res
 read_back point null req res small = record {
   list = written (layout_of point null req res);

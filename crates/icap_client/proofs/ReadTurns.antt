@@ -26,6 +26,7 @@ use Rattle.icap_client.proofs.Sides.{filled_more, filled_first, side_then, other
 
 -- bytes are never refused as Closed or Device
 
+-- no bytes are refused as Closed
 not_closed : (x : Seen) (point : Point) (stage : Stage) (raw : List ℕ) → Refuses Closed x point stage raw → ⊥
 not_closed x point Replies raw (inl h) = h
 not_closed x point Replies raw (inr h) = h.refuses
@@ -33,6 +34,7 @@ not_closed x point (Head layout) raw h = h
 not_closed x point (Body chunks) raw h = h
 not_closed x point Over raw h = h
 
+-- no bytes are refused as Device
 not_device : (x : Seen) (point : Point) (stage : Stage) (raw : List ℕ) → Refuses Device x point stage raw → ⊥
 not_device x point Replies raw (inl h) = h
 not_device x point Replies raw (inr h) = h.refuses
@@ -247,12 +249,14 @@ turn_full x a room old new P Q out e f = record {
   came = (filled_more x old new [] (inr refl) e (f.0 ∙ sym (append-nil old.raw)), inr (inr (inl refl)));
 }
 
+-- what came of a turn after a framing without an event came of it also from before that
 came_behind : (x : Seen) (a : Bool) (old mid new : ReadSide) (room : ℕ) (out delta : List ℕ) (result : Result Turn ClientFault)
     → SideHears x old mid [] [] [] → CameOf x a mid new room out delta result → CameOf x a old new room out delta result
 came_behind x a old mid new room out delta (Ok t) h c =
     (side_then x old mid new t.events.items [] delta (take (ad_sum t.events.items) out) h c.0, c.1, c.2, c.3)
 came_behind x a old mid new room out delta (Err fault) h c = (side_then x old mid new [] [] delta [] h c.0, c.1)
 
+-- a read that was due after a framing without an event was due also from before that
 due_behind : (x : Seen) (a : Bool) (room : ℕ) (old mid : ReadSide) (answer : Option Got) → SideHears x old mid [] [] []
     → ReadsWhereDue x a room mid answer → ReadsWhereDue x a room old answer
 due_behind x a room old mid None h d = tt
@@ -290,6 +294,7 @@ turn_kept x a room old new kept P Q out fault e r t = record {
   came = (other_fault x old new kept [] t.given [] e r t.came.0, cause_kept x a fault new.reader kept.reader new.raw kept.raw e r t.came.1);
 }
 
+-- what came of a turn stays so if room is given back after it
 came_given_back : (x : Seen) (a : Bool) (old new kept : ReadSide) (room : ℕ) (out delta : List ℕ) (result : Result Turn ClientFault)
     → GivesBack new kept → CameOf x a old new room out delta result → CameOf x a old kept room out delta result
 came_given_back x a old new kept room out delta (Ok t) b c = (

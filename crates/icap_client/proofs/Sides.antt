@@ -41,25 +41,32 @@ is_more _ = false
 differs : (fault : HeadFault) → is_more fault ≡ false → More ≡ fault → ⊥
 differs fault odd alike = false≢true (sym (ap is_more alike ∙ odd))
 
+-- a number that is tested to be below a limit is below it
 less : (n limit : ℕ) → nat_lt n limit ≡ true → n < limit
 less n limit e = grind (arith, nat_tests)
 
+-- a number below a limit is below any limit that is at least as great
 below : (n limit most : ℕ) → n < limit → limit ≤ most → n < most
 below n limit most small within = omega arith
 
+-- some room isn't none
 none_left : (room : ℕ) → 0 < room → room ≡ 0 → ⊥
 none_left room some none = omega arith
 
+-- an empty text is shorter than a head may be
 empty_short : (raw : List ℕ) → raw ≡ [] → length raw < 16384
 empty_short raw none = let P : List ℕ → Type 0 = λ t. length t < 16384 in subst P (sym none) (lit< tt)
 
+-- what was read isn't empty if its last bytes aren't
 some_read : (read delta : List ℕ) → 0 < length delta → 0 < length (read ++ delta)
 some_read read delta some = omega (arith, length-append read delta)
 
+-- a length that is tested against a head's limit and may grow is below it
 unended_by : (b : Bool) (n : ℕ) → nat_lt n 16384 ≡ b → More ≡ (if b then More else TooLong) → n < 16384
 unended_by true n e h = less n 16384 e
 unended_by false n e h = cc
 
+-- an unended head that may get more bytes is below its limit
 unended_more : (n : ℕ) → More ≡ unended n → n < 16384
 unended_more n h = unended_by (nat_lt n 16384) n refl h
 
@@ -72,6 +79,7 @@ plain_short text (inr (line, behind, first, inr (form, inl h))) = absurd (differ
 plain_short text (inr (line, behind, first, inr (form, inr (inl h)))) = absurd (differs _ refl h.0)
 plain_short text (inr (line, behind, first, inr (form, inr (inr h)))) = unended_more (length text) h.0
 
+-- a prefix of an ICAP head is shorter than a head may be
 pub more_short : (raw : List ℕ) → RefusesResponse More raw → length raw < 16384
 more_short raw h = folded_more_is_short raw (plain_short (unfolded raw) h)
 
@@ -83,6 +91,7 @@ wait_short (Body chunks) raw room k o r (inl e) = empty_short raw e
 wait_short (Body chunks) raw room k o r (inr h) = absurd (none_left room r h.0)
 wait_short Over raw room k o r w = absurd (o refl)
 
+-- after all bytes of a text no line ends
 none_behind : (raw : List ℕ) → has_line (drop (length raw) raw) ≡ false
 none_behind raw = ap has_line (drop_of_length-le raw (omega arith))
 
@@ -98,6 +107,7 @@ has_to_wait (Head layout) raw room w = w
 has_to_wait (Body chunks) raw room w = w
 has_to_wait Over raw room w = w
 
+-- one or the other is true if the other is
 or_true : (a b : Bool) → b ≡ true → (a || b) ≡ true
 or_true true b e = refl
 or_true false b e = e
@@ -107,6 +117,7 @@ pub heard_on : (x : Seen) (events : List Event) → x.heard ≡ true → (after_
 heard_on x [] h = h
 heard_on x (event ∷ events) h = heard_on (after x event) events (or_true (is_heard event) x.heard h)
 
+-- a reply that hasn't begun still hasn't where no further byte was read and none adapted
 not_begun : (x : Seen) (adapted read more delta : List ℕ) → more ≡ [] → delta ≡ [] → NotBegun x adapted read
     → NotBegun x (adapted ++ more) (read ++ delta)
 not_begun x adapted read more delta m d n = record {
@@ -126,6 +137,7 @@ more_read read delta l = omega (arith, l, length-append read delta)
 both_heard : (x : Seen) → x.heard ≡ true → x.heard ≡ false → ⊥
 both_heard x h n = false≢true (sym (sym h ∙ n))
 
+-- whether a reply has begun is told also after events of its raw bytes
 begun_on : (x : Seen) (events : List Event) (adapted read out : List ℕ) → (events ≡ []) ⊎ (x.heard ≡ true)
     → HasBegun x read ⊎ NotBegun x adapted read
     → HasBegun (after_all x events) (read ++ []) ⊎ NotBegun (after_all x events) (adapted ++ take (ad_sum events) out) (read ++ [])
@@ -167,17 +179,20 @@ stays_heard x adapted read old new (before o n p) h =
     } in
     subst (λ (s : Stage). HeardTo s x adapted read new) (sym n) now
 
+-- whether a reply has begun is told also with no byte more
 begun_none : (x : Seen) (adapted read : List ℕ) → HasBegun x read ⊎ NotBegun x adapted read
     → HasBegun x (read ++ []) ⊎ NotBegun x (adapted ++ []) (read ++ [])
 begun_none x adapted read (inl h) = inl (h.0, more_read read [] h.1)
 begun_none x adapted read (inr n) = inr (not_begun x adapted read [] [] refl refl n)
 
+-- whether a reply has begun is told also with more bytes after a first one, or with none
 begun_more : (x : Seen) (adapted read delta : List ℕ) → (x.heard ≡ true) ⊎ (delta ≡ []) → HasBegun x read ⊎ NotBegun x adapted read
     → HasBegun x (read ++ delta) ⊎ NotBegun x (adapted ++ []) (read ++ delta)
 begun_more x adapted read delta was (inl h) = inl (h.0, more_read read delta h.1)
 begun_more x adapted read delta (inl h) (inr b) = absurd (both_heard x h b.unheard)
 begun_more x adapted read delta (inr n) (inr b) = inr (not_begun x adapted read [] delta refl n b)
 
+-- a reader that refused its bytes has heard what it had, with no event
 pub refused_kept : (x : Seen) (old new : ReadSide) → Stays old.reader new.reader → new.raw ≡ old.raw → SideHears x old new [] [] []
 refused_kept x old new k r = record {
   legal = tt;

@@ -27,6 +27,7 @@ use Rattle.icap_client.specs.declared.options.OptionsStage.{OptionsStage}
 use Rattle.icap_client.specs.declared.options.OptionsStage.TheVariants.{Head, Body, Over}
 use Rattle.icap_client.proofs.Heads.{is_head, stands_for}
 
+-- of no bytes nothing is skipped, and the chunk reader stays as it is
 pub skip_none : (a : ChunkReader) (raw : List ℕ) → ReadsOn a raw 0 [] a
 skip_none a raw text body h = subst (λ (t : List ℕ). HasRead t (body ++ []) a) (sym (append-nil text))
     (subst (λ (b : List ℕ). HasRead text b a) (sym (append-nil body)) h)
@@ -42,6 +43,7 @@ skip_breaks a b raw rest used p fault f is g text body h =
     (ap (λ (t : List ℕ). take used raw ++ t) is ∙ take-append-drop used raw) in
     subst (λ (t : List ℕ). Breaks t (body ++ p) fault) texts (g (text ++ take used raw) (body ++ p) (f text body h))
 
+-- bytes that are skipped, and then more of what is left, are skipped together
 pub skip_more : (a b c : ChunkReader) (raw rest : List ℕ) (used more : ℕ) (p q : List ℕ) → ReadsOn a raw used p b → rest ≡ drop used raw
     → ReadsOn b rest more q c → ReadsOn a raw (used + more) (p ++ q) c
 skip_more a b c raw rest used more p q f is g text body h =
@@ -53,22 +55,27 @@ skip_more a b c raw rest used more p q f is g text body h =
     subst (λ (t : List ℕ). HasRead t (body ++ (p ++ q)) c) texts (subst
     (λ (t : List ℕ). HasRead ((text ++ take used raw) ++ take more rest) t c) (append_assoc body p q) two)
 
+-- a chunk reader before its first byte has no end
 pub none_starts : end_of start ≡ None
 unfolding end_at
 none_starts = refl
 
+-- a chunk reader before its first byte has no fault
 pub sound_starts : fault_of start ≡ None
 unfolding faulted_at
 sound_starts = refl
 
+-- a stage before the head isn't the one after the answer's end
 no_head_over : (s : OptionsStage) → s ≡ Head → s ≡ Over → ⊥
 no_head_over s h o = let odd : Head ≡ Over = sym h ∙ o in cc
 
+-- a stage within a body isn't the one after the answer's end
 no_body_over : (s : OptionsStage) (chunks : ChunkReader) → s ≡ Body chunks → s ≡ Over → ⊥
 no_body_over s chunks b o = let odd : Body chunks ≡ Over = sym b ∙ o in cc
 
 -- ---- when the head is told
 
+-- a stage that stays as it was tells no head
 pub tells_still : (old new : OptionsStage) → new ≡ old → Tells old new None
 tells_still old new e = record {
   told = λ o. inl (sym e ∙ o);
@@ -76,6 +83,7 @@ tells_still old new e = record {
   once = λ o. (e ∙ o, refl);
 }
 
+-- a step from before the answer's end to the end tells the head
 tells_end : (old new : OptionsStage) (found : Option Response) → (old ≡ Over → ⊥) → new ≡ Over → is_some found ≡ true → Tells old new found
 tells_end old new found n o s = record {
   told = λ e. inr s;
@@ -83,6 +91,7 @@ tells_end old new found n o s = record {
   once = λ e. absurd (n e);
 }
 
+-- a step within the answer, before its end, tells no head
 tells_on : (old new : OptionsStage) → (old ≡ Over → ⊥) → (new ≡ Over → ⊥) → Tells old new None
 tells_on old new n m = record {
   told = λ e. absurd (m e);
@@ -90,6 +99,7 @@ tells_on old new n m = record {
   once = λ e. absurd (n e);
 }
 
+-- a step that tells no head and then another are one step, which tells what that one tells
 pub tells_then : (a b c : OptionsStage) (found : Option Response) → Tells a b None → Tells b c found → Tells a c found
 tells_then a b c found f g = record {
   told = λ o. first (g.told o);
@@ -185,6 +195,7 @@ rest_more : (value : Response) (chunks : ChunkReader) (framed more : List ℕ) �
     → framed ++ more ≡ f.head ++ (f.rest ++ more)
 rest_more value chunks framed more f = ap (λ (t : List ℕ). t ++ more) f.text_is ∙ append_assoc f.head f.rest more
 
+-- a first part of a body that goes on stays one with more of the body read
 front_more : (value : Response) (chunks next : ChunkReader) (framed raw part : List ℕ) (used : ℕ) → ReadsOn chunks raw used part next
     → end_of next ≡ None → fault_of next ≡ None
     → IsOptionsFront value chunks framed → IsOptionsFront value next (framed ++ take used raw)
@@ -200,6 +211,7 @@ front_more value chunks next framed raw part used on e n f = record {
   no_fault = n;
 }
 
+-- an end that there is says whether it is one with ieof
 some_is : (o : Option Bool) → is_some o ≡ true → (b : Bool) × (o ≡ Some b)
 some_is None e = cc
 some_is (Some b) e = (b, refl)
@@ -273,6 +285,7 @@ frames_kept old new s o r w = record {
   tells = tells_still old.stage new.stage s;
 }
 
+-- a side that is the same as it was frames nothing more
 pub frames_same : (old new : Asker) → new ≡ old → Frames old new None
 frames_same old new e = frames_kept old new (ap (λ (n : Asker). n.stage) e) (ap (λ (n : Asker). n.response) e) (ap (λ (n : Asker). n.raw) e)
     (ap (λ (n : Asker). n.waiting) e)
@@ -281,10 +294,12 @@ frames_same old new e = frames_kept old new (ap (λ (n : Asker). n.stage) e) (ap
 pub holds_start : (head : IcapResponse) (chunks : ChunkReader) → chunks ≡ start → HoldsHead (Body chunks) (Some head)
 holds_start head chunks e = subst (λ (r : ChunkReader). HoldsHead (Body r) (Some head)) (sym e) (refl, none_starts, sound_starts)
 
+-- where there is a response, its parts are there too
 some_mapped : (o : Option IcapResponse) → is_some o ≡ true → is_some (option_map response_parts o) ≡ true
 some_mapped None e = cc
 some_mapped (Some head) e = refl
 
+-- a side that holds its head in a body has a head that is kept
 pub head_held : (s : Asker) (stage : OptionsStage) (response : Option IcapResponse) (chunks : ChunkReader)
     → option_map response_parts response ≡ s.response → stage ≡ Body chunks → HoldsHead stage response → is_some s.response ≡ true
 head_held s stage response chunks e b h =
@@ -318,6 +333,7 @@ unended_wants : (b : Bool) → heads.NoMemory ≡ (if b then heads.More else hea
 unended_wants true e = cc
 unended_wants false e = cc
 
+-- no text is refused for want of memory
 none_wants : (raw : List ℕ) → RefusesResponse heads.NoMemory raw → ⊥
 none_wants raw (inl h) = unended_wants (nat_lt (length (unfolded raw)) 16384) h.0
 none_wants raw (inr (line, behind, first, inl (inl h))) = let odd = h.0 in cc
@@ -344,11 +360,13 @@ pub head_stands : {A : Type 0} (fault : HeadFault) (raw text : List ℕ) → tex
 head_stands fault raw text e f (inl h) = inl (h.0, subst HasAnyHead e (f h.1))
 head_stands fault raw text e f (inr s) = inr (subst (λ (t : List ℕ). RefusesResponse fault t) e s)
 
+-- bytes that want more are a prefix of a head
 pub more_stands : (fault : HeadFault) (raw : List ℕ) → fault ≡ heads.More
     → ((fault ≡ heads.NoMemory) × HasAnyHead raw) ⊎ RefusesResponse fault raw → RefusesResponse heads.More raw
 more_stands fault raw e (inl h) = let odd : heads.More ≡ heads.NoMemory = sym e ∙ h.0 in cc
 more_stands fault raw e (inr s) = subst (λ (f : HeadFault). RefusesResponse f raw) e s
 
+-- a weaker property of a result's fault, if it has one, follows from a stronger one
 pub err_map : {A B : Type 0} (r : Result A B) (P Q : B → Type 0) → ((b : B) → P b → Q b) → IfErr r P → IfErr r Q
 err_map (Ok a) P Q f h = tt
 err_map (Err b) P Q f h = f b h
@@ -362,20 +380,25 @@ refuses_head fault found raw (inl m) (inr s) = absurd (none_wants raw (subst (λ
 refuses_head fault found raw (inr h) s = subst (λ (f : ClientFault). RefusesOptionsHead f raw) (sym h.0)
     (fault, h.2, stands_for fault raw h.1 s)
 
+-- after as many bytes as a text has none of it is left
 pub none_left : (n : ℕ) (xs : List ℕ) → length xs ≤ n → drop n xs ≡ []
 none_left n xs l = drop_of_length-le xs l
 
 -- ---- the request's text, of which so many bytes are out
 
+-- where none of a text is left, as many bytes are out as it has
 pub all_out : (n : ℕ) (xs : List ℕ) → drop n xs ≡ [] → length xs ≤ n
 all_out n xs e = let z : length (drop n xs) ≡ 0 = ap (λ (t : List ℕ). length t) e in omega (arith, z, length-drop n xs)
 
+-- what is left after some bytes and then more is left after both together
 pub more_out : (n m : ℕ) (xs : List ℕ) → drop (n + m) xs ≡ drop m (drop n xs)
 more_out n m xs = sym (drop-drop m n xs)
 
+-- where two parts are as many bytes as a text has, none is left after them
 pub none_more : (n m : ℕ) (xs : List ℕ) → length xs ≤ n + m → drop m (drop n xs) ≡ []
 none_more n m xs l = drop-drop m n xs ∙ none_left (n + m) xs l
 
+-- an OPTIONS request isn't empty
 pub some_text : (host path : List ℕ) (port : ℕ) → 0 < length (options_request host port path)
 some_text host path port =
     let front = joined (codes "Encapsulated: null-body=0" ∷ crlf ∷ []) (joined (host_pieces host port)

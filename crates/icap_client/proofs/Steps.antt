@@ -47,6 +47,7 @@ hears_then x a b c o events raw rest m n none f is g =
           two);
     }
 
+-- where an adapted head is short of its layout, with no empty line yet, a reader must wait
 pub waits_head : (b c : Reader) (layout : Layout) (raw rest : List ℕ) (m n room : ℕ) → b.stage ≡ Head layout → rest ≡ drop m raw → n ≡ 0
     → c ≡ b → length rest < layout.offset → HasNoEmptyLine rest
     → MustWait c.stage (drop (m + n) raw) room
@@ -56,12 +57,14 @@ waits_head b c layout raw rest m n room stage is z same l h =
     subst (λ (s : Stage). MustWait s (drop (m + n) raw) room) (sym (ap (λ (r : Reader). r.stage) same ∙ stage))
     (subst (λ (t : List ℕ). (length t < layout.offset) × HasNoEmptyLine t) e (l, h))
 
+-- after bytes that made no event, and are no head of a 200, a reader must wait
 pub waits_reply : (a b : Reader) (raw : List ℕ) (m room : ℕ) → PassesWithoutEvent a b m raw → a.stage ≡ Replies
     → ((layout : Layout) → b.stage ≡ Head layout → ⊥) → MustWait b.stage (drop m raw) room
 waits_reply a b raw m room (waits z e p s) r not =
     subst (λ (t : Stage). MustWait t (drop m raw) room) (sym (e ∙ r)) (subst (λ (k : ℕ). RefusesResponse More (drop k raw)) (sym z) s)
 waits_reply a b raw m room (goes_on layout e q p) r not = absurd (not layout e)
 
+-- bytes of which a 200's ICAP head was used are refused for what its other head is refused for
 pub refuses_behind : (fault : ClientFault) (x : Seen) (a b : Reader) (layout : Layout) (raw rest : List ℕ) (m : ℕ)
     → PassesWithoutEvent a b m raw → a.stage ≡ Replies → b.stage ≡ Head layout
     → rest ≡ drop m raw → RefusesHead fault x layout rest → RefusesBehind fault x a.point raw
@@ -79,10 +82,12 @@ refuses_behind fault x a b layout raw rest m (goes_on found e q p) r h is f =
       refuses = subst (λ (t : List ℕ). RefusesHead fault x layout t) is f;
     }
 
+-- an option that is some has a value
 some_is : {A : Type 0} (o : Option A) → is_some o ≡ true → (v : A) × (o ≡ Some v)
 some_is None e = cc
 some_is (Some v) e = (v, refl)
 
+-- bytes of a body that may not come, or its end, are untimely
 pub untimely_body : (x : Seen) (chunks next : ChunkReader) (raw out : List ℕ) (used count : ℕ) (ended : Bool)
     → ReadsOn chunks raw used (take count out) next → count ≤ length out → ended ≡ is_some (end_of next)
     → ((0 < count) × (MayHear x (Ad count) → ⊥)) ⊎ ((count ≡ 0) × (ended ≡ true) × (MayHear x AdEnd → ⊥)) → IsUntimelyBody x chunks raw
@@ -102,6 +107,7 @@ record AfterAds (x y : Seen) (n : ℕ) : Type 0 where
   continued_is : y.continued ≡ x.continued
   count_is : y.adapted_received ≡ n + x.adapted_received
 
+-- bytes of the adapted body change a history's count of them alone
 after_ads : (x : Seen) (n : ℕ) → AfterAds x (after_all x (ad_events n)) n
 after_ads x zero = record {
   no_mod_is = refl;
@@ -120,28 +126,34 @@ after_ads x (suc n) = record {
   count_is = refl;
 }
 
+-- the adapted body's end comes to the history after its bytes
 after_end : (x : Seen) (n : ℕ) → after_all x (adapted_events n true) ≡ after (after_all x (ad_events n)) AdEnd
 after_end x zero = refl
 after_end x (suc n) = refl
 
+-- the events of adapted bytes, with an end or without, count just these bytes
 pub sum_is : (n : ℕ) (ended : Bool) → ad_sum (adapted_events n ended) ≡ n
 sum_is zero false = refl
 sum_is (suc n) false = omega arith
 sum_is zero true = omega arith
 sum_is (suc n) true = omega arith
 
+-- bytes after a text of three parts stand after its third part
 regrouped : (before heads text more : List ℕ) → (before ++ (heads ++ text)) ++ more ≡ before ++ (heads ++ (text ++ more))
 regrouped before heads text more = append_assoc before (heads ++ text) more
     ∙ ap (λ (t : List ℕ). before ++ t) (append_assoc heads text more)
 
+-- a reader within a body has heard the heads of a 200 and a first part of its body
 body_at : (x : Seen) (adapted read : List ℕ) (r : Reader) (chunks : ChunkReader) → r.stage ≡ Body chunks → HasHeard x adapted read r
     → HeardBody x adapted read r chunks
 body_at x adapted read r chunks stage h = subst (λ (s : Stage). HeardTo s x adapted read r) stage h
 
+-- the events of adapted bytes are all of replies
 only_ads : (n : ℕ) → AllAre is_of_replies (ad_events n)
 only_ads zero = tt
 only_ads (suc n) = (refl, tt)
 
+-- the events of adapted bytes and their end are all of replies
 only_end : (n : ℕ) → AllAre is_of_replies (adapted_events n true)
 only_end zero = (refl, tt)
 only_end (suc n) = (refl, (refl, tt))

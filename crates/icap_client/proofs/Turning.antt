@@ -29,6 +29,7 @@ use Rattle.icap_client.proofs.Sent.{sent_taken, sent_begun, sent_stopped, sent_d
 abbrev pub sent_to : Seen → ℕ → Seen
 sent_to x n = after_all x (svc_events n)
 
+-- what is within a bound is so with fewer bytes
 less : (o : Option ℕ) (s m n : ℕ) → m ≤ n → IfSome o (λ p. s + n ≤ p) → IfSome o (λ p. s + m ≤ p)
 less None s m n l h = tt
 less (Some p) s m n l h = omega arith
@@ -39,23 +40,29 @@ fewer x m n some l a = (a.0, (some, omega (arith, a.1.1)), omega (arith, a.2), l
 
 -- The last chunk behind the bytes of the turn.
 
+-- the sum of a number and 0 is that number
 add_zero : (n : ℕ) → n + 0 ≡ n
 add_zero n = omega arith
 
+-- a preview that ends at a number ends at any equal one
 moved_preview : (o : Option ℕ) (a b : ℕ) → a ≡ b → IsSomeAnd o (λ p. a ≡ p) → IsSomeAnd o (λ p. b ≡ p)
 moved_preview o a b e h = subst (λ (n : ℕ). IsSomeAnd o (λ p. n ≡ p)) e h
 
+-- where a body may be sent and a last chunk is due now, a Stop may come
 stop_here : (x : Seen) → MaySend x → StopsAt x (x.sent + 0) → Allows x Stop
 stop_here x m (inl h) = (m, inl (h.0, sym (add_zero x.sent) ∙ h.1))
 stop_here x m (inr h) = (m, inr (moved_preview (open_preview x) (x.sent + 0) x.sent (add_zero x.sent) h))
 
+-- where a body may be sent, it may be after some bytes of it
 may_send_on : (x : Seen) (n : ℕ) → MaySend x → MaySend (after x (Svc n))
 may_send_on x n m = (m.0, m.1, grind (arith, nat_tests), m.3, m.4, m.5)
 
+-- where a last chunk is due after more bytes, a Stop may come after them
 stop_after : (x : Seen) (n : ℕ) → MaySend x → StopsAt x (x.sent + n) → Allows (after x (Svc n)) Stop
 stop_after x n m (inl h) = (may_send_on x n m, inl (h.0, omega (arith, h.1)))
 stop_after x n m (inr h) = (may_send_on x n m, inr (moved_preview (open_preview x) (x.sent + n) (n + x.sent) (omega arith) h))
 
+-- the text of a last chunk after more bytes is that of the history that has them
 text_after : (x : Seen) (n : ℕ) → stop_text_at x (x.sent + n) ≡ stop_text (after x (Svc n))
 text_after x n =
     let e : x.sent + n ≡ n + x.sent = omega arith in
@@ -64,6 +71,7 @@ text_after x n =
     ∙ ap (λ (received : ℕ). if is_null x.plan.len then [] else last_chunk
     (is_preview x.plan.kind && not x.stopped && x.ended && (n + x.sent == received))) r
 
+-- the text of a last chunk after no more bytes is that of the history as it is
 text_here : (x : Seen) → stop_text_at x (x.sent + 0) ≡ stop_text x
 text_here x = ap (λ (place : ℕ). stop_text_at x place) (add_zero x.sent)
 
@@ -75,6 +83,7 @@ pub record Leads (x y : Seen) (tape : Tape) (n : ℕ) : Type 0 where
   stop : MaySend x → StopsAt x (x.sent + n) → Allows y Stop
   text : stop_text_at x (x.sent + n) ≡ stop_text y
 
+-- a sound history leads on to what it shows after body bytes, whether there are some or none
 leads_by : (x : Seen) (tape : Tape) (n : ℕ) → Sound x → (0 < n → Allows x (Svc n)) → (0 < n) ⊎ (n ≤ 0) → Leads x (sent_to x n) tape n
 leads_by x tape n s a (inl some) =
     let e : (n == 0) ≡ false = grind (arith, nat_tests) in
@@ -95,6 +104,7 @@ leads_by x tape n s a (inr none) =
       text = text_here x;
     })
 
+-- a sound history leads on to what it shows after body bytes that may go
 pub leads : (x : Seen) (tape : Tape) (n : ℕ) → Sound x → (0 < n → Allows x (Svc n)) → Leads x (sent_to x n) tape n
 leads x tape n s a = leads_by x tape n s a (cases_lt 0 n)
 
@@ -114,6 +124,7 @@ part_is tape next came from k e b i l =
     ∙ (ap (λ (xs : List ℕ). take k xs) (drop-drop (next.from - tape.base) tape.base came)
     ∙ ap (λ (m : ℕ). take k (drop m came)) behind_base))
 
+-- body bytes of the tape that went out within a chunk are sent
 data_by : (head : List ℕ) (x : Seen) (tape : Tape) (next : Next) (came taken : List ℕ) (v : Writer) (k : ℕ) → next.from ≡ x.sent
     → tape.base ≤ x.sent → Came x tape came → length (bytes_of tape next) ≡ next.count
     → waiting v ≡ [] → 0 < k → k ≤ next.count → k ≤ v.left → HasSent head x came taken v
@@ -126,6 +137,7 @@ data_by head x tape next came taken v k f b i l o some few within h =
     rw e (subst (λ (n : ℕ). HasSent head (after x (Svc n)) came (taken ++ part) (sent_on v n)) long
     (sent_data head x came taken v part o (here ∙ ap (λ (n : ℕ). take n (drop x.sent came)) (sym long)) (omega arith) (omega arith) h))
 
+-- in chunks, body bytes that went out are those of a chunk
 chunked_data : (b : Bool) (v : Writer) (k : ℕ) → b ≡ true → after_data b v k ≡ sent_on v k
 chunked_data true v k e = refl
 chunked_data false v k e = cc
@@ -139,6 +151,7 @@ pub record Given (x : Seen) (tape : Tape) (next : Next) (old : Writer) (came : L
   long : length (bytes_of tape next) ≡ next.count
   came_is : Came x tape came
 
+-- after all bytes that come next, the end fixes the last chunk after what was sent
 ended_at : (head : List ℕ) (x : Seen) (tape : Tape) (next : Next) (old v : Writer) (came taken : List ℕ) → Given x tape next old came
     → waiting v ≡ [] → is_ending next.end ≡ true
     → HasSent head (sent_to x next.count) came taken v
@@ -152,6 +165,7 @@ ended_at head x tape next old v came taken g o i h =
     (subst (λ (xs : List ℕ). HasSent head (after y Stop) came taken (fixed v xs)) (sym text)
     (sent_stopped head y came taken v o (l.came came g.came_is).count l.sound (l.stop due.1 due.2) h))
 
+-- a turn's moves and events lead from what was sent before it to what is sent after it
 pub carried : (head : List ℕ) (x : Seen) (tape : Tape) (next : Next) (old w : Writer) (came taken : List ℕ) (k : ℕ) (e : Bool) (d : List ℕ)
     → Given x tape next old came → Moves tape next old k e d w
     → HasSent head x came taken old → HasSent head (after_all x (sending_events k e)) came (taken ++ d) w
@@ -181,12 +195,14 @@ svc_legal : (x : Seen) (n : ℕ) → (0 < n → (x.closed ≡ false) × Allows x
 svc_legal x n a (inl some) = let e : (n == 0) ≡ false = grind (arith, nat_tests) in rw e ((a some).0, (a some).1, tt)
 svc_legal x n a (inr none) = let e : (n == 0) ≡ true = grind (arith, nat_tests) in rw e tt
 
+-- a Stop that may come after body bytes, or after none, makes legal events with them
 stop_by : (x : Seen) (n : ℕ) (b : Bool) → MayAllFollow x (if b then [] else Svc n ∷ [])
     → (after_all x (if b then [] else Svc n ∷ [])).closed ≡ false
     → Allows (after_all x (if b then [] else Svc n ∷ [])) Stop → MayAllFollow x ((if b then [] else Svc n ∷ []) ++ Stop ∷ [])
 stop_by x n true l o a = (o, a, tt)
 stop_by x n false l o a = (l.0, l.1, (o, a, tt))
 
+-- a turn's events may follow, as far as it went in what was decided
 legal_by : {most : ℕ} (x : Seen) (tape : Tape) (next : Next) (old : Writer) (k : ℕ) (e : Bool) → Sound x → Decides most x old next
     → Reaches next k e → MayAllFollow x (sending_events k e)
 legal_by x tape next old k false s c r =
@@ -198,6 +214,7 @@ legal_by x tape next old k true s c r =
     (stop_by x next.count (next.count == 0) (svc_legal x next.count c.svc (cases_lt 0 next.count)) (l.open_still ∙ due.0)
     (l.stop due.1 due.2))
 
+-- where bytes come next, the tape begins at most where the body was sent to
 from_base : {most : ℕ} (x : Seen) (tape : Tape) (next : Next) (old : Writer) → KeepsUnsent x tape → Decides most x old next → 0 < next.count
     → tape.base ≤ x.sent
 from_base x tape next old k c some = k.base (c.svc some).0 (c.svc some).1.0
@@ -212,18 +229,22 @@ may_go_on x tape next old k c = record {
   within = λ h. c.fits.1 refl;
 }
 
+-- body bytes, or none, are events of sending alone
 only_svc : (n : ℕ) (b : Bool) → AllAre is_of_sending (if b then [] else Svc n ∷ [])
 only_svc n true = tt
 only_svc n false = (refl, tt)
 
+-- body bytes, or none, and then a Stop are events of sending alone
 only_stop : (n : ℕ) (b : Bool) → AllAre is_of_sending ((if b then [] else Svc n ∷ []) ++ Stop ∷ [])
 only_stop n true = (refl, tt)
 only_stop n false = (refl, (refl, tt))
 
+-- the events of a turn are all of sending
 only_by : (k : ℕ) (e : Bool) → AllAre is_of_sending (sending_events k e)
 only_by k true = only_stop k (k == 0)
 only_by k false = only_svc k (k == 0)
 
+-- a side goes on by a turn's moves of what was decided, with its events
 pub goes_on : {most : ℕ} (x : Seen) (tape : Tape) (next : Next) (old w : Writer) (k : ℕ) (e : Bool) (d : List ℕ) → Sound x
     → KeepsUnsent x tape → Decides most x old next → Moves tape next old k e d w
     → GoesOn x tape old w (sending_events k e) d
@@ -240,10 +261,12 @@ goes_on {most} x tape next old w k e d s u c m = record {
   }) m h;
 }
 
+-- two texts that together have no byte have none each
 append_none : (xs ys : List ℕ) → xs ++ ys ≡ [] → (xs ≡ []) × (ys ≡ [])
 append_none [] ys e = (refl, e)
 append_none (x ∷ xs) ys e = cc
 
+-- no body byte and no Stop make no event
 no_events : (n : ℕ) → n ≡ 0 → sending_events n false ≡ []
 no_events n e = rw e refl
 

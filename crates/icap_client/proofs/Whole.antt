@@ -11,6 +11,7 @@ use Rattle.icap_client.specs.Laws.{first_reader, IsWhole, WasSaid}
 use Rattle.icap_client.specs.declared.stage.Stage.{Stage}
 use Rattle.icap_client.specs.declared.stage.Stage.TheVariants.{Over}
 
+-- at a history's beginning a first reader has heard nothing
 pub nothing_heard : (plan : Plan) (point : Point) → HasHeard (seen plan []) [] [] (first_reader point)
 nothing_heard plan point = record {
   marks = record { no_mod_is = refl; modified_is = refl; has_body_is = refl; over_is = refl };
@@ -19,6 +20,7 @@ nothing_heard plan point = record {
   interim = refl;
 }
 
+-- what was read with a final response heard is a whole answer
 whole_by : (x : Seen) (adapted read : List ℕ) (r : Reader) → HeardFinal x adapted read r → IsWhole x adapted read r
 whole_by x adapted read r (was_unchanged h) = record {
   final = unchanged;
@@ -31,9 +33,11 @@ whole_by x adapted read r (was_changed h) = record {
   kept = (h.marks.no_mod_is, h.marks.modified_is, h.marks.has_body_is, h.marks.over_is, refl, h.layout_is, refl);
 }
 
+-- a reader at a final response's end has read a whole answer
 pub answer_whole : (x : Seen) (adapted read : List ℕ) (r : Reader) → r.stage ≡ Over → HasHeard x adapted read r → IsWhole x adapted read r
 answer_whole x adapted read r e h = whole_by x adapted read r (subst (λ (s : Stage). HeardTo s x adapted read r) e h)
 
+-- a final response that was heard has an ICAP head that says what the reader keeps
 said_by : (x : Seen) (adapted read : List ℕ) (r : Reader) → HeardFinal x adapted read r → WasSaid x read r
 said_by x adapted read r (was_unchanged h) = record {
   before = h.before;
@@ -55,5 +59,6 @@ said_by x adapted read r (was_changed h) =
       said = h.said;
     }
 
+-- at a final response's end the reader keeps what a response's ICAP head said
 pub final_said : (x : Seen) (adapted read : List ℕ) (r : Reader) → r.stage ≡ Over → HasHeard x adapted read r → WasSaid x read r
 final_said x adapted read r e h = said_by x adapted read r (subst (λ (s : Stage). HeardTo s x adapted read r) e h)

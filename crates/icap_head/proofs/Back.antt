@@ -18,6 +18,7 @@ use Rattle.icap_head.specs.Written.{IsFieldPair, IsRequest, IsResponse, field_te
 use Rattle.icap_head.specs.Written.{response_text}
 use Rattle.icap_head.proofs.Lacking.{no_feed, lacks_append, lacks_cons, lacks_from, lacks_nil, tested}
 
+-- a line to which a CR is added is that line again without it
 cr_off : (line : List ℕ) → without_cr (line ++ 13 ∷ []) ≡ line
 cr_off line =
     let long = length-append line (13 ∷ []) in
@@ -25,17 +26,21 @@ cr_off line =
     let last : get_or (line ++ 13 ∷ []) (length line) 0 ≡ 13 = get_or_at line 13 [] 0 (length line) refl in
     rw (at, last) (take-append_seam line (13 ∷ []))
 
+-- the version ICAP/1.0 has the form of a version
 version_itself : IsVersion (codes "ICAP/1.0")
 version_itself = record { major = 49; minor = 48; text_is = refl; major_digit = refl; minor_digit = refl }
 
+-- the line that a field is written on: a space before its value, and a CR LF
 line_of : (List ℕ × List ℕ) → Line
 line_of field = record { name = field.0; raw = 32 ∷ field.1; end = crlf }
 
+-- the names and trimmed values of the lines that fields are written on are those fields
 fields_back : (fields : FieldList) → AllByRecursion IsFieldPair fields → map name_and_value (map line_of fields) ≡ fields
 unfolding line_of
 fields_back [] h = refl
 fields_back (f ∷ fields) h = ap₂ (λ x l. x ∷ l) (ap (λ v. (f.0, v)) (trim_ows_space f.1 h.0.front h.0.back)) (fields_back fields h.1)
 
+-- fields that lines can hold are written on valid field lines
 fields_valid : (fields : FieldList) → AllByRecursion IsFieldPair fields → All IsField (map line_of fields)
 unfolding line_of
 fields_valid [] h = All-nil IsField
@@ -45,11 +50,13 @@ fields_valid (f ∷ fields) h =
       raw = All-cons (λ b. IsTrue (is_value_byte b)) 32 f.1 refl h.0.value;
     }) (fields_valid fields h.1)
 
+-- the lines of fields have the bytes that the fields are written as
 lines_printed : (fields : FieldList) → flat_map print_field (map line_of fields) ≡ flat_map field_text fields
 unfolding line_of
 lines_printed [] = refl
 lines_printed (f ∷ fields) = ap (λ t. field_text f ++ t) (lines_printed fields)
 
+-- the lines of fields and an empty one have the bytes of the written fields, to their last
 fields_printed : (fields : FieldList) → print_section (map line_of fields) crlf ≡ fields_text fields
 unfolding line_of
 fields_printed fields = ap (λ t. t ++ 13 ∷ 10 ∷ []) (lines_printed fields)
@@ -80,6 +87,7 @@ head_back S line fields start lacks h = record {
 
 -- ---- requests
 
+-- the written start line of a request that a head can hold has no LF
 request_lacks : (value : Request) → IsRequest value → Lacks 10 (request_line value)
 request_lacks value h =
     lacks_append 10 (value.method ++ 32 ∷ value.uri) (32 ∷ codes "ICAP/1.0")
@@ -87,6 +95,7 @@ request_lacks value h =
     (lacks_cons 10 32 value.uri (tested 10 32 refl) h.one_line))
     (lacks_from 10 (32 ∷ codes "ICAP/1.0") refl)
 
+-- what is written of a request that a head can hold is the head of this request
 pub request_back : (value : Request) → IsRequest value → IsRequestHead (request_text value) value
 unfolding request_text
 request_back value h =
@@ -102,6 +111,7 @@ request_text_is value = simp append_assoc
 
 -- ---- responses
 
+-- three digits, a space and the phrase, of a response that a head can hold, have the form of its status and phrase
 status_back : (value : Response) → IsResponse value → IsStatus (three_digits value.status ++ 32 ∷ value.phrase) value.status value.phrase
 status_back value h =
     let n = value.status in
@@ -116,9 +126,11 @@ status_back value h =
       phrase_is = inr refl;
     }
 
+-- a byte from the digit 0 upwards is no LF
 digit_no_feed : (d : ℕ) → 48 + d ≡ 10 → ⊥
 digit_no_feed d e = omega (arith, e)
 
+-- the written status line of a response that a head can hold has no LF
 status_lacks : (value : Response) → IsResponse value → Lacks 10 (status_line value)
 status_lacks value h =
     let n = value.status in
@@ -130,6 +142,7 @@ status_lacks value h =
     (lacks_cons 10 (48 + n % 10) [] (digit_no_feed (n % 10)) (lacks_nil 10))))))
     (lacks_cons 10 32 value.phrase (tested 10 32 refl) h.one_line)
 
+-- what is written of a response that a head can hold is the head of this response
 pub response_back : (value : Response) → IsResponse value → IsResponseHead (response_text value) value
 unfolding response_text
 response_back value h =

@@ -13,22 +13,27 @@ use Rattle.adapt_bytes.specs.Fields.{FieldList}
 use Rattle.icap_head.specs.FieldLines.{ReadsFields, HasFields, HasTooMany, RefusesFieldLines, RefusesFields, unended, line_count}
 use Rattle.icap_head.proofs.Sections.{open_too_many, too_many_count, too_many-append, never_too_many, ends_too_many}
 
+-- what follows from what holds of a result's fault holds of that fault too
 pub err_map : {A E : Type 0} {P Q : E → Type 0} (r : Result A E) → ((e : E) → P e → Q e) → IfErr r P → IfErr r Q
 err_map (Ok a) f h = h
 err_map (Err e) f h = f e h
 
+-- what follows from what holds of a result's value holds of that value too
 pub ok_map : {A E : Type 0} {P Q : A → Type 0} (r : Result A E) → ((a : A) → P a → Q a) → IfOk r P → IfOk r Q
 ok_map (Ok a) f h = f a h
 ok_map (Err e) f h = h
 
+-- the fields of a text are read in a longer one too, and what is added comes after the rest
 pub fields-append : (text more : List ℕ) (fields : FieldList) (rest : List ℕ) → ReadsFields text fields rest
     → ReadsFields (text ++ more) fields (rest ++ more)
 fields-append text more fields rest r = (r.0, r.1, ReadsSection-append text r.0 r.1 rest more r.2, r.3)
 
+-- where nothing makes a text a section, nothing makes it one with more bytes after it either
 pub never-append : (text more : List ℕ) → NeverHasSection text → NeverHasSection (text ++ more)
 never-append text more never again fields last rest r =
     never (more ++ again) fields last rest (subst (λ t. ReadsSection t fields last rest) (append_assoc text more again) r)
 
+-- a text that begins with at most 100 fields does so with more bytes after it
 pub has_fields-append : (text more : List ℕ) → HasFields text → HasFields (text ++ more)
 has_fields-append text more h = (h.0, h.1 ++ more, fields-append text more h.0 h.1 h.2, h.3)
 
@@ -64,10 +69,12 @@ split seen start end fits in_seen =
     ap (drop start) (sym (take-append-drop (start + end) seen)) ∙ drop-append-le start (take (start + end) seen) (drop (start + end) seen)
     (omega (arith, n))
 
+-- a prefix of an empty text is empty
 take_nothing : (n : ℕ) (text : List ℕ) → text ≡ [] → [] ≡ take n text
 take_nothing zero text e = refl
 take_nothing (suc n) text e = rw e refl
 
+-- the bytes from an offset to an end are the same whether those before or those after are cut off first
 drop_take : (seen : List ℕ) (start end : ℕ) → drop start (take (start + end) seen) ≡ take end (drop start seen)
 drop_take seen zero end = let e : 0 + end ≡ end = omega arith in ap (λ k. take k seen) e
 drop_take [] (suc start) end = let e : suc start + end ≡ suc (start + end) = omega arith in
@@ -75,6 +82,7 @@ drop_take [] (suc start) end = let e : suc start + end ≡ suc (start + end) = o
 drop_take (b ∷ seen) (suc start) end = let e : suc start + end ≡ suc (start + end) = omega arith in
     ap (λ k. drop (suc start) (take k (b ∷ seen))) e ∙ drop_take seen start end
 
+-- a fault of 101 lines that end in LF is one of the whole text after the offset
 pub cut_stands : (fault : HeadFault) (len : ℕ) (seen : List ℕ) (start end : ℕ) → start ≤ length seen → 0 < end
     → end ≤ length (drop start seen)
     → line_count (take end (drop start seen)) ≡ 101 → get_or (drop start seen) (end - 1) 0 ≡ 10
@@ -90,6 +98,7 @@ cut_stands fault len seen start end in_seen pos fits count is h =
     (cut_fault fault len text (drop (start + end) seen) init ends count
     (subst (RefusesFieldLines fault TooMany) (drop_take seen start end) h))
 
+-- fields that are read in a cut text are those of the whole one, and their end lies in it
 pub cut_found : (seen : List ℕ) (start end n : ℕ) (fields : FieldList) → start ≤ length seen → end ≤ length (drop start seen)
     → n ≤ length (take (start + end) seen)
     → ReadsFields (drop start (take (start + end) seen)) fields (drop n (take (start + end) seen))
@@ -105,6 +114,7 @@ cut_found seen start end n fields in_seen fits inside h =
           (fields-append (drop start lines) rest fields (drop n lines) h)),
     )
 
+-- a text has at most 100 fields at its beginning where a cut of it has
 pub cut_has : (seen : List ℕ) (start end : ℕ) → start ≤ length seen → end ≤ length (drop start seen)
     → HasFields (drop start (take (start + end) seen)) → HasFields (drop start seen)
 cut_has seen start end in_seen fits h = subst HasFields (sym (split seen start end fits in_seen))

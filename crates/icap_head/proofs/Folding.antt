@@ -23,10 +23,12 @@ use Rattle.icap_head.proofs.Sections.{longer_front}
 
 -- ---- texts one after the other
 
+-- the place after two texts is the one that the second leads to from the place after the first
 pub place-append : (p : HeadPlace) (xs ys : List ℕ) → place_behind p (xs ++ ys) ≡ place_behind (place_behind p xs) ys
 place-append p [] ys = refl
 place-append p (x ∷ xs) ys = place-append (place_after p (head_byte x)) xs ys
 
+-- two texts together add what the first does and then what the second does from the place after it
 pub added-append : (p : HeadPlace) (xs ys : List ℕ) → all_added p (xs ++ ys) ≡ all_added p xs ++ all_added (place_behind p xs) ys
 added-append p [] ys = refl
 added-append p (x ∷ xs) ys =
@@ -35,6 +37,7 @@ added-append p (x ∷ xs) ys =
 
 -- ---- lengths
 
+-- what one byte adds, with what is held after it, is a byte longer than what was held before
 one_length : (p : HeadPlace) (k : HeadByte) (b : ℕ)
     → length (if is_held (place_after p k) then [] else settled p k ++ b ∷ []) + length (held (place_after p k)) ≡ length (held p) + 1
 one_length StartLine bytes.Feed b = refl
@@ -59,6 +62,7 @@ one_length ReturnFeed bytes.Blank b = refl
 one_length ReturnFeed k b = refl
 one_length Over k b = refl
 
+-- what bytes add, with what is held after them, is as long as they and what was held before
 pub lengths : (p : HeadPlace) (xs : List ℕ) → length (all_added p xs) + length (held (place_behind p xs)) ≡ length (held p) + length xs
 lengths p [] = omega arith
 lengths p (x ∷ xs) =
@@ -85,6 +89,7 @@ pub place_more : (p : HeadPlace) (xs : List ℕ) (k : ℕ) → k < length xs
     → place_behind p (take (k + 1) xs) ≡ place_after (place_behind p (take k xs)) (head_byte (get_or xs k 0))
 place_more p xs k l = ap (place_behind p) (take_more xs k 0 l) ∙ place-append p (take k xs) (get_or xs k 0 ∷ [])
 
+-- a prefix longer by a byte adds what the shorter one adds, and then what that byte adds at the place after it
 pub added_more : (p : HeadPlace) (xs : List ℕ) (k : ℕ) → k < length xs
     → all_added p (take (k + 1) xs) ≡ all_added p (take k xs) ++ added (place_behind p (take k xs)) (get_or xs k 0)
 added_more p xs k l =
@@ -93,6 +98,7 @@ added_more p xs k l =
 
 -- ---- the judged bytes
 
+-- what is read of a text below 16,384 bytes is what its bytes add
 pub unfolded_short : (text : List ℕ) → length text < 16384 → unfolded text ≡ all_added StartLine text
 unfolding unfolded
 unfolded_short text short =
@@ -100,6 +106,7 @@ unfolded_short text short =
     let all = take_all 16384 text (omega arith) in
     rw (is, all) (append-nil (all_added StartLine text))
 
+-- of 16,384 bytes or more, what the first 16,384 add is read, and the line end that is held after them
 pub unfolded_long : (text : List ℕ) → 16384 ≤ length text
     → unfolded text ≡ all_added StartLine (take 16384 text) ++ held (place_behind StartLine (take 16384 text))
 unfolding unfolded
@@ -121,6 +128,7 @@ unfolded_length text =
           omega (arith, e, n, sum, length-take 16384 text)
     ]
 
+-- of a text of 16,384 bytes or more, 16,384 bytes are read
 pub long_length : (text : List ℕ) → 16384 ≤ length text → length (unfolded text) ≡ 16384
 long_length text long =
     let seen = take 16384 text in
@@ -136,6 +144,7 @@ pub more_added : List ℕ → List ℕ → List ℕ
 more_added text more = all_added (place_behind StartLine text) (take (16384 - length text) more)
     ++ (if nat_lt (length (text ++ more)) 16384 then [] else held (place_behind StartLine (take 16384 (text ++ more))))
 
+-- a prefix past the end of a text is the text and a prefix of what follows
 take_both : (n : ℕ) (text more : List ℕ) → length text ≤ n → take n (text ++ more) ≡ text ++ take (n - length text) more
 take_both n text more short =
     let sum : n ≡ length text + (n - length text) = omega (arith, short) in
@@ -147,6 +156,7 @@ take_both n text more short =
         let one : length (x ∷ xs) + k ≡ suc (length xs + k) = omega arith in
         ap (λ j. take j (x ∷ (xs ++ ys))) one ∙ ap (λ t. x ∷ t) (take_past xs ys k)
 
+-- more bytes change nothing in what is read of a short text, and what they add comes after it
 pub short_more : (text more : List ℕ) → length text < 16384 → unfolded (text ++ more) ≡ unfolded text ++ more_added text more
 unfolding unfolded more_added
 short_more text more short =
@@ -158,6 +168,7 @@ short_more text more short =
     ∙ append_assoc (all_added StartLine text) (all_added (place_behind StartLine text) (take (16384 - length text) more)) rest
     ∙ ap (λ t. t ++ more_added text more) (sym here)
 
+-- bytes after a text of 16,384 or more change nothing in what is read of it
 pub long_more : (text more : List ℕ) → 16384 ≤ length text → unfolded (text ++ more) ≡ unfolded text
 long_more text more long =
     let same = take-append-le 16384 text more long in
@@ -191,6 +202,7 @@ no_feed_byte b no_feed =
     by_return true q = inl refl
     by_return false q = by_blank q
 
+-- a byte that is neither CR nor LF counts as a blank or as any other
 line_byte : (b : ℕ) → b ≢ 10 → b ≢ 13 → (head_byte b ≡ bytes.Blank) ⊎ (head_byte b ≡ bytes.Other)
 line_byte b no_feed no_return = elim (no_feed_byte b no_feed) [
   | inl is ↦ absurd (no_return_kind is)
@@ -207,6 +219,7 @@ line_byte b no_feed no_return = elim (no_feed_byte b no_feed) [
         by_blank true e = cc
         by_blank false e = cc
 
+-- a byte that is neither CR nor LF nor blank counts as any other
 name_byte : (b : ℕ) → b ≢ 10 → b ≢ 13 → is_blank b ≡ false → head_byte b ≡ bytes.Other
 name_byte b no_feed no_return no_blank =
     let off : eqb b 10 ≡ false = ne_eqb b 10 no_feed in
@@ -218,6 +231,7 @@ pub record Passes (p q : HeadPlace) (xs : List ℕ) : Type 0 where
   pub place : place_behind p xs ≡ q
   pub adds : all_added p xs ++ held q ≡ held p ++ xs
 
+-- two texts that each pass unchanged, the second from where the first leads, pass so together
 passes_then : (p q r : HeadPlace) (xs ys : List ℕ) → Passes p q xs → Passes q r ys → Passes p r (xs ++ ys)
 passes_then p q r xs ys f g = record {
   place = place-append p xs ys ∙ ap (λ a. place_behind a ys) f.place ∙ g.place;
@@ -226,15 +240,18 @@ passes_then p q r xs ys f g = record {
       ∙ sym (append_assoc (all_added p xs) (held q) ys) ∙ ap (λ t. t ++ ys) f.adds ∙ append_assoc (held p) xs ys;
 }
 
+-- an empty text passes unchanged, and the place stays the same
 passes_none : (p : HeadPlace) → Passes p p []
 passes_none p = record { place = refl; adds = sym (append-nil (held p)) }
 
+-- a byte within a line that is neither CR nor LF stays in the line unchanged
 text_byte : (b : ℕ) → b ≢ 10 → b ≢ 13 → Passes Text Text (b ∷ [])
 text_byte b no_feed no_return = elim (line_byte b no_feed no_return) [
   | inl is ↦ record { place = rw is refl; adds = rw is refl }
   | inr is ↦ record { place = rw is refl; adds = rw is refl }
 ]
 
+-- bytes of the start line without LF stay in it unchanged
 start_line : (raw : List ℕ) → Lacks 10 raw → Passes StartLine StartLine raw
 start_line [] lacks = passes_none StartLine
 start_line (b ∷ raw) lacks =
@@ -246,6 +263,7 @@ start_line (b ∷ raw) lacks =
     one (inr (inl is)) = record { place = rw is refl; adds = rw is refl }
     one (inr (inr is)) = record { place = rw is refl; adds = rw is refl }
 
+-- a text within a line that has neither CR nor LF stays in the line unchanged
 in_text : (xs : List ℕ) → Lacks 10 xs → Lacks 13 xs → Passes Text Text xs
 in_text [] feed return_lacks = passes_none Text
 in_text (b ∷ xs) feeds returns =
@@ -265,28 +283,35 @@ first_byte p b (inr (inl e)) is = let P : HeadPlace → Type 0 = λ q. Passes q 
 first_byte p b (inr (inr e)) is = let P : HeadPlace → Type 0 = λ q. Passes q Text (b ∷ []) in
     subst P (sym e) (record { place = rw is refl; adds = rw is refl })
 
+-- false isn't true
 false_true : false ≡ true → ⊥
 false_true e = cc
 
+-- an LF is no byte of a field's name
 feed_no_name : is_token_byte 10 ≡ false
 unfolding is_token_byte
 feed_no_name = refl
 
+-- a CR is no byte of a field's name
 return_no_name : is_token_byte 13 ≡ false
 unfolding is_token_byte
 return_no_name = refl
 
+-- a space is no byte of a field's name
 space_no_name : is_token_byte 32 ≡ false
 unfolding is_token_byte
 space_no_name = refl
 
+-- a tab is no byte of a field's name
 tab_no_name : is_token_byte 9 ≡ false
 unfolding is_token_byte
 tab_no_name = refl
 
+-- a byte of a token is another than one that is no byte of a token
 no_name : (b c : ℕ) → is_token_byte b ≡ true → is_token_byte c ≡ false → b ≢ c
 no_name b c is none e = false_true (sym none ∙ ap is_token_byte (sym e) ∙ is)
 
+-- a byte of a token is neither CR nor LF nor blank
 token_byte : (b : ℕ) → is_token_byte b ≡ true → head_byte b ≡ bytes.Other
 token_byte b is =
     let space : eqb b 32 ≡ false = ne_eqb b 32 (no_name b 32 is space_no_name) in
@@ -325,6 +350,7 @@ field_passes p f at h =
               (passes_then Text Text rest.0 f.raw (print_end f.end) value rest.2))),
         )
 
+-- valid field lines pass unchanged from a place where a line may begin to another such place
 fields_pass : (p : HeadPlace) (fields : List Line) → MayBegin p → All IsField fields
     → (q : HeadPlace) × MayBegin q × Passes p q (flat_map print_field fields)
 fields_pass p [] at all = (p, at, passes_none p)
@@ -401,6 +427,7 @@ free BareReturn = BareReturn
 free Text = Text
 free Over = Over
 
+-- what one byte adds leads to the place after that byte, with nothing held
 one_free : (p : HeadPlace) (k : HeadByte) (b : ℕ) → head_byte b ≡ k
     → place_behind (free p) (if is_held (place_after p k) then [] else settled p k ++ b ∷ []) ≡ free (place_after p k)
 unfolding free
@@ -452,6 +479,7 @@ text_one bytes.Return e = cc
 text_one bytes.Blank e = cc
 text_one bytes.Other e = cc
 
+-- two bytes within a line don't end the head where the first is no LF
 text_two : (j k : HeadByte) → (j ≡ bytes.Feed → ⊥) → place_after (place_after Text j) k ≡ Over → ⊥
 text_two bytes.Feed k other e = other refl
 text_two bytes.Return bytes.Feed other e = cc
@@ -461,6 +489,7 @@ text_two bytes.Return bytes.Other other e = cc
 text_two bytes.Blank k other e = text_one k e
 text_two bytes.Other k other e = text_one k e
 
+-- what is read for a held CR LF and the byte after it doesn't begin with an LF
 no_first_feed : (b : ℕ) (rest : List ℕ) (k : HeadByte) → head_byte b ≡ k → (x : ℕ) (tail : List ℕ)
     → (settled ReturnFeed k ++ b ∷ []) ++ rest ≡ x ∷ tail → head_byte x ≡ bytes.Feed → ⊥
 no_first_feed b rest bytes.Blank e x tail cut is = let same : x ≡ 32 = cc in let P : ℕ → Type 0 = λ y. head_byte y ≡ bytes.Feed in
@@ -472,6 +501,7 @@ no_first_feed b rest bytes.Return e x tail cut is = let same : x ≡ 13 = cc in 
 no_first_feed b rest bytes.Other e x tail cut is = let same : x ≡ 13 = cc in let P : ℕ → Type 0 = λ y. head_byte y ≡ bytes.Feed in
     let now : head_byte 13 ≡ bytes.Feed = subst P same is in cc
 
+-- no line end is held after the byte that follows a CR LF
 return_feed_goes_on : (k : HeadByte) → is_held (place_after ReturnFeed k) ≡ false
 return_feed_goes_on bytes.Feed = refl
 return_feed_goes_on bytes.Return = refl
@@ -495,10 +525,12 @@ held_goes_on ReturnFeed (b ∷ d) (x ∷ y ∷ []) tail flush e none some size o
     text_two (head_byte x) (head_byte y) (no_first_feed b (all_added after d ++ flush) (head_byte b) refl x (y ∷ tail) cut) over
 held_goes_on p d q tail flush e none some size over = absurd (omega (arith, some, size))
 
+-- a text of no bytes is empty
 empty : (xs : List ℕ) → length xs ≤ 0 → xs ≡ []
 empty [] none = refl
 empty (x ∷ xs) none = absurd (omega arith)
 
+-- the test finds a number less that is less
 less_true : (a b : ℕ) → a < b → nat_lt a b ≡ true
 less_true a b less = search rules
 
@@ -593,6 +625,7 @@ front_alone S text fields n h =
           ∙ ap (λ t. all_added StartLine head ++ t) (sym nothing) ∙ alone
     ]
 
+-- the bytes of a head alone, without folds, begin with that head
 pub head_of_front : (S : List ℕ → Type 0) (text : List ℕ) (fields : FieldList) (n : ℕ) → HasHead S (unfolded text) fields n
     → HasHead S (unfolded (take n text)) fields n
 head_of_front S text fields n h =
@@ -606,6 +639,7 @@ head_of_front S text fields n h =
       head = subst (λ t. ReadsHead S t fields []) (sym (ap (take n) same ∙ take-take n n (unfolded text) (omega arith))) h.head;
     }
 
+-- a text that begins with a head, without folds, does so with more bytes after it
 pub has_folded-append : (S : List ℕ → Type 0) (text more : List ℕ) (fields : FieldList) (n : ℕ) → HasHead S (unfolded text) fields n
     → HasHead S (unfolded (text ++ more)) fields n
 has_folded-append S text more fields n h =
@@ -625,6 +659,7 @@ in_front S text fields n k less h =
 
 -- ---- a head ends in LF
 
+-- a byte that counts as an LF is an LF
 feed_is : (b : ℕ) → head_byte b ≡ bytes.Feed → b ≡ 10
 feed_is b e = elim (cases_eq b 10) [
   | inl is ↦ is
@@ -635,6 +670,7 @@ feed_is b e = elim (cases_eq b 10) [
   ]
 ]
 
+-- a byte that counts as a CR is a CR
 return_is : (b : ℕ) → head_byte b ≡ bytes.Return → b ≡ 13
 return_is b e = elim (cases_eq b 13) [
   | inl is ↦ is
@@ -672,6 +708,7 @@ one_last ReturnFeed b bytes.Blank e = (32 ∷ 32 ∷ [], refl)
 one_last ReturnFeed b k e = (13 ∷ 10 ∷ [], refl)
 one_last Over b k e = ([], refl)
 
+-- what a text adds, with what is held after it, ends in the last byte of the text
 all_last : (p : HeadPlace) (init : List ℕ) (b : ℕ) → (front : List ℕ) ×
     (all_added p (init ++ b ∷ []) ++ held (place_behind p (init ++ b ∷ [])) ≡ front ++ b ∷ [])
 all_last p init b =
@@ -685,17 +722,20 @@ all_last p init b =
           ∙ sym (append_assoc (all_added p init) one.0 (b ∷ [])),
     )
 
+-- a text of one byte or more is some bytes and then a last one
 last_of : (xs : List ℕ) → 0 < length xs → (init : List ℕ) × (b : ℕ) × (xs ≡ init ++ b ∷ [])
 last_of [] some = absurd (omega (arith, some))
 last_of (x ∷ []) some = ([], x, refl)
 last_of (x ∷ y ∷ xs) some = let rest = last_of (y ∷ xs) (omega arith) in (x ∷ rest.0, rest.1, ap (λ t. x ∷ t) rest.2)
 
+-- equal texts have the same last byte
 same_last : (xs ys : List ℕ) (a b : ℕ) → xs ++ a ∷ [] ≡ ys ++ b ∷ [] → a ≡ b
 same_last xs ys a b e =
     let n = ap length e in
     let long : length xs ≡ length ys = omega (arith, n, length-append xs (a ∷ []), length-append ys (b ∷ [])) in
     sym (get_or_at xs a [] 0 (length xs) refl) ∙ ap (λ t. get_or t (length xs) 0) e ∙ get_or_at ys b [] 0 (length xs) (sym long)
 
+-- a text that is a whole head ends in an LF
 reads_ends : (S : List ℕ → Type 0) (text : List ℕ) (fields : FieldList) → ReadsHead S text fields []
     → (front : List ℕ) × (text ≡ front ++ 10 ∷ [])
 reads_ends S text fields h =
@@ -713,6 +753,7 @@ reads_ends S text fields h =
     end_feed crlf = (13 ∷ [], refl)
     end_feed lf = ([], refl)
 
+-- the bytes of a head, folds and all, end in an LF
 pub head_ends : (S : List ℕ → Type 0) (text : List ℕ) (fields : FieldList) (n : ℕ) → HasHead S (unfolded text) fields n
     → (front : List ℕ) × (take n text ≡ front ++ 10 ∷ [])
 head_ends S text fields n h =
@@ -730,6 +771,7 @@ head_ends S text fields n h =
 
 -- ---- faults
 
+-- a fault but More of a text without its folds stands whatever bytes follow
 pub folded_fault_stays : (Form : List ℕ → List ℕ → Type 0) (fault : HeadFault) (text more : List ℕ) → fault ≢ More
     → RefusesIcapHead Form fault (unfolded text) → RefusesIcapHead Form fault (unfolded (text ++ more))
 folded_fault_stays Form fault text more other s =
@@ -737,6 +779,7 @@ folded_fault_stays Form fault text more other s =
     let P : List ℕ → Type 0 = λ t. RefusesIcapHead Form fault t in
     subst P (sym rest.1) (fault_stays Form fault (unfolded text) rest.0 other s)
 
+-- fewer bytes of a text than its head has want more, once their folds are read
 pub folded_front_is_more : (Form : List ℕ → List ℕ → Type 0) (S : List ℕ → Type 0)
     → ((line : List ℕ) → S line → Form (codes "ICAP/1.0") line)
     → (text : List ℕ) (fields : FieldList) (size n : ℕ) → HasHead S (unfolded text) fields size → n < size

@@ -18,14 +18,17 @@ use Rattle.icap_head.proofs.Lacking.{lacks_cut}
 use Rattle.icap_head.proofs.Readings.{first-append}
 use Rattle.icap_head.proofs.Sections.{section_few, too_many-append, never_too_many, longer_front}
 
+-- a head without its end in fewer than 16,384 bytes wants more
 pub unended_short : (len : ℕ) → len < 16384 → unended len ≡ More
 unended_short len less = let is : nat_lt len 16384 ≡ true = search rules in rw is refl
 
+-- a head without its end in 16,384 bytes or more is too long
 pub unended_long : (len : ℕ) → 16384 ≤ len → unended len ≡ TooLong
 unended_long len most = let is : nat_lt len 16384 ≡ false = search rules in rw is refl
 
 -- ---- faults
 
+-- a fault of the fields in a short text, but for More, stands with whatever bytes after them
 fields_fault_stays : (fault : HeadFault) (len len₂ : ℕ) (behind extra : List ℕ) → len < 16384 → fault ≢ More
     → RefusesFields fault len behind → RefusesFields fault len₂ (behind ++ extra)
 fields_fault_stays fault len len₂ behind extra short other (inl s) =
@@ -33,6 +36,7 @@ fields_fault_stays fault len len₂ behind extra short other (inl s) =
 fields_fault_stays fault len len₂ behind extra short other (inr (inl s)) = inr (inl (s.0, too_many-append behind extra s.1))
 fields_fault_stays fault len len₂ behind extra short other (inr (inr s)) = absurd (other (s.0 ∙ unended_short len short))
 
+-- a fault but More of a text below 16,384 bytes stands whatever bytes follow
 short_stays : (Form : List ℕ → List ℕ → Type 0) (fault : HeadFault) (text more extra : List ℕ) → length text < 16384
     → take 16384 (text ++ more) ≡ take 16384 text ++ extra
     → fault ≢ More → RefusesIcapHead Form fault text → RefusesIcapHead Form fault (text ++ more)
@@ -51,6 +55,7 @@ short_stays Form fault text more extra short e other (inr (line, behind, first, 
     with (inl bad) = inl bad
     with (inr bad) = inr (bad.0, fields_fault_stays fault (length text) (length (text ++ more)) behind extra short other bad.1)
 
+-- a fault of a text of 16,384 bytes or more stands whatever bytes follow
 long_stays : (Form : List ℕ → List ℕ → Type 0) (fault : HeadFault) (text more : List ℕ) → 16384 ≤ length text
     → RefusesIcapHead Form fault text → RefusesIcapHead Form fault (text ++ more)
 long_stays Form fault text more long s =
@@ -89,6 +94,7 @@ fault_stays Form fault text more other s =
 
 -- ---- the beginnings of a head
 
+-- a prefix of a text that lacks a byte lacks it
 lacks_front : (c : ℕ) (front text : List ℕ) → Lacks c (front ++ text) → Lacks c front
 lacks_front c front text lacks k inside is = lacks k (omega (arith, inside, length-append front text))
     (get_or_append_left front text 0 k inside ∙ is)

@@ -8,24 +8,29 @@ use Rattle.httparse.specs.Spans.{IsWithin, IsHeaderWithin, span_bytes, header_by
 use Rattle.httparse.specs.declared.spans.Span.{Span}
 use Rattle.httparse.specs.declared.spans.HeaderSpan.{HeaderSpan}
 
+-- a shorter prefix of a prefix is that prefix of the text
 front_take : (n k : ℕ) (xs : List ℕ) → k ≤ n → take k (take n xs) ≡ take k xs
 front_take n zero xs l = refl
 front_take zero (suc k) xs l = absurd (omega arith)
 front_take (suc n) (suc k) [] l = refl
 front_take (suc n) (suc k) (x ∷ xs) l = ap (λ t. x ∷ t) (front_take n k xs (omega arith))
 
+-- bytes after an offset that end within a prefix are the same in the prefix
 front_drop : (n a k : ℕ) (xs : List ℕ) → a + k ≤ n → take k (drop a (take n xs)) ≡ take k (drop a xs)
 front_drop n zero k xs l = front_take n k xs (omega arith)
 front_drop zero (suc a) k xs l = absurd (omega arith)
 front_drop (suc n) (suc a) k [] l = refl
 front_drop (suc n) (suc a) k (x ∷ xs) l = front_drop n a k xs (omega arith)
 
+-- the bytes of a span within a prefix are the same in the prefix
 front_span : (n : ℕ) (text : List ℕ) (s : Span) → IsWithin n s → span_bytes (take n text) s ≡ span_bytes text s
 front_span n text s h = front_drop n s.start (s.end - s.start) text (omega (arith, h.0, h.1))
 
+-- the name and the value of a header within a prefix are the same in the prefix
 front_header : (n : ℕ) (text : List ℕ) (h : HeaderSpan) → IsHeaderWithin n h → header_bytes (take n text) h ≡ header_bytes text h
 front_header n text h w = ap₂ (λ a b. (a, b)) (front_span n text h.name w.0) (front_span n text h.value w.1)
 
+-- the fields at places within a prefix are the same in the prefix
 pub front_headers : (n : ℕ) (text : List ℕ) (lines : List HeaderSpan) → All (IsHeaderWithin n) lines
     → map (header_bytes (take n text)) lines ≡ map (header_bytes text) lines
 front_headers n text [] all = refl
@@ -40,9 +45,11 @@ pub longer_headers : (text more : List ℕ) (lines : List HeaderSpan) → All (I
 longer_headers text more lines all =
     sym (front_headers (length text) (text ++ more) lines all) ∙ ap (λ t. map (header_bytes t) lines) (take_at text more (length text) refl)
 
+-- places within some first bytes are within more of them
 wider : (n m : ℕ) (lines : List HeaderSpan) → n ≤ m → All (IsHeaderWithin n) lines → All (IsHeaderWithin m) lines
 wider n m lines l all = λ k d lt. let h = all k d lt in ((h.0.0, omega (arith, h.0.1)), (h.1.0, omega (arith, h.1.1)))
 
+-- a piece between others is what the offsets of its ends cover
 piece : (before bytes behind : List ℕ) (start end : ℕ) → start ≡ length before → end ≡ length before + length bytes
     → slice_range (before ++ (bytes ++ behind)) start end ≡ bytes
 piece before bytes behind start end s e =
@@ -56,6 +63,7 @@ pub record IsAdded (text name value longer : List ℕ) (line : HeaderSpan) : Typ
   pub value_start : line.value.start ≡ length text + length name
   pub value_end : line.value.end ≡ length text + length name + length value
 
+-- the places of lines and of one that is added after them lie within the longer text
 added_inside : (text name value longer : List ℕ) (lines : List HeaderSpan) (line : HeaderSpan) → IsAdded text name value longer line
     → All (IsHeaderWithin (length text)) lines → All (IsHeaderWithin (length longer)) (lines ++ line ∷ [])
 added_inside text name value longer lines line added all =
@@ -68,6 +76,7 @@ added_inside text name value longer lines line added all =
     )
     (All-nil (IsHeaderWithin (length longer))))
 
+-- the fields of a longer text are those of the text and then the one that is added
 pub added_fields : (text name value longer : List ℕ) (lines : List HeaderSpan) (line : HeaderSpan) → IsAdded text name value longer line
     → All (IsHeaderWithin (length text)) lines → map (header_bytes longer) (lines ++ line ∷ []) ≡ map (header_bytes text) lines
     ++ (name, value) ∷ []

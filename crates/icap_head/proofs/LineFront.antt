@@ -38,10 +38,12 @@ not_yet text more fields last reads some gs end rest r =
     let n = ap length same.2 in
     absurd (omega (arith, n, some, length-append rest more))
 
+-- a text that some bytes more make a whole section is open
 opened : (text more : List ℕ) (fields : List Line) (last : LineEnd) → ReadsSection (text ++ more) fields last [] → 0 < length more
     → IsOpen text
 opened text more fields last reads some = (not_yet text more fields last reads some, (more, fields, last, reads))
 
+-- whole field lines and, without its LF, a prefix of one more or of the empty line are open
 line_open : (fields : List Line) (line : List ℕ) → All IsField fields → IsLineFront line → IsOpen (flat_map print_field fields ++ line)
 line_open fields line all (inl (inl e)) =
     let lines = flat_map print_field fields in
@@ -77,6 +79,7 @@ pub record Parts (text : List ℕ) : Type 0 where
   pub text_is : text ≡ flat_map print_field fields ++ part
   pub no_feed : line_count part ≡ 0
 
+-- an open text is whole field lines and a last part that has no LF
 parts : (text : List ℕ) → IsOpen text → Parts text
 parts text unfinished =
     let may = unfinished.1 in
@@ -90,9 +93,11 @@ parts text unfinished =
     let few = length-take-le n may.1 found.0 in
     record { fields = lines; part = part; all = all; text_is = found.1.1; no_feed = omega (arith, sum, count, few) }
 
+-- a part in which no line ends has no LF
 lacks_feed : (part : List ℕ) → line_count part ≡ 0 → Lacks 10 part
 lacks_feed part none k inside is = let n = count_at part k inside is in omega (arith, n, none)
 
+-- no line ends in a text without LF
 count_none : (text : List ℕ) → Lacks 10 text → line_count text ≡ 0
 count_none [] lacks = refl
 count_none (b ∷ text) lacks =
@@ -140,6 +145,7 @@ last_is text init line start cut lacks last =
 
 -- ---- a head
 
+-- a text that doesn't begin with more than 100 field lines has at most 100 of them before its last part
 few_fields : (text : List ℕ) (p : Parts text) → (HasTooMany text → ⊥) → length p.fields ≤ 100
 few_fields text p few = elim (cases_lt 100 (length p.fields)) [
   | inr fits ↦ fits
@@ -171,9 +177,11 @@ more_fields behind new unfinished few p lacks line =
           omega (arith, n, sum, count, none, fits),
     )
 
+-- the judged bytes of a text below 16,384 bytes are all of it
 short_take : (text : List ℕ) → length text < 16384 → take 16384 text ≡ text
 short_take text short = take_all 16384 text (omega (arith, short))
 
+-- two texts without LF have none together
 lacks_both : (a b : List ℕ) → Lacks 10 a → Lacks 10 b → Lacks 10 (a ++ b)
 lacks_both a b x y k inside is = elim (cases_lt k (length a)) [
   | inl first ↦ x k first (sym (get_or-append-le a b k first) ∙ is)
@@ -188,6 +196,7 @@ lacks_both a b x y k inside is = elim (cases_lt k (length a)) [
     get_or-append-le (x ∷ a) b zero l = refl
     get_or-append-le (x ∷ a) b (suc k) l = get_or-append-le a b k (omega (arith, l))
 
+-- a first line and its LF, the lines after it and the last part are the same text however they are grouped
 regroup : (raw lines part : List ℕ) → raw ++ 10 ∷ (lines ++ part) ≡ ((raw ++ 10 ∷ []) ++ lines) ++ part
 regroup raw lines part = simp append_assoc
 
@@ -238,6 +247,7 @@ still_more Form head new start short new_lacks last line stands = elim (cases_lt
 abbrev with_value : List ℕ → List ℕ → LineEnd → Line
 with_value name raw end = record { name = name; raw = raw; end = end }
 
+-- a line that has come to any of its places is, without an LF, a prefix of a field line or of the empty line
 pub line_front : (place : LinePart) (line : List ℕ) → IsAt place line → IsLineFront line
 line_front Start line e = inl (inl e)
 line_front Name line token = inr (
@@ -260,15 +270,18 @@ line_front Return line (inr (front, (name, raw, token, all, e), line_is)) =
       omega arith,
     )
 
+-- a token goes on with a byte of a token
 pub more_name : (line : List ℕ) (byte : ℕ) → IsToken line → IsToken (byte ∷ []) → IsToken (line ++ byte ∷ [])
 more_name line byte token one = (
   omega (arith, length-append line (byte ∷ []), token.0),
   All-append (λ b. IsTrue (is_token_byte b)) line (byte ∷ []) token.1 one.1,
 )
 
+-- a name with a colon after it is a line that has come to its value
 pub begin_value : (line : List ℕ) → IsToken line → IsInValue (line ++ 58 ∷ [])
 begin_value line token = (line, [], token, λ k d inside. absurd (omega arith), refl)
 
+-- a line that has come to its value goes on in it with a value byte
 pub more_value : (line : List ℕ) (byte : ℕ) → IsInValue line → is_value_byte byte ≡ true → IsInValue (line ++ byte ∷ [])
 more_value line byte (name, raw, token, all, e) good = (
   name,
@@ -299,12 +312,14 @@ first_goes_on Form head piece start short lacks last none stands =
     still_more Form head piece start (omega (arith, short, length-append head piece)) lacks last
     (λ some. absurd (omega (arith, some, none))) stands
 
+-- a piece has no LF where a search for one finds none
 pub lacks_of : (piece : List ℕ) → list_any (λ b. eqb b 10) piece ≡ false → Lacks 10 piece
 lacks_of [] e k inside is = absurd (omega arith)
 lacks_of (b ∷ piece) e zero inside is = both_ways (eqb b 10) (or_parts (eqb b 10) (list_any (λ c. eqb c 10) piece) e).0 (eq-eqb b 10 is)
 lacks_of (b ∷ piece) e (suc k) inside is = lacks_of piece (or_parts (eqb b 10) (list_any (λ c. eqb c 10) piece) e).1 k
     (omega (arith, inside)) is
 
+-- what is told to be there is there, with what holds of it
 pub some_of : {X : Type 0} {P : X → Type 0} (o : Option X) (t : Bool) → IfSome o P → t ≡ is_some o → t ≡ true → (x : X) × P x
 some_of None t h e told = absurd (both_ways t e told)
 some_of (Some x) t h e told = (x, h)

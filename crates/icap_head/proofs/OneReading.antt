@@ -14,35 +14,43 @@ use Rattle.icap_head.proofs.Readings.{OneVersion, head_reads, head_unique, no_fa
 use Rattle.icap_head.proofs.Statuses.{status_line_unique}
 use Rattle.icap_head.proofs.Words.{line_unique, first_unique}
 
+-- a line has the form of a request line for one version only
 pub request_version : OneVersion RequestForm
 request_version line v w f g = (line_unique line f.0 f.1 v g.0 g.1 w f.2 g.2).2
 
+-- a line has the form of a status line for one version only
 pub status_version : OneVersion StatusForm
 status_version line v w f g = (status_line_unique line f.0 g.0 f.1 g.1 v w f.2 g.2).2
 
+-- requests with the same method, URI and fields are the same
 same_request : (x y : Request) → x.method ≡ y.method → x.uri ≡ y.uri → x.fields ≡ y.fields → x ≡ y
 same_request x y m u f = λ i. record { method = m i; uri = u i; fields = f i }
 
+-- responses with the same status, phrase and fields are the same
 same_response : (x y : Response) → x.status ≡ y.status → x.phrase ≡ y.phrase → x.fields ≡ y.fields → x ≡ y
 same_response x y s p f = λ i. record { status = s i; phrase = p i; fields = f i }
 
+-- a text begins with the head of one request only, of one length
 pub request_unique : (text : List ℕ) (x y : Request) (n m : ℕ) → HasRequest text x n → HasRequest text y m → (x ≡ y) × (n ≡ m)
 request_unique text x y n m h g =
     let same = head_unique (StartsRequest x) (StartsRequest y) text x.fields y.fields n m h g in
     let words = line_unique same.0.0 x.method x.uri (codes "ICAP/1.0") y.method y.uri (codes "ICAP/1.0") same.0.1 same.0.2 in
     (same_request x y words.0 words.1 same.1, same.2)
 
+-- a text begins with the head of one response only, of one length, where nothing is folded
 pub response_unique : (text : List ℕ) (x y : Response) (n m : ℕ) → HasPlainResponse text x n → HasPlainResponse text y m → (x ≡ y) × (n ≡ m)
 response_unique text x y n m h g =
     let same = head_unique (StartsResponse x) (StartsResponse y) text x.fields y.fields n m h g in
     let words = status_line_unique same.0.0 x.status y.status x.phrase y.phrase (codes "ICAP/1.0") (codes "ICAP/1.0") same.0.1 same.0.2 in
     (same_response x y words.0 words.1 same.1, same.2)
 
+-- a text that begins with the head of a request has no fault as one
 pub no_request_fault : (fault : HeadFault) (text : List ℕ) (value : Request) (n : ℕ) → HasRequest text value n
     → RefusesIcapHead RequestForm fault text → ⊥
 no_request_fault fault text value n h s = no_fault RequestForm request_version (StartsRequest value)
     (λ line l. (value.method, value.uri, l)) fault text value.fields n h s
 
+-- a text that begins with the head of a response, in which nothing is folded, has no fault as one
 pub no_response_fault : (fault : HeadFault) (text : List ℕ) (value : Response) (n : ℕ) → HasPlainResponse text value n
     → RefusesIcapHead StatusForm fault text → ⊥
 no_response_fault fault text value n h s = no_fault StatusForm status_version (StartsResponse value)
@@ -78,6 +86,7 @@ same_later g fault text a b (inr (line, behind, first, inr (form, s))) w =
 
 -- ---- from what an answer says where it comes, to where it comes
 
+-- a request that the text begins with is answered with its length, or memory ran out
 pub request_found : (text : List ℕ) (r : Result (Head IcapRequest) HeadFault)
     → IfOk r (λ head. HasRequest text (request_parts head.value) head.length)
     → IfErr r (λ fault. RefusesIcapHead RequestForm fault text ⊎ ForWantOfMemory fault text)
@@ -87,6 +96,7 @@ request_found text (Ok head) ok err value n h = inr (request_unique text (reques
 request_found text (Err fault) ok (inl err) value n h = absurd (no_request_fault fault text value n h err)
 request_found text (Err fault) ok (inr err) value n h = inl (ap Err (memory_alone fault text value n h err))
 
+-- a plain response that the text begins with is answered with its length, or memory ran out
 pub response_found : (M : HeadFault → Type 0) (text : List ℕ) (r : Result (Head IcapResponse) HeadFault)
     → IfOk r (λ head. HasPlainResponse text (response_parts head.value) head.length)
     → IfErr r (λ fault. ((fault ≡ NoMemory) × M fault) ⊎ RefusesIcapHead StatusForm fault text)
@@ -123,6 +133,7 @@ later_fault text (Ok head) ok err fault a b s = absurd (no_request_fault fault t
 later_fault text (Err g) ok (inl err) fault a b s = ap Err (one_fault RequestForm request_version g fault text err s)
 later_fault text (Err g) ok (inr err) fault a b s = ap Err (same_later g fault text a b s err)
 
+-- each fault of a text as a response is what is answered
 pub response_fault : (text : List ℕ) (r : Result (Head IcapResponse) HeadFault)
     → IfOk r (λ head. HasPlainResponse text (response_parts head.value) head.length)
     → IfErr r (λ fault. ((fault ≡ NoMemory) × ((value : Response) × (size : ℕ) × HasPlainResponse text value size))

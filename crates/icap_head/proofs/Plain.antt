@@ -6,6 +6,7 @@ use Rattle.icap_head.specs.Heads.{StartsResponse, Response, HasPlainResponse, Ha
 use Rattle.icap_head.specs.StartLines.{StatusForm}
 use Rattle.icap_head.proofs.Folding.{head_stays}
 
+-- the want of memory isn't what is said of a head without its end
 not_unended : (short : Bool) → NoMemory ≡ (if short then More else TooLong) → ⊥
 not_unended true e = cc
 not_unended false e = cc

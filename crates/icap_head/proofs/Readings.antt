@@ -14,6 +14,7 @@ use Rattle.icap_head.proofs.FieldFaults.{fields-append}
 use Rattle.icap_head.proofs.Sections.{section_few}
 use Rattle.icap_head.proofs.Words.{first_unique}
 
+-- a text is read as one list of fields only, with one rest after them
 pub fields_unique : (text : List ℕ) (p q : FieldList) (a b : List ℕ) → ReadsFields text p a → ReadsFields text q b → (p ≡ q) × (a ≡ b)
 fields_unique text p q a b x y =
     let same = section_unique text x.0 y.0 x.1 y.1 a b x.2 y.2 in
@@ -21,6 +22,7 @@ fields_unique text p q a b x y =
 
 -- ---- a head at the front, and in longer texts
 
+-- the first line of a text is that of a longer one, and what is added comes after the rest
 pub first-append : (text more line rest : List ℕ) → IsFirstLine text line rest → IsFirstLine (text ++ more) line (rest ++ more)
 first-append text more line rest h = record {
   raw = h.raw;
@@ -29,6 +31,7 @@ first-append text more line rest h = record {
   line_is = h.line_is;
 }
 
+-- a head that a text begins with is one of a longer text too, and what is added comes after the rest
 pub head-append : (S : List ℕ → Type 0) (text more : List ℕ) (fields : FieldList) (rest : List ℕ) → ReadsHead S text fields rest
     → ReadsHead S (text ++ more) fields (rest ++ more)
 head-append S text more fields rest h = record {
@@ -111,6 +114,7 @@ head_reads S text fields n h =
 same_length : (text : List ℕ) (n m : ℕ) → n ≤ length text → m ≤ length text → drop n text ≡ drop m text → n ≡ m
 same_length text n m a b e = let l = ap length e in omega (arith, l, length-drop n text, length-drop m text)
 
+-- an end within a text and within the limit lies within the judged bytes
 judged_length : (text : List ℕ) (n : ℕ) → n ≤ length text → n ≤ 16384 → n ≤ length (take 16384 text)
 judged_length text n a b = let len = length-take 16384 text in omega (arith, len)
 
@@ -131,6 +135,7 @@ head_unique S T text p q n m h g =
 
 -- ---- faults exclude heads and one another
 
+-- at most 100 fields that are read have no fault
 pub no_fields_fault : (fault : HeadFault) (len : ℕ) (behind rest : List ℕ) (fields : FieldList) → ReadsFields behind fields rest
     → length fields ≤ 100 → RefusesFields fault len behind → ⊥
 no_fields_fault fault len behind rest fields h few (inl s) =
@@ -144,11 +149,13 @@ no_fields_fault fault len behind rest fields h few (inr (inr s)) = s.1.0 h.0 h.1
 abbrev pub OneVersion : (List ℕ → List ℕ → Type 0) → Type 0
 OneVersion Form = (line v w : List ℕ) → Form v line → Form w line → v ≡ w
 
+-- a line with the form for ICAP/1.0, and for one version only, isn't refused as a start line
 no_line_fault : (Form : List ℕ → List ℕ → Type 0) → OneVersion Form → (fault : HeadFault) (line : List ℕ) → Form (codes "ICAP/1.0") line
     → RefusesStartLine Form fault line → ⊥
 no_line_fault Form one fault line form (inl s) = s.1 (codes "ICAP/1.0") form
 no_line_fault Form one fault line form (inr s) = s.1.2 (one line s.1.0 (codes "ICAP/1.0") s.1.1 form)
 
+-- a text that begins with a head of the form has no fault, where a line has the form for one version
 pub no_fault : (Form : List ℕ → List ℕ → Type 0) → OneVersion Form → (S : List ℕ → Type 0)
     → ((line : List ℕ) → S line → Form (codes "ICAP/1.0") line)
     → (fault : HeadFault) (text : List ℕ) (fields : FieldList) (n : ℕ) → HasHead S text fields n → RefusesIcapHead Form fault text → ⊥
@@ -162,6 +169,7 @@ no_fault Form one S forms fault text fields n h (inr (line, behind, first, s)) =
           (subst (RefusesFields fault (length text)) same.1 bad.1)
     ]
 
+-- a start line is refused for one fault only
 one_line_fault : (Form : List ℕ → List ℕ → Type 0) (f g : HeadFault) (line : List ℕ) → RefusesStartLine Form f line
     → RefusesStartLine Form g line → f ≡ g
 one_line_fault Form f g line (inl a) (inl b) = a.0 ∙ sym b.0
@@ -169,9 +177,11 @@ one_line_fault Form f g line (inl a) (inr b) = absurd (a.1 b.1.0 b.1.1)
 one_line_fault Form f g line (inr a) (inl b) = absurd (b.1 a.1.0 a.1.1)
 one_line_fault Form f g line (inr a) (inr b) = a.0 ∙ sym b.0
 
+-- a text that nothing makes a section isn't open
 open_or_never : (text : List ℕ) → NeverHasSection text → IsOpen text → ⊥
 open_or_never text never unfinished = never unfinished.1.0 unfinished.1.1 unfinished.1.2 [] unfinished.1.3
 
+-- the fields of a text are refused for one fault only
 pub one_fields_fault : (f g : HeadFault) (len : ℕ) (text : List ℕ) → RefusesFields f len text → RefusesFields g len text → f ≡ g
 one_fields_fault f g len text (inl a) (inl b) = a.0 ∙ sym b.0
 one_fields_fault f g len text (inl a) (inr (inl b)) = absurd (a.2 b.1)
@@ -183,6 +193,7 @@ one_fields_fault f g len text (inr (inr a)) (inl b) = absurd (open_or_never text
 one_fields_fault f g len text (inr (inr a)) (inr (inl b)) = absurd (a.2 b.1)
 one_fields_fault f g len text (inr (inr a)) (inr (inr b)) = a.0 ∙ sym b.0
 
+-- a text is refused as a head for one fault only, where a line has the form for one version
 pub one_fault : (Form : List ℕ → List ℕ → Type 0) → OneVersion Form → (f g : HeadFault) (text : List ℕ) → RefusesIcapHead Form f text
     → RefusesIcapHead Form g text → f ≡ g
 one_fault Form one f g text (inl a) (inl b) = a.0 ∙ sym b.0
@@ -202,6 +213,7 @@ one_fault Form one f g text (inr (line, behind, first, s)) (inr (line₂, behind
 
 -- ---- what follows changes nothing
 
+-- a text that begins with a head does so, with the same length, with more bytes after it
 pub has_head-append : (S : List ℕ → Type 0) (text more : List ℕ) (fields : FieldList) (n : ℕ) → HasHead S text fields n
     → HasHead S (text ++ more) fields n
 has_head-append S text more fields n h = record {

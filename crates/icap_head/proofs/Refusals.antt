@@ -18,6 +18,7 @@ abbrev pub ResponseRefused : HeadFault → List ℕ → Type 0
 ResponseRefused fault text = ((fault ≡ NoMemory) × ((value : Response) × (size : ℕ) × HasPlainResponse text value size))
     ⊎ RefusesIcapHead StatusForm fault text
 
+-- a fault for which the first line of the judged bytes is refused as a request line may be answered of the text
 pub request_line_refused : (fault : HeadFault) (text seen line behind : List ℕ) → seen ≡ take 16384 text → IsFirstLine seen line behind
     → RefusesStartLine RequestForm fault line → RequestRefused fault text
 request_line_refused fault text seen line behind e first h = inl (inr (line, behind, subst (λ t. IsFirstLine t line behind) e first, inl h))
@@ -34,6 +35,7 @@ pub request_unkept : (text seen line behind : List ℕ) → seen ≡ take 16384 
 request_unkept text seen line behind e first may fields rest reads few =
     request_fields_refused NoMemory text seen line behind e first may (inl (refl, (fields, rest, reads, few)))
 
+-- a request line and at most 100 fields in the judged bytes are a head of a request of the text
 pub has_request : (value : Request) (text seen line behind : List ℕ) (n : ℕ) → seen ≡ take 16384 text → n ≤ length seen
     → IsFirstLine seen line behind → StartsRequest value line
     → length value.fields ≤ 100 → ReadsFields behind value.fields (drop n seen) → HasRequest text value n
@@ -42,10 +44,12 @@ has_request value text seen line behind n e inside first h few fields =
     (subst (λ t. IsFirstLine t line behind) e first) h
     (subst (λ t. ReadsFields behind value.fields (drop n t)) e fields) few
 
+-- a fault for which the first line of the judged bytes is refused as a status line may be answered of the text
 pub status_line_refused : (fault : HeadFault) (text seen line behind : List ℕ) → seen ≡ take 16384 text → IsFirstLine seen line behind
     → RefusesStartLine StatusForm fault line → ResponseRefused fault text
 status_line_refused fault text seen line behind e first h = inr (inr (line, behind, subst (λ t. IsFirstLine t line behind) e first, inl h))
 
+-- a fault of the fields after a status line, or want of memory for whole ones, may be answered of the text
 pub response_fields_refused : (fault : HeadFault) (text seen line behind : List ℕ) (status : ℕ) (phrase : List ℕ) → seen ≡ take 16384 text
     → IsFirstLine seen line behind
     → IsStatusLine line status phrase (codes "ICAP/1.0")
@@ -58,6 +62,7 @@ response_fields_refused fault text seen line behind status phrase e first h (inl
 response_fields_refused fault text seen line behind status phrase e first h (inr s) =
     inr (inr (line, behind, subst (λ t. IsFirstLine t line behind) e first, inr ((status, phrase, h), s)))
 
+-- a status line and at most 100 fields in the judged bytes are a plain head of a response of the text
 pub has_response : (value : Response) (text seen line behind : List ℕ) (n : ℕ) → seen ≡ take 16384 text → n ≤ length seen
     → IsFirstLine seen line behind → StartsResponse value line
     → length value.fields ≤ 100 → ReadsFields behind value.fields (drop n seen) → HasPlainResponse text value n

@@ -16,12 +16,15 @@ use Rattle.icap_head.proofs.Lacking.{false_true, lacks_append, lacks_cons, lacks
 
 -- ---- counting
 
+-- as many lines end in two texts together as in the one and in the other
 pub line_count-append : (xs ys : List ℕ) → line_count (xs ++ ys) ≡ line_count xs + line_count ys
 line_count-append xs ys = sum_by-append (λ b. cond (eqb b 10) 1 0) xs ys
 
+-- a first byte that is no LF ends no line
 line_count-other : (b : ℕ) (text : List ℕ) → b ≢ 10 → line_count (b ∷ text) ≡ line_count text
 line_count-other b text other = let off : eqb b 10 ≡ false = ne_eqb b 10 other in rw off (omega arith)
 
+-- a first byte that is an LF ends one line more
 line_count-feed : (b : ℕ) (text : List ℕ) → b ≡ 10 → line_count (b ∷ text) ≡ 1 + line_count text
 line_count-feed b text is =
     let on : eqb b 10 ≡ true = eq-eqb b 10 is in
@@ -29,6 +32,7 @@ line_count-feed b text is =
     let e = line_count-append (b ∷ []) text in
     omega (arith, one, e)
 
+-- no line ends in a text without LF
 no_feeds : (text : List ℕ) → Lacks 10 text → line_count text ≡ 0
 no_feeds [] lacks = refl
 no_feeds (b ∷ text) lacks = line_count-other b text (lacks 0 (omega arith)) ∙ no_feeds text (λ k inside is. lacks (suc k) (omega arith) is)
@@ -57,10 +61,12 @@ count_behind front w init e pos =
 abbrev pub OneLine : List ℕ → Type 0
 OneLine text = (init : List ℕ) × Lacks 10 init × (text ≡ init ++ 10 ∷ [])
 
+-- a line end is one line
 end_line : (e : LineEnd) → OneLine (print_end e)
 end_line crlf = (13 ∷ [], lacks_from 10 (13 ∷ []) refl, refl)
 end_line lf = ([], lacks_nil 10, refl)
 
+-- one line with bytes before it that have no LF is one line
 with_front : (front text : List ℕ) → Lacks 10 front → OneLine text → OneLine (front ++ text)
 with_front front text lacks line = (
   front ++ line.0,
@@ -68,22 +74,27 @@ with_front front text lacks line = (
   ap (λ t. front ++ t) line.2 ∙ sym (append_assoc front line.0 (10 ∷ [])),
 )
 
+-- an LF is no byte of a field's name
 feed_no_name : is_token_byte 10 ≡ false
 unfolding is_token_byte
 feed_no_name = refl
 
+-- a field's name has no LF
 name_lacks : (name : List ℕ) → IsToken name → Lacks 10 name
 name_lacks name token k inside is = false_true (sym feed_no_name ∙ ap is_token_byte (sym is) ∙ token.1 k 0 inside)
 
+-- a text of value bytes has no LF
 value_lacks : (value : List ℕ) → AllPass is_value_byte value → Lacks 10 value
 value_lacks value pass k inside is = false_true (ap is_value_byte (sym is) ∙ pass k 0 inside)
 
+-- a valid field line is one line
 pub field_line : (f : Line) → IsField f → OneLine (print_field f)
 field_line f h =
     with_front (f.name ++ 58 ∷ f.raw) (print_end f.end)
     (lacks_append 10 f.name (58 ∷ f.raw) (name_lacks f.name h.name) (lacks_cons 10 58 f.raw (tested 10 58 refl) (value_lacks f.raw h.raw)))
     (end_line f.end)
 
+-- in a text that is one line, one line ends
 one_count : (text : List ℕ) → OneLine text → line_count text ≡ 1
 one_count text line =
     let n = line_count-append line.0 (10 ∷ []) in
@@ -91,22 +102,27 @@ one_count text line =
     let one : line_count (10 ∷ []) ≡ 1 = refl in
     ap line_count line.2 ∙ omega (arith, n, none, one)
 
+-- a section with one field more before it is that field's line and then the section
 section_cons : (f : Line) (fields : List Line) (last : LineEnd)
     → print_section (f ∷ fields) last ≡ print_field f ++ print_section fields last
 section_cons f fields last = append_assoc (print_field f) (flat_map print_field fields) (print_end last)
 
+-- the first of valid field lines is valid
 all_head : (f : Line) (fields : List Line) → All IsField (f ∷ fields) → IsField f
 all_head f fields all = all 0 f (omega arith)
 
+-- the lines after the first of valid field lines are valid
 all_tail : (f : Line) (fields : List Line) → All IsField (f ∷ fields) → All IsField fields
 all_tail f fields all k d inside = all (suc k) d (omega arith)
 
+-- the first few of valid field lines are valid
 pub all_take : (n : ℕ) (fields : List Line) → All IsField fields → All IsField (take n fields)
 all_take zero fields all k d inside = absurd (omega arith)
 all_take (suc n) [] all k d inside = all k d inside
 all_take (suc n) (f ∷ fields) all k d inside = All-cons IsField f (take n fields) (all_head f fields all)
     (all_take n fields (all_tail f fields all)) k d inside
 
+-- in valid field lines, as many lines end as there are fields
 pub lines_count : (fields : List Line) → All IsField fields → line_count (flat_map print_field fields) ≡ length fields
 lines_count [] all = refl
 lines_count (f ∷ fields) all =
@@ -117,6 +133,7 @@ lines_count (f ∷ fields) all =
 
 -- ---- a text that has a line of another has it whole
 
+-- a text in which a line ends has the first LF of any longer text, and all bytes before that LF
 whole_line : (init text more tail : List ℕ) → Lacks 10 init → text ++ more ≡ init ++ 10 ∷ tail → 0 < line_count text
     → (rest : List ℕ) × (text ≡ init ++ 10 ∷ rest) × (rest ++ more ≡ tail)
 whole_line init [] more tail lacks e pos = absurd (omega arith)
@@ -132,6 +149,7 @@ whole_line (a ∷ init) (b ∷ text) more tail lacks e pos =
     let found = whole_line init text more tail (λ k inside is. lacks (suc k) (omega arith) is) tails (omega (arith, n)) in
     (found.0, (λ i. heads i ∷ found.1 i), found.2)
 
+-- a text in which a line ends, and that more bytes make one line and a tail, begins with that line
 cut_line : (line text more tail : List ℕ) → OneLine line → text ++ more ≡ line ++ tail → 0 < line_count text
     → (rest : List ℕ) × (text ≡ line ++ rest) × (rest ++ more ≡ tail)
 cut_line line text more tail one e pos =
@@ -139,6 +157,7 @@ cut_line line text more tail one e pos =
     let found = whole_line init text more tail one.1 (e ∙ ap (λ l. l ++ tail) one.2 ∙ append_assoc init (10 ∷ []) tail) pos in
     (found.0, found.1 ∙ sym (append_assoc init (10 ∷ []) found.0) ∙ ap (λ l. l ++ found.0) (sym one.2), found.2)
 
+-- a valid field line before a section is a section with one field more
 reads_cons : (f : Line) (fields : List Line) (last : LineEnd) (text behind rest : List ℕ) → IsField f → text ≡ print_field f ++ behind
     → ReadsSection behind fields last rest → ReadsSection text (f ∷ fields) last rest
 reads_cons f fields last text behind rest h e r = (
@@ -176,6 +195,7 @@ open_lines (suc k) (f ∷ fields) last text more all e enough none =
 
 -- ---- too many
 
+-- an open text in which 101 lines end begins with more than 100 field lines
 pub open_too_many : (text : List ℕ) → IsOpen text → 101 ≤ line_count text → HasTooMany text
 open_too_many text unfinished enough =
     let more = unfinished.1 in
@@ -200,6 +220,7 @@ front_count front fields r =
     let n = lines_count fields r.0 in
     omega (arith, e, a, b, n)
 
+-- in a text that begins with more than 100 field lines, 101 lines end at least
 pub too_many_count : (text : List ℕ) → HasTooMany text → 101 ≤ line_count text
 too_many_count text many =
     let front = many.0 in
@@ -209,6 +230,7 @@ too_many_count text many =
     let more = many.5 in
     omega (arith, n, a, b, more)
 
+-- a text with too many field lines has too many with more bytes after it
 pub too_many-append : (text more : List ℕ) → HasTooMany text → HasTooMany (text ++ more)
 too_many-append text more many =
     (many.0, many.1 ++ more, ap (λ t. t ++ more) many.2 ∙ append_assoc many.0 many.1 more, many.3, many.4, many.5)
@@ -221,6 +243,7 @@ longer_front a x b y e le = (
       (sym (take-append-le (length b) a x le) ∙ ap (take (length b)) e ∙ take_at b y (length b) refl),
 )
 
+-- a text that begins with another still does with an LF after it
 ends_after : (front more : List ℕ) (c : List ℕ) → front ≡ more ++ c → front ++ 10 ∷ [] ≡ more ++ (c ++ 10 ∷ [])
 ends_after front more c e = ap (λ t. t ++ 10 ∷ []) e ∙ append_assoc more c (10 ∷ [])
 
@@ -236,6 +259,7 @@ never_too_many text more never few many =
           never (c.0 ++ 10 ∷ []) many.3 lf [] (subst (λ t. ReadsSection t many.3 lf []) (ends_after many.0 text c.0 c.1) many.4)
     ]
 
+-- a text of no bytes is empty
 empty : (text : List ℕ) → length text ≤ 0 → text ≡ []
 empty [] none = refl
 empty (b ∷ text) none = absurd (omega arith)

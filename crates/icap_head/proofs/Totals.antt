@@ -23,17 +23,21 @@ use Rattle.icap_head.proofs.Readings.{has_some_head}
 abbrev pub NotNot : Type 0 → Type 0
 NotNot P = (P → ⊥) → ⊥
 
+-- what is so can't fail to be so
 pub surely : {P : Type 0} → P → NotNot P
 surely p k = k p
 
+-- what can't fail to follow from something that can't fail can't fail either
 pub and_so : {P Q : Type 0} → NotNot P → (P → NotNot Q) → NotNot Q
 and_so p f k = p (λ x. f x k)
 
+-- it can't fail that something is so or isn't
 pub decided : (P : Type 0) → NotNot (P ⊎ (P → ⊥))
 decided P k = k (inr (λ p. k (inl p)))
 
 -- ---- the first line
 
+-- a text is cut at its first LF, or has none
 pub first_feed : (text : List ℕ) → ((raw : List ℕ) × (rest : List ℕ) × (text ≡ raw ++ 10 ∷ rest) × Lacks 10 raw) ⊎ Lacks 10 text
 first_feed [] = inr (lacks_nil 10)
 first_feed (b ∷ text) = elim (cases_eq b 10) [
@@ -44,6 +48,7 @@ first_feed (b ∷ text) = elim (cases_eq b 10) [
   ]
 ]
 
+-- a text has a first line, or no line ends in it
 pub first_line : (text : List ℕ) → ((line : List ℕ) × (rest : List ℕ) × IsFirstLine text line rest) ⊎ HasNoLine text
 first_line text = elim (first_feed text) [
   | inl found ↦ inl (without_cr found.0, found.1, record { raw = found.0; cut = found.2; no_feed = found.3; line_is = refl })
@@ -158,6 +163,7 @@ some_head Form text = elim (first_line (take 16384 text)) [
       ])
     ])
 
+-- a head stands with another test of its start line that passes wherever the first one does
 started : (S T : List ℕ → Type 0) (text : List ℕ) (fields : FieldList) (size : ℕ) → ((line : List ℕ) → S line → T line)
     → HasHead S text fields size → HasHead T text fields size
 started S T text fields size all h = record {

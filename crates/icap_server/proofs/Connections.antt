@@ -16,17 +16,20 @@ rest_of : Option (List ℕ) → List ℕ
 rest_of None = []
 rest_of (Some bytes) = bytes
 
+-- what has come and what is left are all of the reader's bytes, where those are known
 all_of : (reader left : Option (List ℕ)) (come : List ℕ) → Consumes reader left come → AreAll reader (come ++ rest_of left)
 unfolding rest_of
 all_of None left come h = tt
 all_of (Some bytes) None come h = absurd h
 all_of (Some bytes) (Some more) come h = h
 
+-- of a reader at its end nothing is left
 nothing_left : (left : Option (List ℕ)) → IsAtEnd left → rest_of left ≡ []
 unfolding rest_of
 nothing_left None h = refl
 nothing_left (Some bytes) h = h
 
+-- a connection begins with an open side that has served nothing, with nothing come and nothing added
 pub begins : (s : Shown) (reader old : Option (List ℕ)) (side : ServerSide) → HasServed [] [] side → is_closed side.stage ≡ false
     → shown side.settings ≡ s → ServesOn s reader reader old old side
 begins s reader old side served opened same = record {
@@ -67,6 +70,7 @@ stays s reader left left' old new side h cut = record {
   settings = h.settings;
 }
 
+-- what was added on a connection that goes on are the answers to what has come
 answers_so_far : (s : Shown) (reader left old new : Option (List ℕ)) (side : ServerSide) (h : ServesOn s reader left old new side)
     → Answers s h.come h.text
 answers_so_far s reader left old new side h =
@@ -85,6 +89,7 @@ read s reader left old new side h = record {
   written = h.written;
 }
 
+-- a reader that kept what was left has given nothing
 kept_cut : (left left' : Option (List ℕ)) → Keeps left left' → Consumes left left' []
 kept_cut None left' same = tt
 kept_cut (Some bytes) None same = absurd same

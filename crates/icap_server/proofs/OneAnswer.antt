@@ -48,16 +48,19 @@ use Rattle.icap_server.specs.HeadParts.{IsHead, BreaksHead, OpenHead, HeadsWhole
 use Rattle.icap_server.specs.Verdicts.{path_text, HasPath, ListIs, ListBad, ValueBad, PreviewIs, PreviewBad, accepted, allows_204}
 use Rattle.icap_server.specs.Verdicts.{JudgesPreview, JudgesList, JudgesPoint, JudgesPath, JudgesHost, JudgesRequest}
 
+-- false isn't true
 false_true : false ≡ true → ⊥
 false_true e = cc
 
 -- ---- bodies in chunks
 
+-- a reader whose place is a body's end finds no body in more bytes
 ended_body : (sum : ℕ) (ieof : Bool) (bytes : List ℕ) → body_of (record { sum = sum; place = AtEnd ieof }) bytes ≡ []
 unfolding step is_data
 ended_body sum ieof [] = refl
 ended_body sum ieof (b ∷ bytes) = ended_body sum ieof bytes
 
+-- a reader that tells an end finds no body in more bytes
 behind_end : (r : ChunkReader) (ieof : Bool) (bytes : List ℕ) → end_of r ≡ Some ieof → body_of r bytes ≡ []
 behind_end r ieof bytes e = ap (λ x. body_of x bytes) (at_place r (AtEnd ieof) (ended_at r.place ieof e)) ∙ ended_body r.sum ieof bytes
 
@@ -87,12 +90,14 @@ not_over room text body outcome reading fits over =
     let o = over.over in
     absurd (omega (arith, n, m, fits, o))
 
+-- the rest after a 100, with this outcome, is answered in one way
 ends_rest_one : (s : Shown) (call : Call) (heads preview text body : List ℕ) (outcome : Outcome) (f f' : First)
     → EndsRest s call heads preview text body outcome f → EndsRest s call heads preview text body outcome f' → f ≡ f'
 ends_rest_one s call heads preview text body Begun f f' e e' = e ∙ sym e'
 ends_rest_one s call heads preview text body (Faulted fault) f f' e e' = e ∙ sym e'
 ends_rest_one s call heads preview text body (Ended ieof used) f f' e e' = e ∙ sym e'
 
+-- the text after a 100 is answered in one way
 rest_one : (s : Shown) (call : Call) (heads preview text : List ℕ) (f f' : First) → ReadsRest s call heads preview text f
     → ReadsRest s call heads preview text f' → f ≡ f'
 rest_one s call heads preview text f f' (inl (over, e)) (inl (over', e')) = e ∙ sym e'
@@ -106,6 +111,7 @@ rest_one s call heads preview text f f' (inr (body, outcome, reading, fits, h)) 
     let Q : Outcome → Type 0 = λ o. EndsRest s call heads preview text body o f' in
     ends_rest_one s call heads preview text body outcome f f' h (subst Q (sym same.1) (subst P (sym same.0) h'))
 
+-- the text after the last chunk of a body or preview is answered in one way
 ends_first_one : (s : Shown) (call : Call) (heads body : List ℕ) (ieof preview : Bool) (rest : List ℕ) (f f' : First)
     → EndsFirst s call heads body ieof preview rest f → EndsFirst s call heads body ieof preview rest f' → f ≡ f'
 ends_first_one s call heads body ieof false rest f f' e e' = e ∙ sym e'
@@ -114,6 +120,7 @@ ends_first_one s call heads body ieof true rest f f' (inl (w, e)) (inr (w', h)) 
 ends_first_one s call heads body ieof true rest f f' (inr (w, h)) (inl (w', e)) = absurd (false_true (sym w' ∙ w))
 ends_first_one s call heads body ieof true rest f f' (inr (w, h)) (inr (w', h')) = rest_one s call heads body rest f f' h h'
 
+-- a body with this outcome is answered in one way
 ends_body_one : (s : Shown) (call : Call) (heads text body : List ℕ) (outcome : Outcome) (f f' : First)
     → EndsBody s call heads text body outcome f → EndsBody s call heads text body outcome f' → f ≡ f'
 ends_body_one s call heads text body Begun f f' e e' = e ∙ sym e'
@@ -121,6 +128,7 @@ ends_body_one s call heads text body (Faulted fault) f f' e e' = e ∙ sym e'
 ends_body_one s call heads text body (Ended ieof used) f f' h h' =
     ends_first_one s call heads body ieof call.preview (drop used text) f f' h h'
 
+-- a body in chunks is answered in one way
 chunks_one : (s : Shown) (call : Call) (heads text : List ℕ) (f f' : First) → ReadsChunks s call heads text f
     → ReadsChunks s call heads text f' → f ≡ f'
 chunks_one s call heads text f f' (inl (over, e)) (inl (over', e')) = e ∙ sym e'
@@ -134,6 +142,7 @@ chunks_one s call heads text f f' (inr (body, outcome, reading, fits, h)) (inr (
     let Q : Outcome → Type 0 = λ o. EndsBody s call heads text body o f' in
     ends_body_one s call heads text body outcome f f' h (subst Q (sym same.1) (subst P (sym same.0) h'))
 
+-- what follows the encapsulated heads is answered in one way
 body_one : (s : Shown) (call : Call) (part : BodyPart) (heads text : List ℕ) (f f' : First) → ReadsBody s call part heads text f
     → ReadsBody s call part heads text f' → f ≡ f'
 body_one s call NullBody heads text f f' e e' = e ∙ sym e'
@@ -143,31 +152,38 @@ body_one s call OptBody heads text f f' h h' = chunks_one s call heads text f f'
 
 -- ---- encapsulated heads
 
+-- a whole head isn't a broken one
 not_broken : (size : ℕ) (text : List ℕ) → IsHead size text → BreaksHead size text → ⊥
 not_broken size text h (inl b) = false_true (sym (h.first b.0 b.1) ∙ b.3)
 not_broken size text h (inr b) = false_true (sym b.2 ∙ h.blank b.0)
 
+-- a whole head isn't an open one
 not_open : (size : ℕ) (text : List ℕ) → IsHead size text → OpenHead size text → ⊥
 not_open size text h o = let a = h.inside in let b = o.0 in absurd (omega (arith, a, b))
 
+-- a broken head isn't an open one
 broken_not_open : (size : ℕ) (text : List ℕ) → BreaksHead size text → OpenHead size text → ⊥
 broken_not_open size text (inl b) o = false_true (sym (o.1 b.0 b.2) ∙ b.3)
 broken_not_open size text (inr b) o = let x = b.1 in let y = o.0 in absurd (omega (arith, x, y))
 
+-- heads that are open aren't broken
 open_not_broken : (l : Layout) (text : List ℕ) → HeadsOpen l text → HeadsBroken l text → ⊥
 open_not_broken l text (inl o) (inl b) = broken_not_open (middle l) text b o
 open_not_broken l text (inl o) (inr b) = not_open (middle l) text b.0 o
 open_not_broken l text (inr o) (inl b) = not_broken (middle l) text o.0 b
 open_not_broken l text (inr o) (inr b) = broken_not_open (l.offset - middle l) (drop (middle l) text) b.1 o.1
 
+-- heads that are open aren't whole
 open_not_whole : (l : Layout) (text : List ℕ) → HeadsOpen l text → HeadsWhole l text → ⊥
 open_not_whole l text (inl o) w = not_open (middle l) text w.0 o
 open_not_whole l text (inr o) w = not_open (l.offset - middle l) (drop (middle l) text) w.1 o.1
 
+-- heads that are broken aren't whole
 broken_not_whole : (l : Layout) (text : List ℕ) → HeadsBroken l text → HeadsWhole l text → ⊥
 broken_not_whole l text (inl b) w = not_broken (middle l) text w.0 b
 broken_not_whole l text (inr b) w = not_broken (l.offset - middle l) (drop (middle l) text) w.1 b.1
 
+-- what follows an ICAP head with this verdict is answered in one way
 follows_one : (s : Shown) (verdict : Verdict) (text : List ℕ) (f f' : First) → Follows s verdict text f → Follows s verdict text f' → f ≡ f'
 follows_one s (Refused status) text f f' e e' = e ∙ sym e'
 follows_one s (Describes point) text f f' e e' = e ∙ sym e'
@@ -184,14 +200,17 @@ follows_one s (Offers call) text f f' (inr (inr (w, h))) (inr (inr (w', h'))) =
 
 -- ---- what a head asks for
 
+-- the values of the Preview fields say one thing of a preview
 preview_one : (values : List (List ℕ)) (p q : Bool) → PreviewIs values p → PreviewIs values q → p ≡ q
 preview_one [] p q e e' = e ∙ sym e'
 preview_one (v ∷ values) p q h h' = h.0 ∙ sym h'.0
 
+-- values that say whether there is a preview aren't bad ones
 preview_not_bad : (values : List (List ℕ)) (p : Bool) → PreviewIs values p → PreviewBad values → ⊥
 preview_not_bad [] p h bad = bad
 preview_not_bad (v ∷ values) p h bad = bad h.1
 
+-- from its Preview fields on a head is judged in one way
 judged_preview : (m : Method) (point : Point) (service : Service) (l : Layout) (fields : FieldList) (v w : Verdict)
     → JudgesPreview m point service l fields v → JudgesPreview m point service l fields w → v ≡ w
 judged_preview m point service l fields v w (inl (bad, e)) (inl (bad', e')) = e ∙ sym e'
@@ -203,9 +222,11 @@ judged_preview m point service l fields v w (inr (p, is, e)) (inr (q, is', e')) 
     let same = preview_one (values_of (codes "Preview") fields) p q is is' in
     e ∙ ap (λ x. accepted m point service l x (allows_204 (values_of (codes "Allow") fields))) same ∙ sym e'
 
+-- a list's value is one layout at most
 layout_one : (m : Method) (value : List ℕ) (l k : Layout) → IsLayout m OfRequest value l → IsLayout m OfRequest value k → l ≡ k
 layout_one m value l k x y = layout_unique l k (parts_unique value (parts_of l) (parts_of k) x.parts y.parts)
 
+-- the values of the Encapsulated fields are one layout at most
 list_one : (m : Method) (values : List (List ℕ)) (l k : Layout) → ListIs m values l → ListIs m values k → l ≡ k
 list_one Options [] l k x y = x ∙ sym y
 list_one Reqmod [] l k x y = absurd x
@@ -217,10 +238,12 @@ list_one Options (v ∷ other ∷ more) l k x y = absurd x
 list_one Reqmod (v ∷ other ∷ more) l k x y = absurd x
 list_one Respmod (v ∷ other ∷ more) l k x y = absurd x
 
+-- a value that is a layout, with sizes that heads can have, isn't a bad one
 value_not_bad : (m : Method) (value : List ℕ) (l : Layout) → IsLayout m OfRequest value l → has_head_sizes l ≡ true → ValueBad m value → ⊥
 value_not_bad m value l is sizes (inl (fault, stands)) = no_fault m OfRequest value l fault is stands
 value_not_bad m value l is sizes (inr (k, also, none)) = false_true (sym none ∙ ap has_head_sizes (layout_one m value k l also is) ∙ sizes)
 
+-- values that are a layout aren't bad ones
 list_not_bad : (m : Method) (values : List (List ℕ)) (l : Layout) → ListIs m values l → ListBad m values → ⊥
 list_not_bad Options [] l x bad = bad
 list_not_bad Reqmod [] l x bad = x
@@ -232,6 +255,7 @@ list_not_bad Options (v ∷ other ∷ more) l x bad = x
 list_not_bad Reqmod (v ∷ other ∷ more) l x bad = x
 list_not_bad Respmod (v ∷ other ∷ more) l x bad = x
 
+-- from its list on a head is judged in one way
 judged_list : (m : Method) (point : Point) (service : Service) (fields : FieldList) (v w : Verdict) → JudgesList m point service fields v
     → JudgesList m point service fields w → v ≡ w
 judged_list m point service fields v w (inl (bad, e)) (inl (bad', e')) = e ∙ sym e'
@@ -243,6 +267,7 @@ judged_list m point service fields v w (inr (l, is, h)) (inr (k, is', h')) =
     let P : Layout → Type 0 = λ x. JudgesPreview m point service x fields w in
     judged_preview m point service l fields v w h (subst P (sym (list_one m (values_of (codes "Encapsulated") fields) l k is is')) h')
 
+-- from its point on a head is judged in one way
 judged_point : (m : Method) (point : Point) (service : Service) (fields : FieldList) (v w : Verdict) → JudgesPoint m point service fields v
     → JudgesPoint m point service fields w → v ≡ w
 judged_point m point service fields v w (inl (never, e)) (inl (never', e')) = e ∙ sym e'
@@ -262,6 +287,7 @@ service_of b = if b == 112 then Pass else (if b == 115 then Stamp else (if b == 
 point_of : ℕ → Point
 point_of b = if b == 113 then AtRequest else AtResponse
 
+-- the fourth byte of a service's path tells its point
 named_point : (point : Point) (service : Service) → point_of (slice_index (path_text point service) 3) ≡ point
 unfolding point_of
 named_point AtRequest Pass = refl
@@ -273,13 +299,16 @@ named_point AtResponse Stamp = refl
 named_point AtResponse Upper = refl
 named_point AtResponse Block = refl
 
+-- services that are found at the same path are of the same point
 point_one : (p q : Point) (x y : Service) → path_text p x ≡ path_text q y → p ≡ q
 point_one p q x y e = sym (named_point p x) ∙ ap point_of (letter _ _ 3 e) ∙ named_point q y
 
+-- where the letter that tells a service stands in the paths of this point
 at_letter : Point → ℕ
 at_letter AtRequest = 8
 at_letter AtResponse = 9
 
+-- a letter of a service's path tells the service
 named_service : (point : Point) (service : Service) → service_of (slice_index (path_text point service) (at_letter point)) ≡ service
 unfolding service_of at_letter
 named_service AtRequest Pass = refl
@@ -291,9 +320,11 @@ named_service AtResponse Stamp = refl
 named_service AtResponse Upper = refl
 named_service AtResponse Block = refl
 
+-- services of one point that are found at the same path are the same
 service_one : (p : Point) (x y : Service) → path_text p x ≡ path_text p y → x ≡ y
 service_one p x y e = sym (named_service p x) ∙ ap service_of (letter _ _ (at_letter p) e) ∙ named_service p y
 
+-- from its path on a head is judged in one way
 judged_path : (m : Method) (path : List ℕ) (fields : FieldList) (v w : Verdict) → JudgesPath m path fields v → JudgesPath m path fields w
     → v ≡ w
 judged_path m path fields v w (inl (none, e)) (inl (none', e')) = e ∙ sym e'
@@ -311,6 +342,7 @@ judged_path m path fields v w (inr (p, x, is, h)) (inr (q, y, is', h')) =
 path_by : Option (List ℕ) → List ℕ → List ℕ
 path_by scheme behind_it = if not (length behind_it == 0) || is_some scheme then path_of behind_it else []
 
+-- a URI has one path at most
 path_one : (text path path' : List ℕ) → HasPath text path → HasPath text path' → path ≡ path'
 unfolding path_by
 path_one text path path' (u, spells, e) (u', spells', e') =
@@ -319,6 +351,7 @@ path_one text path path' (u, spells, e) (u', spells', e') =
     let b : uri_path u' ≡ path_by (uri_scheme u') (uri_data u') = refl in
     sym e ∙ a ∙ ap (λ x. path_by x (uri_data u)) same.0 ∙ ap (λ x. path_by (uri_scheme u') x) same.2 ∙ sym b ∙ e'
 
+-- from its Host fields on a head is judged in one way
 judged_host : (m : Method) (r : Request) (v w : Verdict) → JudgesHost m r v → JudgesHost m r w → v ≡ w
 judged_host m r v w (inl (none, e)) (inl (none', e')) = e ∙ sym e'
 judged_host m r v w (inl (none, e)) (inr (some, h)) = absurd (some none)
@@ -331,12 +364,14 @@ judged_host m r v w (inr (some, (path, is, h))) (inr (some', (path', is', h'))) 
 method_by_letter : ℕ → Method
 method_by_letter b = if b == 81 then Reqmod else (if b == 83 then Respmod else Options)
 
+-- the third letter of a method's name tells the method
 named_method : (m : Method) → method_by_letter (slice_index (method_name m) 2) ≡ m
 unfolding method_by_letter
 named_method Reqmod = refl
 named_method Respmod = refl
 named_method Options = refl
 
+-- methods with the same name are the same
 method_one : (m n : Method) → method_name m ≡ method_name n → m ≡ n
 method_one m n e = sym (named_method m) ∙ ap method_by_letter (letter _ _ 2 e) ∙ named_method n
 
@@ -351,6 +386,7 @@ judges_one r v w (inr (m, is, h)) (inr (n, is', h')) =
 
 -- ---- a request, and a stream
 
+-- a text opens with one verdict at most, and one text follows its head
 opens_one : (text a b : List ℕ) (v w : Verdict) → Opens text v a → Opens text w b → (v ≡ w) × (a ≡ b)
 opens_one text a b v w (value, size, has, judges, e) (value', size', has', judges', e') =
     let same = request_unique text value value' size size' has has' in
@@ -371,25 +407,31 @@ first_one s text f f' (inr (v, a, opens, h)) (inr (w, b, opens', h')) =
     let Q : List ℕ → Type 0 = λ t. Follows s v t f' in
     follows_one s v a f f' h (subst Q (sym same.1) (subst P (sym same.0) h'))
 
+-- what the first request of a text gets: its answer, or what is due
 said : First → List ℕ
 said (whole a r) = a
 said (last a) = a
 
+-- what the first request of a text leaves: nothing if it isn't whole
 left : First → List ℕ
 left (whole a r) = r
 left (last a) = []
 
+-- two requests that aren't whole, if they are answered alike, are due the same
 last_one : (a b : List ℕ) → last a ≡ last b → a ≡ b
 unfolding said
 last_one a b e = ap said e
 
+-- two whole requests that are answered alike have the same answer and leave the same text
 whole_one : (a b r t : List ℕ) → whole a r ≡ whole b t → (a ≡ b) × (r ≡ t)
 unfolding said left
 whole_one a b r t e = (ap said e, ap left e)
 
+-- a request isn't both whole and not whole
 not_last : (a r d : List ℕ) → whole a r ≡ last d → ⊥
 not_last a r d e = cc
 
+-- whole requests of a stream, up to one that isn't, get the same answers and due in any two ways
 leads_one : {s : Shown} {stream a rest a' rest' : List ℕ} (d d' : List ℕ) → Leads s stream a rest → Leads s stream a' rest'
     → IsFirst s rest (last d) → IsFirst s rest' (last d') → a ++ d ≡ a' ++ d'
 leads_one {s} {stream} d d' here here f g = last_one d d' (first_one s stream (last d) (last d') f g)

@@ -50,15 +50,18 @@ Leaves n (last due) = Unit {0}
 abbrev Some_first : (First → Type 0) → ℕ → Type 0
 Some_first P n = (f : First) × P f × Leaves n f
 
+-- what is left of a text is no longer than the text
 dropped : (k : ℕ) (text : List ℕ) → length (drop k text) ≤ length text
 dropped k text = let n = length-drop k text in omega (arith, n)
 
+-- a request that leaves at most so many bytes leaves at most any greater number
 less : (n m : ℕ) (f : First) → n ≤ m → Leaves n f → Leaves m f
 less n m (whole answer rest) le h = omega (arith, h)
 less n m (last due) le h = tt
 
 -- ---- bodies in chunks
 
+-- a text that reads as a body longer than the room has more than the room
 all_over : (room : ℕ) (text body : List ℕ) (outcome : Outcome) → IsReading text body outcome → room < length body → IsOver room text
 all_over room text body outcome reading over = record {
   front = text;
@@ -70,12 +73,14 @@ all_over room text body outcome reading over = record {
   over = over;
 }
 
+-- the rest after a 100, with any outcome, gets an answer, and leaves no more than its text
 some_rest_end : (s : Shown) (call : Call) (heads preview text body : List ℕ) (outcome : Outcome)
     → Some_first (EndsRest s call heads preview text body outcome) (length text)
 some_rest_end s call heads preview text body Begun = (_, refl, tt)
 some_rest_end s call heads preview text body (Faulted fault) = (_, refl, tt)
 some_rest_end s call heads preview text body (Ended ieof used) = (_, refl, dropped used text)
 
+-- the text after a 100, to a preview that fits, gets an answer, and leaves no more than that text
 some_rest : (s : Shown) (call : Call) (heads preview text : List ℕ) → length preview ≤ MAX_BODY
     → Some_first (ReadsRest s call heads preview text) (length text)
 some_rest s call heads preview text short =
@@ -91,6 +96,7 @@ some_rest s call heads preview text short =
           (end.0, inr (read.0, read.1, read.2, omega (arith, short, fits), end.1), end.2)
     ]
 
+-- the text after the last chunk of a body that fits gets an answer, and leaves no more than that text
 some_first_end : (s : Shown) (call : Call) (heads body : List ℕ) (ieof preview : Bool) (rest : List ℕ) → length body ≤ MAX_BODY
     → Some_first (EndsFirst s call heads body ieof preview rest) (length rest)
 some_first_end s call heads body ieof false rest short = (_, refl, omega arith)
@@ -99,6 +105,7 @@ some_first_end s call heads body ieof true rest short = elim (cases_Bool (wants_
   | inr enough ↦ (whole (answered s call heads (Some body) (Some ieof)) rest, inl (enough, refl), omega arith)
 ]
 
+-- a body that fits, with any outcome, gets an answer, and leaves no more than its text
 some_body_end : (s : Shown) (call : Call) (heads text body : List ℕ) (outcome : Outcome) → length body ≤ MAX_BODY
     → Some_first (EndsBody s call heads text body outcome) (length text)
 some_body_end s call heads text body Begun short = (_, refl, tt)
@@ -107,6 +114,7 @@ some_body_end s call heads text body (Ended ieof used) short =
     let end = some_first_end s call heads body ieof call.preview (drop used text) short in
     (end.0, end.1, less (length (drop used text)) (length text) end.0 (dropped used text) end.2)
 
+-- a body in chunks gets an answer, and leaves no more than its text
 some_chunks : (s : Shown) (call : Call) (heads text : List ℕ) → Some_first (ReadsChunks s call heads text) (length text)
 some_chunks s call heads text =
     let read = some_reading text in
@@ -115,6 +123,7 @@ some_chunks s call heads text =
       | inr fits ↦ let end = some_body_end s call heads text read.0 read.1 fits in (end.0, inr (read.0, read.1, read.2, fits, end.1), end.2)
     ]
 
+-- what follows the encapsulated heads gets an answer, and leaves no more than its text
 some_body : (s : Shown) (call : Call) (part : BodyPart) (heads text : List ℕ) → Some_first (ReadsBody s call part heads text) (length text)
 some_body s call NullBody heads text = (whole (answered s call heads None (null_preview call.preview)) text, refl, omega arith)
 some_body s call ReqBody heads text = some_chunks s call heads text
@@ -126,6 +135,7 @@ some_body s call OptBody heads text = some_chunks s call heads text
 abbrev BlankBelow : ℕ → List ℕ → Type 0
 BlankBelow n text = (k : ℕ) × (k < n) × (ends_blank (take k text) ≡ true)
 
+-- some prefix of a text, shorter than a number, ends with an empty line, or no such prefix does
 first_blank : (text : List ℕ) (n : ℕ) → BlankBelow n text ⊎ ((k : ℕ) → k < n → ends_blank (take k text) ≡ false)
 first_blank text zero = inr (λ k l. absurd (omega arith))
 first_blank text (suc n) = elim (first_blank text n) [
@@ -143,6 +153,7 @@ first_blank text (suc n) = elim (first_blank text n) [
       | inr more ↦ let same : k ≡ n = omega arith in ap (λ j. ends_blank (take j text)) same ∙ other
     ]
 
+-- a head of any size is whole, broken or open
 some_part : (size : ℕ) (text : List ℕ) → IsHead size text ⊎ (BreaksHead size text ⊎ OpenHead size text)
 some_part size text = elim (cases_lt (length text) size) [
   | inl short ↦ elim (first_blank text (length text + 1)) [
@@ -161,6 +172,7 @@ some_part size text = elim (cases_lt (length text) size) [
   ]
 ]
 
+-- the heads of a layout are open, broken or whole
 some_heads : (l : Layout) (text : List ℕ) → HeadsOpen l text ⊎ (HeadsBroken l text ⊎ HeadsWhole l text)
 some_heads l text = elim (some_part (middle l) text) [
   | inl first ↦ elim (some_part (l.offset - middle l) (drop (middle l) text)) [
@@ -172,6 +184,7 @@ some_heads l text = elim (some_part (middle l) text) [
   | inr (inr begun) ↦ inl (inl begun)
 ]
 
+-- what follows an ICAP head with any verdict gets an answer, and leaves no more than its text
 some_follow : (s : Shown) (verdict : Verdict) (text : List ℕ) → Some_first (Follows s verdict text) (length text)
 some_follow s (Refused status) text = (_, refl, tt)
 some_follow s (Describes point) text = (whole (options_text s point) text, refl, omega arith)
@@ -186,6 +199,7 @@ some_follow s (Offers call) text = elim (some_heads call.layout text) [
 
 -- ---- what a head asks for
 
+-- from its Preview fields on no head is without a verdict
 some_preview : (method : Method) (point : Point) (service : Service) (layout : Layout) (fields : FieldList)
     → NotNot ((verdict : Verdict) × JudgesPreview method point service layout fields verdict)
 some_preview method point service layout fields = with (values_of (codes "Preview") fields) refl
@@ -215,6 +229,7 @@ sized method value (inl (layout, is)) = elim (cases_Bool (has_head_sizes layout)
 ]
 sized method value (inr (fault, stands)) = inr (inl (fault, stands))
 
+-- the values of the Encapsulated fields are a layout, or bad ones
 some_list : (method : Method) (values : List (List ℕ)) → ((layout : Layout) × ListIs method values layout) ⊎ ListBad method values
 some_list Options [] = inl (no_parts, refl)
 some_list Reqmod [] = inr tt
@@ -226,6 +241,7 @@ some_list Options (value ∷ other ∷ more) = inr tt
 some_list Reqmod (value ∷ other ∷ more) = inr tt
 some_list Respmod (value ∷ other ∷ more) = inr tt
 
+-- from its list on no head is without a verdict
 judged_list : (method : Method) (point : Point) (service : Service) (fields : FieldList)
     → NotNot ((verdict : Verdict) × JudgesList method point service fields verdict)
 judged_list method point service fields = elim (some_list method (values_of (codes "Encapsulated") fields)) [
@@ -233,6 +249,7 @@ judged_list method point service fields = elim (some_list method (values_of (cod
   | inr bad ↦ surely (Refused BadRequest, inl (bad, refl))
 ]
 
+-- from its point on no head is without a verdict
 judged_point : (method : Method) (point : Point) (service : Service) (fields : FieldList)
     → NotNot ((verdict : Verdict) × JudgesPoint method point service fields verdict)
 judged_point method point service fields = elim (cases_Bool (serves point method)) [
@@ -240,6 +257,7 @@ judged_point method point service fields = elim (cases_Bool (serves point method
   | inr never ↦ surely (Refused MethodNotAllowed, inl (never, refl))
 ]
 
+-- from its path on no head is without a verdict
 judged_path : (method : Method) (path : List ℕ) (fields : FieldList) → NotNot ((verdict : Verdict) × JudgesPath method path fields verdict)
 judged_path method path fields = and_so (decided ((point : Point) × (service : Service) × (path ≡ path_text point service)))
     (λ found. elim found [
@@ -248,6 +266,7 @@ judged_path method path fields = and_so (decided ((point : Point) × (service : 
       | inr none ↦ surely (Refused NotFound, inl (λ point service is. none (point, service, is), refl))
     ])
 
+-- from its Host fields on no head with an ICAP URI is without a verdict
 judged_host : (method : Method) (r : Request) → IsIcapUri r.uri → NotNot ((verdict : Verdict) × JudgesHost method r verdict)
 judged_host method r uri = and_so (decided (values_of (codes "Host") r.fields ≡ [])) (λ found. elim found [
   | inl none ↦ surely (Refused BadRequest, inl (none, refl))
@@ -255,6 +274,7 @@ judged_host method r uri = and_so (decided (values_of (codes "Host") r.fields �
       surely (verdict.0, inr (some, (uri_path uri.uri, (uri.uri, uri.spells, refl), verdict.1))))
 ])
 
+-- no head with an ICAP URI is without a verdict
 judged : (r : Request) → IsIcapUri r.uri → NotNot ((verdict : Verdict) × JudgesRequest r verdict)
 judged r uri = and_so (decided ((method : Method) × (r.method ≡ method_name method))) (λ found. elim found [
   | inl (method, is) ↦ and_so (judged_host method r uri) (λ verdict. surely (verdict.0, inr (method, is, verdict.1)))
@@ -278,6 +298,7 @@ abbrev Shorter : ℕ → First → Type 0
 Shorter n (whole answer rest) = length rest < n
 Shorter n (last due) = Unit {0}
 
+-- a request that leaves at most so many bytes leaves fewer than any greater number
 shorter : (n m : ℕ) (f : First) → n < m → Leaves n f → Shorter m f
 shorter n m (whole answer rest) lt h = omega (arith, lt, h)
 shorter n m (last due) lt h = tt
@@ -295,6 +316,7 @@ some_request_answer s text = and_so (some_request text) (λ found. elim found [
   | inr (fault, stands) ↦ surely (last (due_to s fault), inl (fault, stands, refl), tt)
 ])
 
+-- no stream that is shorter than some length is without an answer
 some_stream : (s : Shown) (n : ℕ) (text : List ℕ) → length text < n → NotNot ((answer : List ℕ) × Answers s text answer)
 some_stream s zero text short = absurd (omega (arith, short))
 some_stream s (suc n) text short = and_so (some_request_answer s text) (λ found.

@@ -8,6 +8,7 @@ use Rattle.std.specs.declared.net.socket_addr.SocketAddrV4.{SocketAddrV4}
 use Rattle.toml.specs.Data.{Members}
 use Rattle.icapd_commands.specs.Config.{text_at, ListenIs}
 
+-- an option has a value just if it has one after a mapping
 pub some_kept : {A B : Type 0} (f : A → B) (r : Option A) → is_some r ≡ is_some (option_map f r)
 some_kept f None = refl
 some_kept f (Some x) = refl

@@ -21,6 +21,7 @@ abbrev pub LongestBelow : List Doing → Bool → ℕ → Option Waiter → Type
 LongestBelow seats first n None = NoneBelow seats first n
 LongestBelow seats first n (Some waiter) = WaitsAt seats first waiter.key waiter.since × LeastBelow seats first n waiter.since
 
+-- two waits that are alike are since the same turn
 same_since : (a b : ℕ) (first : Bool) → Waiting a first ≡ Waiting b first → a ≡ b
 same_since a b first e = cc
 
@@ -57,6 +58,7 @@ least_after seats first n least turn here le below = λ key since less waits.
       | inr (inr above) ↦ absurd (omega (arith, less, above))
     ]
 
+-- where the next seat waits, the longer waiter of it and the longest before it, if any, is the longest up to it
 pub taken : (seats : List Doing) (first : Bool) (n : ℕ) (found : Option Waiter) (next which : Waiter) → next.key ≡ n
     → WaitsAt seats first n next.since
     → IsLonger found next which → LongestBelow seats first n found → LongestBelow seats first (n + 1) (Some which)

@@ -23,15 +23,18 @@ few_if false n xs ys x y = y
 few_then : (m n : ℕ) (xs ys : List Event) → length xs ≤ m → length ys ≤ n → length (xs ++ ys) ≤ m + n
 few_then m n xs ys x y = let e = length-append xs ys in omega (arith, e, x, y)
 
+-- a 204 and what goes out after it are at most three events
 few_answer : (heard : Bool) (place : ℕ) → length (answer_and_send heard place) ≤ 3
 few_answer true place = omega arith
 few_answer false place = omega arith
 
+-- the rest of a preview and its last chunk are at most two events
 few_close : (size received sent : ℕ) → length (close_preview size received sent) ≤ 2
 few_close size received sent = few_then 1 1 (if nat_lt sent (min size received) then Svc (min size received - sent) ∷ [] else [])
     (Stop ∷ [])
     (few_if (nat_lt sent (min size received)) 1 (Svc (min size received - sent) ∷ []) [] (omega arith) (omega arith)) (omega arith)
 
+-- the script for a place in a preview before its last chunk has at most seven events
 few_early : (size : Option ℕ) (x : Seen) (place : ℕ) → length (early_script size x place) ≤ 7
 few_early None x place = omega arith
 few_early (Some size) x place =
@@ -41,9 +44,11 @@ few_early (Some size) x place =
     (few_then 1 5 (end_body size full x.ended) _ (few_if (nat_lt full size && not x.ended) 1 (End ∷ []) [] (omega arith) (omega arith))
     (few_then 2 3 (close_preview size full x.sent) _ (few_close size full x.sent) (few_answer x.heard place)))
 
+-- a 204 and what goes out after it are no more than the seven events that any script may have
 few_answers : (heard : Bool) (place : ℕ) → length (answer_and_send heard place) ≤ 7
 few_answers heard place = let few = few_answer heard place in omega (arith, few)
 
+-- the script of the table has at most seven events, on either tape
 pub few_events : (tape : Tape) (x : Seen) (place : ℕ) → length (script_of tape x place) ≤ 7
 few_events Adapted x place = omega arith
 few_events Original x place =

@@ -8,6 +8,7 @@ use Rattle.options_book.specs.declared.judged.Verified.{Verified}
 use Rattle.options_book.specs.declared.faults.OptFault.{OptFault}
 use Rattle.options_book.specs.declared.faults.OptFault.TheVariants as Faults
 
+-- a response that is a record has no fault
 pub not_both : (fault : OptFault) (point : Point) (r : Response) (moment : ℕ) (options : Options) → IsRecordOf point moment r options
     → RefusesOptions fault point r → ⊥
 not_both Faults.Status point r moment options says stands = stands says.success
@@ -17,6 +18,7 @@ not_both Faults.Number point r moment options says stands = stands.3 options.pre
 not_both Faults.Encapsulated point r moment options says stands = stands.4 says.encapsulated
 not_both Faults.NoMemory point r moment options says stands = stands
 
+-- a response has one fault at most
 pub one_fault : (f g : OptFault) (point : Point) (r : Response) → RefusesOptions f point r → RefusesOptions g point r → f ≡ g
 one_fault Faults.Status Faults.Status point r a b = refl
 one_fault Faults.Status Faults.NoMethods point r a b = absurd (a b.0)

@@ -12,6 +12,7 @@ pub not_cut : (c : ℕ) (front x : List ℕ) → Lacks c (front ++ c ∷ x) → 
 not_cut c [] x lacks = lacks 0 (omega arith) refl
 not_cut c (b ∷ front) x lacks = not_cut c front x (Lacks-tail c b (front ++ c ∷ x) lacks)
 
+-- cuts of one text at the last byte of a value leave the same bytes after it
 pub last_cut : (c : ℕ) (a b x y : List ℕ) → Lacks c x → Lacks c y → a ++ c ∷ x ≡ b ++ c ∷ y → x ≡ y
 last_cut c [] [] x y nx ny e = cc
 last_cut c [] (b ∷ behind) x y nx ny e =

@@ -13,6 +13,7 @@ use Rattle.proxy_commands.specs.Script.{IsFirstBad}
 use Rattle.proxy_commands.specs.Command.{IsCommand}
 use Rattle.proxy_commands.specs.Run.{IsCommandOutput, RefusesInput, PrintsOutput, Fails}
 
+-- a list within a number of elements is its own prefix of so many
 take_whole : (n : ℕ) (xs : List ℕ) → length xs ≤ n → take n xs ≡ xs
 take_whole zero [] h = refl
 take_whole zero (x ∷ xs) h = absurd (omega arith)
@@ -27,16 +28,19 @@ whole bytes input e l =
     let fits : length bytes ≤ MAX_INPUT + 1 = omega arith in
     sym (e ∙ take_whole (MAX_INPUT + 1) bytes fits)
 
+-- an input that was read past the limit is of bytes past the limit
 pub more : (bytes input : List ℕ) → input ≡ take (MAX_INPUT + 1) bytes → MAX_INPUT < length input → MAX_INPUT < length bytes
 more bytes input e l =
     let count = length-take (MAX_INPUT + 1) bytes in
     let same = ap length e in
     omega arith
 
+-- an input for which a command has an output is within the limit
 short : (command : Command) (input output : List ℕ) → IsCommandOutput command input output → length input ≤ MAX_INPUT
 short Trace input output h = h.0
 short (Chunks piece_size) input output h = h.0
 
+-- a command's output for what was read, added to what was printed, is the output printed for the arguments
 pub answered : (words : List (List ℕ)) (known : Option (List ℕ)) (command : Command) (input output : List ℕ)
     (before behind : Option (List ℕ))
     → IsCommand words command → IfSome known (λ bytes. input ≡ take (MAX_INPUT + 1) bytes) → IsCommandOutput command input output
@@ -47,10 +51,12 @@ answered words (Some bytes) command input output before behind named read answer
     let same = whole bytes input read (short command input output answer) in
     (command, output, named, subst (λ (x : List ℕ). IsCommandOutput command x output) (sym same) answer, added)
 
+-- where one thing gives another, and holds if a result is good, the other does so too
 pub on_ok : {E : Type 0} (P Q : Type 0) (r : Result (Unit {0}) E) → (P → Q) → OnOk r P → OnOk r Q
 on_ok P Q (Ok x) f h = f h
 on_ok P Q (Err e) f h = tt
 
+-- a command that refuses what was read fails so for the arguments and the bytes
 pub failed : (words : List (List ℕ)) (known : Option (List ℕ)) (command : Command) (input : List ℕ) (error : Error)
     → IsCommand words command → IfSome known (λ bytes. input ≡ take (MAX_INPUT + 1) bytes) → RefusesInput command input error
     → Fails words known error

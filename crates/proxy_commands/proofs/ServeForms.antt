@@ -36,6 +36,7 @@ refused_so text (AtKey key) error short refuses is = let P : ServeError → Type
     subst P (sym is) (short, refuses)
 refused_so text WithoutMemory error short refuses is = let P : ServeError → Type 0 = λ e. IsUnconfigured text e in subst P (sym is) tt
 
+-- what was read of a text is refused with an error only where the whole text is
 refused : (bytes input : List ℕ) (error : ServeError) → input ≡ take (MAX_INPUT + 1) bytes → IsUnconfigured input error
     → IsUnconfigured bytes error
 refused bytes input (Ended InputTooLong) read h = more bytes input read h
@@ -55,6 +56,7 @@ refused bytes input NoAnswer read h = absurd h
 refused bytes input (CannotRead path) read h = absurd h
 refused bytes input AuditMissing read h = absurd h
 
+-- a refusal of the input is one of all bytes that were there to read, where they are known
 pub unconfigured : (known : Option (List ℕ)) (input : List ℕ) (r : Result Configuration ServeError)
     → IfSome known (λ bytes. input ≡ take (MAX_INPUT + 1) bytes)
     → IfErr r (IsUnconfigured input) → IfErr r (λ error. IfSome known (λ bytes. IsUnconfigured bytes error))

@@ -7,12 +7,15 @@ use Rattle.proxy_commands.specs.declared.task.Task.{Task}
 use Rattle.proxy_commands.specs.declared.task.Task.TheVariants.{Serve, Check, Tell, Probe, Help, Version}
 use Rattle.proxy_commands.specs.Task.{HasPathAlone, IsTask, IsTaskAlone, IsTaskBefore, IsTaskOfThree, IsTaskWithPath}
 
+-- equal lists of words have the same first word
 same_head : (x y : List ℕ) (rest more : List (List ℕ)) → x ∷ rest ≡ y ∷ more → x ≡ y
 same_head x y rest more e = search (rules, e)
 
+-- equal lists of two words or more have the same second word
 same_second : (x y u v : List ℕ) (rest more : List (List ℕ)) → x ∷ y ∷ rest ≡ u ∷ v ∷ more → y ≡ v
 same_second x y u v rest more e = search (rules, e)
 
+-- one word isn't two words or more
 longer : (x y z : List ℕ) (rest : List (List ℕ)) → x ∷ [] ≡ y ∷ z ∷ rest → ⊥
 longer x y z rest e = search (rules, e)
 
@@ -22,6 +25,7 @@ lone_or_path : (words : List (List ℕ)) (word task : List ℕ) → words ≡ wo
 lone_or_path words word task e (inl alone) = same_head word task [] [] (sym e ∙ alone)
 lone_or_path words word task e (inr (path, is)) = absurd (longer word task (codes "--config") (path ∷ []) (sym e ∙ is))
 
+-- a single word that gives a task is the word of that task alone
 lone : (words : List (List ℕ)) (word : List ℕ) → words ≡ word ∷ [] → (task : Task) → IsTask words task → IsTaskAlone word task
 lone words word e Tell (first, rest, is, more) = longer word (codes "tell") first rest (sym e ∙ is)
 lone words word e Probe is = sym (same_head (codes "probe") word is.0 [] (sym is.1 ∙ e))
@@ -30,6 +34,7 @@ lone words word e Check is = lone_or_path words word (codes "check") e is
 lone words word e Help is = sym (same_head is.0 word [] [] (sym is.1 ∙ e)) ∙ is.2
 lone words word e Version is = sym (same_head is.0 word [] [] (sym is.1 ∙ e)) ∙ is.2
 
+-- a single word that is no task's word alone gives no task
 pub none_alone : (words : List (List ℕ)) (word : List ℕ) → words ≡ word ∷ [] → (found : Option Task)
     → IfNone found ((task : Task) → IsTaskAlone word task → ⊥) → IfNone found ((task : Task) → IsTask words task → ⊥)
 none_alone words word e (Some task) h = tt
@@ -55,6 +60,7 @@ path_of_alone word help version Tell is = absurd is
 path_of_alone word help version Help is = absurd (help is)
 path_of_alone word help version Version is = absurd (version is)
 
+-- a word that may stand before no path, and is no help or version, stands for no task alone
 pub none_with_path : (word : List ℕ) (found : Option Task) → word ≢ codes "--help" → word ≢ codes "--version"
     → IfNone found ((task : Task) → IsTaskWithPath word task → ⊥) → IfNone found ((task : Task) → IsTaskAlone word task → ⊥)
 none_with_path word (Some task) help version h = tt
@@ -91,22 +97,26 @@ before_all words word next rest e none Check at = absurd at
 before_all words word next rest e none Help at = absurd at
 before_all words word next rest e none Version at = absurd at
 
+-- three words whose second is not the option of a path are no word, that option and a path
 no_path : (words : List (List ℕ)) (word option path : List ℕ) → words ≡ word ∷ option ∷ path ∷ [] → option ≢ codes "--config"
     → (task : List ℕ) → HasPathAlone words task → ⊥
 no_path words word option path e other task (at, is) =
     other (same_second word option task (codes "--config") (path ∷ []) (at ∷ []) (sym e ∙ is))
 
+-- three words give the task that their first two say
 of_three : (words : List (List ℕ)) (word option path : List ℕ) → words ≡ word ∷ option ∷ path ∷ [] → (task : Task)
     → IsTaskOfThree word option task → IsTask words task
 of_three words word option path e task (inl (is, at)) = with_path words word option path e is task at
 of_three words word option path e task (inr (other, at)) =
     before_all words word option (path ∷ []) e (no_path words word option path e other) task at
 
+-- a task that is found by the first two of three words is given by them all
 pub some_of_three : (words : List (List ℕ)) (word option path : List ℕ) → words ≡ word ∷ option ∷ path ∷ [] → (found : Option Task)
     → IfSome found (IsTaskOfThree word option) → IfSome found (IsTask words)
 some_of_three words word option path e (Some task) h = of_three words word option path e task h
 some_of_three words word option path e None h = tt
 
+-- three words that are a task's word alone, or before a path alone, have it first and then the option
 path_or_lone : (words : List (List ℕ)) (word option path task : List ℕ) → words ≡ word ∷ option ∷ path ∷ []
     → (words ≡ task ∷ []) ⊎ HasPathAlone words task
     → (option ≡ codes "--config") × (word ≡ task)
@@ -126,11 +136,13 @@ tells words word option path true e same is none =
 tells words word option path false e same is none =
     inr (λ config. false≢true (sym same ∙ (bytes_eq-Decides option (codes "--config")).1 config), is)
 
+-- the word `probe` is that of its task before two words, the option of a path or others
 probes : (word option : List ℕ) (same : Bool) → bytes_eq option (codes "--config") ≡ same → word ≡ codes "probe"
     → IsTaskOfThree word option Probe
 probes word option true same is = inl ((bytes_eq-Decides option (codes "--config")).0 same, is)
 probes word option false same is = inr (λ config. false≢true (sym same ∙ (bytes_eq-Decides option (codes "--config")).1 config), is)
 
+-- a task that three words give is one that their first two say
 from_three : (words : List (List ℕ)) (word option path : List ℕ) → words ≡ word ∷ option ∷ path ∷ [] → (task : Task) → IsTask words task
     → IsTaskOfThree word option task
 from_three words word option path e Serve is = inl (path_or_lone words word option path (codes "serve") e is)
@@ -143,6 +155,7 @@ from_three words word option path e Probe (choice, is) =
 from_three words word option path e Help is = absurd (longer is.0 word option (path ∷ []) (sym is.1 ∙ e))
 from_three words word option path e Version is = absurd (longer is.0 word option (path ∷ []) (sym is.1 ∙ e))
 
+-- three words of which the first two are those of no task give none
 pub none_of_three : (words : List (List ℕ)) (word option path : List ℕ) → words ≡ word ∷ option ∷ path ∷ [] → (found : Option Task)
     → IfNone found ((task : Task) → IsTaskOfThree word option task → ⊥) → IfNone found ((task : Task) → IsTask words task → ⊥)
 none_of_three words word option path e (Some task) h = tt
@@ -155,12 +168,14 @@ pub some_before : (words : List (List ℕ)) (word next : List ℕ) (rest : List 
 some_before words word next rest e none (Some task) h = before_all words word next rest e none task h
 some_before words word next rest e none None h = tt
 
+-- two words or more that are no word before a path alone are no word alone either
 lone_none : (words : List (List ℕ)) (word next : List ℕ) (rest : List (List ℕ)) (task : List ℕ) → words ≡ word ∷ next ∷ rest
     → ((task : List ℕ) → HasPathAlone words task → ⊥)
     → (words ≡ task ∷ []) ⊎ HasPathAlone words task → ⊥
 lone_none words word next rest task e none (inl alone) = longer task word next rest (sym alone ∙ e)
 lone_none words word next rest task e none (inr path) = none task path
 
+-- two words or more, without a path alone, that give a task begin with its word, which takes others after it
 from_all : (words : List (List ℕ)) (word next : List ℕ) (rest : List (List ℕ)) → words ≡ word ∷ next ∷ rest
     → ((task : List ℕ) → HasPathAlone words task → ⊥)
     → (task : Task) → IsTask words task → IsTaskBefore word task
@@ -171,6 +186,7 @@ from_all words word next rest e none Check is = absurd (lone_none words word nex
 from_all words word next rest e none Help is = absurd (longer is.0 word next rest (sym is.1 ∙ e))
 from_all words word next rest e none Version is = absurd (longer is.0 word next rest (sym is.1 ∙ e))
 
+-- two words or more, without a path alone, give no task where the first takes no others
 pub none_before : (words : List (List ℕ)) (word next : List ℕ) (rest : List (List ℕ)) → words ≡ word ∷ next ∷ rest
     → ((task : List ℕ) → HasPathAlone words task → ⊥)
     → (found : Option Task) → IfNone found ((task : Task) → IsTaskBefore word task → ⊥)
@@ -188,6 +204,7 @@ one_word (x ∷ y ∷ rest) word some few is = absurd (omega (arith, few))
 abbrev pub ThreeWords : List (List ℕ) → List ℕ → List ℕ → Type 0
 ThreeWords words word option = (path : List ℕ) × (words ≡ word ∷ option ∷ path ∷ [])
 
+-- three arguments are the words of the first, of the second and of a path
 pub three_words : (args : List (String Global)) (word option : String Global) → 3 ≤ length args → length args < 4
     → word ≡ get_or args 0 word → option ≡ get_or args 1 option
     → ThreeWords (map string_bytes args) (string_bytes word) (string_bytes option)
@@ -208,12 +225,15 @@ pub record Others (words : List (List ℕ)) (word : List ℕ) : Type 0 where
   pub are : words ≡ word ∷ next ∷ rest
   pub no_path : (task : List ℕ) → HasPathAlone words task → ⊥
 
+-- two words aren't three
 two_none : (x y u v w : List ℕ) → x ∷ y ∷ [] ≡ u ∷ v ∷ w ∷ [] → ⊥
 two_none x y u v w e = search (rules, e)
 
+-- four words or more aren't three
 four_none : (x y z t u v w : List ℕ) (rest : List (List ℕ)) → x ∷ y ∷ z ∷ t ∷ rest ≡ u ∷ v ∷ w ∷ [] → ⊥
 four_none x y z t u v w rest e = search (rules, e)
 
+-- two arguments are two words or more, the first argument's first, and no word before a path alone
 pub two_words : (args : List (String Global)) (word : String Global) → 2 ≤ length args → length args < 3 → word ≡ get_or args 0 word
     → Others (map string_bytes args) (string_bytes word)
 two_words [] word some few is = absurd (omega (arith, some))
@@ -226,6 +246,7 @@ two_words (x ∷ y ∷ []) word some few is = record {
 }
 two_words (x ∷ y ∷ z ∷ rest) word some few is = absurd (omega (arith, few))
 
+-- four arguments or more are two words or more, the first argument's first, and no word before a path alone
 pub four_words : (args : List (String Global)) (word : String Global) → 4 ≤ length args → word ≡ get_or args 0 word
     → Others (map string_bytes args) (string_bytes word)
 four_words [] word some is = absurd (omega (arith, some))

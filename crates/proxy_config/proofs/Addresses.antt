@@ -7,15 +7,19 @@ use Rattle.std.specs.Net.Grammar.{IsSocketV4Text}
 use Rattle.std.specs.Net.Socket.{v4_port}
 use Rattle.proxy_config.specs.Values.{IsAddress, HasAddress}
 
+-- two equal options with values in them hold one value
 same_some : {A : Type 0} (x y : A) → Some x ≡ Some y → x ≡ y
 same_some x y e = search (rules, e)
 
+-- an option with a value in it isn't none
 pub some_is_none : {A : Type 0} (x : A) → Some x ≡ None → ⊥
 some_is_none x e = search (rules, e)
 
+-- a value that is no text is no address
 pub no_text : (value : Data) (address : SocketAddrV4) → as_str value ≡ None → IsAddress value address → ⊥
 no_text value address none h = some_is_none h.0 (sym h.1 ∙ none)
 
+-- a value whose text is no address with a port other than 0 is no address
 pub no_address : (value : Data) (text : List ℕ) → as_str value ≡ Some text
     → ((a : SocketAddrV4) → IsSocketV4Text text a → v4_port a ≢ 0 → ⊥)
     → (address : SocketAddrV4) → IsAddress value address → ⊥
@@ -23,9 +27,11 @@ no_address value text some bad address h =
     let P : List ℕ → Type 0 = λ t. IsSocketV4Text t address in
     bad address (subst P (same_some h.0 text (sym h.1 ∙ some)) h.2) h.3
 
+-- a key that is missing has no address
 pub no_value : (key : List ℕ) (table : Members) (address : SocketAddrV4) → get_member key table ≡ None → HasAddress key table address → ⊥
 no_value key table address none h = some_is_none h.0 (sym h.1 ∙ none)
 
+-- a key whose value is no address has no address
 pub no_key : (key : List ℕ) (table : Members) (value : Data) → get_member key table ≡ Some value
     → ((a : SocketAddrV4) → IsAddress value a → ⊥)
     → (address : SocketAddrV4) → HasAddress key table address → ⊥

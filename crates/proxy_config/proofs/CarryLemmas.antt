@@ -12,12 +12,14 @@ use Rattle.toml.specs.View.{view, items_view}
 use Rattle.toml.specs.declared.value.Value.{Value}
 use Rattle.proxy_config.specs.Carry.{is_field_name, name_in, names_after}
 
+-- two truth values that each follow from the other are the same
 same_truth : (r p : Bool) → (r ≡ true → p ≡ true) → (p ≡ true → r ≡ true) → r ≡ p
 same_truth true true there back = refl
 same_truth true false there back = sym (there refl)
 same_truth false true there back = back refl
 same_truth false false there back = refl
 
+-- of a true conjunction both sides are true
 both : (a b : Bool) → (a && b) ≡ true → (a ≡ true) × (b ≡ true)
 both true true e = (refl, refl)
 both true false e = absurd (false≢true e)
@@ -31,6 +33,7 @@ token_name r name there back =
     (λ yes. let two = both (nat_lt 0 (length name)) (list_all is_token_byte name) yes in
     back (ltb-true 0 (length name) two.0, AllPass-from_list_all is_token_byte name two.1))
 
+-- the elements from a place on are the one there and those after it
 at_place : {A : Type 0} (all : List A) (i : ℕ) (one : A) → i < length all → one ≡ get_or all i one → drop i all ≡ one ∷ drop (i + 1) all
 at_place all i one inside is = drop_more all i one inside ∙ ap (λ a. a ∷ drop (i + 1) all) (sym is)
 
@@ -38,6 +41,7 @@ at_place all i one inside is = drop_more all i one inside ∙ ap (λ a. a ∷ dr
 abbrev pub IsLeft : List (String Global) → List ℕ → ℕ → Type 0
 IsLeft names name i = is_among (map string_bytes names) name ≡ is_among (map string_bytes (drop i names)) name
 
+-- a name is one of those from a place on just where it is the one there or one of those after it
 pub one_name : (names : List (String Global)) (name : List ℕ) (i : ℕ) (other : String Global) (same : Bool) → i < length names
     → other ≡ get_or names i other
     → same ≡ str_eq_ignore_ascii_case (string_bytes other) name
@@ -46,6 +50,7 @@ one_name names name i other same inside is e =
     ap (λ all. is_among (map string_bytes all) name) (at_place names i other inside is)
     ∙ ap (λ b. b || is_among (map string_bytes (drop (i + 1) names)) name) (sym e)
 
+-- where no name is left that could be this one, it is none of them
 pub no_name_left : (names : List (String Global)) (name : List ℕ) (i : ℕ) → drop i names ≡ [] → IsLeft names name i
     → false ≡ is_among (map string_bytes names) name
 no_name_left names name i past left = sym (left ∙ ap (λ all. is_among (map string_bytes all) name) past)
@@ -54,6 +59,7 @@ no_name_left names name i past left = sym (left ∙ ap (λ all. is_among (map st
 abbrev pub AreSoFar : List Value → List (String Global) → ℕ → Type 0
 AreSoFar values names i = names_after [] (items_view values) ≡ names_after (map string_bytes names) (items_view (drop i values))
 
+-- with the value at a place, the names of all are those so far, its own, and those after it
 pub one_value : (values : List Value) (names : List (String Global)) (i : ℕ) (value : Value) → i < length values
     → value ≡ get_or values i value → AreSoFar values names i
     → names_after [] (items_view values)
@@ -62,6 +68,7 @@ pub one_value : (values : List Value) (names : List (String Global)) (i : ℕ) (
 one_value values names i value inside is so_far =
     so_far ∙ ap (λ all. names_after (map string_bytes names) (items_view all)) (at_place values i value inside is)
 
+-- where the value at a place says no name that may follow, the values say no names
 pub no_name : (values : List Value) (names : List (String Global)) (i : ℕ) (value : Value) → i < length values
     → value ≡ get_or values i value → AreSoFar values names i
     → name_in (map string_bytes names) (view value) ≡ None → None ≡ names_after [] (items_view values)
@@ -69,6 +76,7 @@ no_name values names i value inside is so_far none =
     sym (one_value values names i value inside is so_far
     ∙ ap (option_and_then (λ name. names_after (map string_bytes names ++ name ∷ []) (items_view (drop (i + 1) values)))) none)
 
+-- after a name more was read, the names so far are those up to the next place
 pub one_more : (values : List Value) (names more : List (String Global)) (i : ℕ) (value : Value) (name : String Global) → i < length values
     → value ≡ get_or values i value → AreSoFar values names i → name_in (map string_bytes names) (view value) ≡ Some (string_bytes name)
     → more ≡ names ++ name ∷ [] → AreSoFar values more (i + 1)
@@ -78,6 +86,7 @@ one_more values names more i value name inside is so_far found added =
     ∙ ap (λ all. names_after all (items_view (drop (i + 1) values))) (sym (map-append string_bytes names (name ∷ [])))
     ∙ ap (λ all. names_after (map string_bytes all) (items_view (drop (i + 1) values))) (sym added)
 
+-- where no value is left, the names so far are those of all values
 pub all_names : (values : List Value) (names : List (String Global)) (i : ℕ) → drop i values ≡ [] → AreSoFar values names i
     → Some (map string_bytes names) ≡ names_after [] (items_view values)
 all_names values names i past so_far = sym (so_far ∙ ap (λ all. names_after (map string_bytes names) (items_view all)) past)
@@ -88,6 +97,7 @@ pub said_by : {A B : Type 0} (v : A → B) (found : Option A) (says : Option B) 
 said_by v None says is = tt
 said_by v (Some value) says is = sym is
 
+-- where nothing was found, the document says nothing
 pub unsaid_by : {A B : Type 0} (v : A → B) (found : Option A) (says : Option B) → option_map v found ≡ says
     → IfNone found ((value : B) → says ≡ Some value → ⊥)
 unsaid_by v None says is = λ value some. cc

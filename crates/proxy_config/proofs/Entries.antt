@@ -21,6 +21,7 @@ abbrev pub HasText : List (String Global) → List ℕ → Type 0
 HasText [] text = ⊥
 HasText (key ∷ keys) text = (text ≡ string_bytes key) ⊎ HasText keys text
 
+-- a key that is found with one entry more is that entry's or one of the others'
 has_at : (o : Ordering) (key : List ℕ) (e : Entry) (es : List Entry) (rest : Option Data) → slice_cmp nat_cmp key (string_bytes e.0) ≡ o
     → IsSome (match_ordering o rest (Some (view e.1)) rest) → (IsSome rest → HasText (keys_of es) key) → HasText (keys_of (e ∷ es)) key
 has_at Less key e es rest is some more = inr (more some)
@@ -38,6 +39,7 @@ pub held_at : (es : List Entry) (e : Entry) → lookup (is_at (string_cmp e.0)) 
     → get_member (string_bytes e.0) (members_view es) ≡ Some (view e.1)
 held_at es e found = sym (view-lookup (string_bytes e.0) es) ∙ ap (option_map view) found
 
+-- what the map finds at each of its entries' keys is in the table
 pub held : (es : List Entry) → All (λ (e : Entry). lookup (is_at (string_cmp e.0)) es ≡ Some e.1) es
     → All (λ (e : Entry). get_member (string_bytes e.0) (members_view es) ≡ Some (view e.1)) es
 held es found = All-weaker
@@ -47,6 +49,7 @@ held es found = All-weaker
     es
     found
 
+-- a key that is less than each of some keys comes before each of their texts
 ahead_of : (key : String Global) (keys : List (String Global))
     → AllByRecursion (λ (other : String Global). string_cmp key other ≡ Less) keys
     → (later : List ℕ) → HasText keys later → IsTrue (comes_before (string_bytes key) later)
@@ -64,6 +67,7 @@ pub ahead : (key : String Global) (keys : List (String Global)) → IsStrictlySo
 unfolding IsStrictlySortedBy
 ahead key keys ascending = ahead_of key keys ascending.0
 
+-- keys that ascend still do so without the first
 pub ascending_rest : (key : String Global) (keys : List (String Global)) → IsStrictlySortedBy string_cmp (key ∷ keys)
     → IsStrictlySortedBy string_cmp keys
 unfolding IsStrictlySortedBy

@@ -27,6 +27,7 @@ without_here true p name host hosts is other rest =
     ap (λ found. if str_eq_ignore_ascii_case (string_bytes host.name) name then Some host.address else found) rest
 without_here false p name host hosts is other rest = rest ∙ sym (passes name host hosts (other host is))
 
+-- without hosts of other numbers a name is at the same address
 without : (p : Host → Bool) (name : List ℕ) (hosts : List Host) → ((h : Host) → p h ≡ false → h.number ≢ number_of_name name)
     → address_of_name name (filter p hosts) ≡ address_of_name name hosts
 without p name [] other = refl
@@ -36,6 +37,7 @@ without p name (host ∷ hosts) other = without_here (p host) p name host hosts 
 tied : (a b : Host) → a.number ≡ b.number → ties below a b ≡ true
 tied a b same = search (rules, same)
 
+-- where no host has the name it has no address
 none_named : (name : List ℕ) (hosts : List Host) → All (λ (h : Host). str_eq_ignore_ascii_case (string_bytes h.name) name ≡ false) hosts
     → address_of_name name hosts ≡ None
 none_named name [] all = refl
@@ -55,6 +57,7 @@ stable_at name xs ys host same stable =
     ∙ ap (address_of_name name) (stable host)
     ∙ without (ties below host) name xs other
 
+-- a stable sort by numbers leaves a name, found or not, at its address
 stable_found : (name : List ℕ) (xs ys : List Host) (found : Option SocketAddrV4) → address_of_name name xs ≡ found → IsPermutation xs ys
     → IsStableByKey (λ (h : Host). h.number) nat_cmp xs ys → address_of_name name ys ≡ address_of_name name xs
 stable_found name xs ys None is moves stable =

@@ -21,9 +21,11 @@ AreChecks (row ∷ rows) old new (check ∷ checks) = (check.0 ≡ row.name) × 
 pub same_number : (a b : ℕ) → IsTrue (a == b) ↔ (a ≡ b)
 same_number a b = ((Decides-eqb a b).0, (Decides-eqb a b).1)
 
+-- two truth values compare as equal just where they are the same
 pub same_truth : (a b : Bool) → IsTrue (beq a b) ↔ (a ≡ b)
 same_truth a b = ((booleans_Decides a b).0, (booleans_Decides a b).1)
 
+-- with one more key before some, the first change is it where it differs, else the first of those
 first_here : (same : Bool) (row : Row) (rows : List Row) (old new : Config) (name : List ℕ) (later : Option (List ℕ)) → name ≡ row.name
     → (IsTrue same ↔ Agrees row old new)
     → IsFirstChange rows old new later → IsFirstChange (row ∷ rows) old new (if same then later else Some name)
@@ -31,10 +33,12 @@ unfolding IsFirstChange
 first_here true row rows old new name later is agrees first = inl (agrees.0 refl, first)
 first_here false row rows old new name later is agrees first = inr (λ same. false≢true (agrees.1 same), ap Some is)
 
+-- of no keys none is the first change
 none_first : (old new : Config) → IsFirstChange [] old new None
 unfolding IsFirstChange
 none_first old new = refl
 
+-- the first of some checks that fails is the first change of their keys
 pub first_is : (rows : List Row) (old new : Config) (checks : List (List ℕ × Bool)) → AreChecks rows old new checks
     → IsFirstChange rows old new (first_other checks)
 first_is [] old new [] are = none_first old new

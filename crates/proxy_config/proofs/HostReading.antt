@@ -42,9 +42,11 @@ pub record IsReading (names : Members) (seen : BTreeSet (String Global)) (hosts 
   pub seen_before : (name : List ℕ) → IsTrue (is_seen seen name) → SeenBefore names rest name
   pub only : All (λ (host : Host). HasAddress (string_bytes host.name) names host.address) hosts
 
+-- where the set is empty no name was seen
 none_seen : (seen : BTreeSet (String Global)) → seen.keys ≡ [] → (name : List ℕ) → IsTrue (is_seen seen name) → ⊥
 none_seen seen empty name marked = false≢true (rw empty at marked)
 
+-- before any name was read, all are still to come, and there are no hosts
 pub starts : (es : List Entry) (seen : BTreeSet (String Global)) → seen.keys ≡ [] → IsStrictlySortedBy string_cmp (keys_of es)
     → All (λ (e : Entry). lookup (is_at (string_cmp e.0)) es ≡ Some e.1) es → IsReading (members_view es) seen [] es
 starts es seen empty ascending found = record {
@@ -55,27 +57,34 @@ starts es seen empty ascending found = record {
   only = All-nil (λ (host : Host). HasAddress (string_bytes host.name) (members_view es) host.address);
 }
 
+-- names that are the same but for case are one in lower case
 same_case : (a b : List ℕ) → IsTrue (str_eq_ignore_ascii_case a b) → str_to_ascii_lowercase a ≡ str_to_ascii_lowercase b
 same_case a b = (bytes_eq-Decides (str_to_ascii_lowercase a) (str_to_ascii_lowercase b)).0
 
+-- a name is the same as itself but for case
 case_of_itself : (a : List ℕ) → IsTrue (str_eq_ignore_ascii_case a a)
 case_of_itself a = (bytes_eq-Decides (str_to_ascii_lowercase a) (str_to_ascii_lowercase a)).1 refl
 
+-- of two names that are the same but for case both were seen, or neither was
 seen_alike : (seen : BTreeSet (String Global)) (a b : List ℕ) → IsTrue (str_eq_ignore_ascii_case a b) → is_seen seen a ≡ is_seen seen b
 seen_alike seen a b same = ap (contains_text seen) (same_case a b same)
 
+-- where the first is true, one of two is
 or_left : (a b : Bool) → a ≡ true → (a || b) ≡ true
 or_left true b h = refl
 or_left false b h = absurd (false≢true h)
 
+-- where the second is true, one of two is
 or_right : (a b : Bool) → b ≡ true → (a || b) ≡ true
 or_right true b h = refl
 or_right false b h = h
 
+-- where one of two is true, the first or the second is
 or_cases : (a b : Bool) → (a || b) ≡ true → (a ≡ true) ⊎ (b ≡ true)
 or_cases true b h = inl refl
 or_cases false b h = inr h
 
+-- an address of a key is that of the value that the key has
 value_of : (key : List ℕ) (names : Members) (value : Data) → get_member key names ≡ Some value → (address : SocketAddrV4)
     → HasAddress key names address → IsAddress value address
 value_of key names value at address has =
@@ -83,9 +92,11 @@ value_of key names value at address has =
     let P : Data → Type 0 = λ d. IsAddress d address in
     subst P same has.2
 
+-- a table has each key that it has a value for
 has_key : (key : List ℕ) (names : Members) (value : Data) → get_member key names ≡ Some value → HasKey names key
 has_key key names value at = search (rules, at)
 
+-- the first of the entries that are still to come is in the table
 at_head : (names : Members) (seen : BTreeSet (String Global)) (hosts : List Host) (e : Entry) (more : List Entry)
     → IsReading names seen hosts (e ∷ more)
     → get_member (string_bytes e.0) names ≡ Some (view e.1)

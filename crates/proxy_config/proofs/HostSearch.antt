@@ -14,6 +14,7 @@ use Rattle.proxy_config.specs.Names.{number_from, number_of_name}
 pub same_number : (a b : List ℕ) → str_eq_ignore_ascii_case a b ≡ true → number_of_name a ≡ number_of_name b
 same_number a b same = ap (number_from 0) ((bytes_eq-Decides (str_to_ascii_lowercase a) (str_to_ascii_lowercase b)).0 same)
 
+-- what can't be true is false
 false_unless : (b : Bool) → (b ≡ true → ⊥) → b ≡ false
 false_unless true not_true = absurd (not_true refl)
 false_unless false not_true = refl
@@ -26,9 +27,11 @@ passes name host hosts other =
     = false_unless _ (λ same. other (host.numbered ∙ same_number (string_bytes host.name) name same)) in
     ap (λ same. if same then Some host.address else address_of_name name hosts) differs
 
+-- a lower number is another one
 below : (a b : ℕ) → a < b → a ≢ b
 below a b less = omega arith
 
+-- a higher number is another one
 above : (a b : ℕ) → b < a → a ≢ b
 above a b more = omega arith
 
@@ -42,6 +45,7 @@ passes_lower name (host ∷ hosts) (suc first) lower few =
     passes name host hosts (below host.number (number_of_name name) (lower 0 host (omega arith)))
     ∙ passes_lower name hosts first (λ k d before. lower (suc k) d (omega arith)) (omega arith)
 
+-- where each host has a higher number than a name, the name has no address
 none_above : (name : List ℕ) (hosts : List Host)
     → ((k : ℕ) (d : Host) → k < length hosts → number_of_name name < (get_or hosts k d).number)
     → address_of_name name hosts ≡ None
@@ -50,6 +54,7 @@ none_above name (host ∷ hosts) higher =
     passes name host hosts (above host.number (number_of_name name) (higher 0 host (omega arith)))
     ∙ none_above name hosts (λ k d inside. higher (suc k) d (omega arith))
 
+-- a number below one is below all that are no lower than that
 less_le : (a b c : ℕ) → a < b → b ≤ c → a < c
 less_le a b c less le = omega arith
 
@@ -61,6 +66,7 @@ none_from name host hosts rising higher =
     none_above name (host ∷ hosts)
     (λ k d inside. less_le (number_of_name name) host.number (get_or (host ∷ hosts) k d).number higher (rising 0 k d (omega arith) inside))
 
+-- of hosts in the order of their numbers, those from one with a higher number than a name on don't have the name
 pub none_at : (name : List ℕ) (hosts : List Host) (i : ℕ) (host : Host) → i < length hosts → host ≡ get_or hosts i host
     → IsNonDecreasingBy (λ (h : Host). h.number) hosts → number_of_name name < host.number
     → address_of_name name (drop i hosts) ≡ None

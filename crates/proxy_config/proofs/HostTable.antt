@@ -22,6 +22,7 @@ abbrev pub HasNamed : List Host → List ℕ → SocketAddrV4 → Type 0
 HasNamed hosts name address = (host : Host) × Contains hosts host × IsTrue (str_eq_ignore_ascii_case (string_bytes host.name) name)
     × (host.address ≡ address)
 
+-- where a name is found with one host more, that host or one of the others has it and its address
 named_here : (same : Bool) (host : Host) (hosts : List Host) (name : List ℕ) (address : SocketAddrV4)
     → str_eq_ignore_ascii_case (string_bytes host.name) name ≡ same
     → (if same then Some host.address else address_of_name name hosts) ≡ Some address
@@ -31,12 +32,14 @@ named_here true host hosts name address same is later =
 named_here false host hosts name address same is later =
     let (found, contains, same_name, at) = later is in (found, Contains-append_right (host ∷ []) hosts found contains, same_name, at)
 
+-- where a name is found, a host of the list has it and its address
 pub named : (name : List ℕ) (hosts : List Host) (address : SocketAddrV4) → address_of_name name hosts ≡ Some address
     → HasNamed hosts name address
 named name [] address is = absurd (search (rules, is))
 named name (host ∷ hosts) address is =
     named_here (str_eq_ignore_ascii_case (string_bytes host.name) name) host hosts name address refl is (named name hosts address)
 
+-- where a name isn't found with one host more, neither that host nor another has it
 other_here : (same : Bool) (host : Host) (hosts : List Host) (name : List ℕ) → str_eq_ignore_ascii_case (string_bytes host.name) name ≡ same
     → (if same then Some host.address else address_of_name name hosts) ≡ None
     → (address_of_name name hosts ≡ None → All (λ (h : Host). str_eq_ignore_ascii_case (string_bytes h.name) name ≡ false) hosts)
@@ -52,6 +55,7 @@ others name [] is = All-nil (λ (h : Host). str_eq_ignore_ascii_case (string_byt
 others name (host ∷ hosts) is =
     other_here (str_eq_ignore_ascii_case (string_bytes host.name) name) host hosts name refl is (others name hosts)
 
+-- a table has each key that has an address
 some_key : (name : List ℕ) (names : Members) (address : SocketAddrV4) → HasAddress name names address → HasKey names name
 some_key name names address has = search (rules, has.1)
 
@@ -62,9 +66,11 @@ one_name names a b none_bad has_a has_b same back = neither_before a b
     (λ sooner. none_bad b (has_b, inl (a, has_a, sooner, same)))
     (λ sooner. none_bad a (has_a, inl (b, has_b, sooner, back)))
 
+-- names that are the same but for case are the same in lower case
 lower_same : (a b : List ℕ) → IsTrue (str_eq_ignore_ascii_case a b) → str_to_ascii_lowercase a ≡ str_to_ascii_lowercase b
 lower_same a b = (bytes_eq-Decides (str_to_ascii_lowercase a) (str_to_ascii_lowercase b)).0
 
+-- names that are the same in lower case are the same but for case
 same_lower : (a b : List ℕ) → str_to_ascii_lowercase a ≡ str_to_ascii_lowercase b → IsTrue (str_eq_ignore_ascii_case a b)
 same_lower a b = (bytes_eq-Decides (str_to_ascii_lowercase a) (str_to_ascii_lowercase b)).1
 
@@ -73,6 +79,7 @@ alike : (a b c : List ℕ) → IsTrue (str_eq_ignore_ascii_case a c) → IsTrue 
     → IsTrue (str_eq_ignore_ascii_case a b)
 alike a b c h k = same_lower a b (lower_same a c h ∙ sym (lower_same b c k))
 
+-- where hosts are at their addresses in the table, a name that one of them has is at its address there
 host_at_name : (names : Members) (hosts : List Host) (name : List ℕ) (address : SocketAddrV4)
     → All (λ (h : Host). HasAddress (string_bytes h.name) names h.address) hosts
     → HasNamed hosts name address → IsHostAt names name address
@@ -84,6 +91,7 @@ host_at_name names hosts name address only (host, contains, same, at) =
           contains),
     )
 
+-- where the document has a name at an address, the hosts in any order find it there
 found_is : (names : Members) (all hosts : List Host) (name : List ℕ) (address : SocketAddrV4) (found : Option SocketAddrV4)
     → HasEach names all → IsPermutation hosts all → IsPermutation all hosts
     → address_of_name name hosts ≡ found → IsHostAt names name address → found ≡ Some address

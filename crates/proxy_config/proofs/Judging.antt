@@ -20,6 +20,7 @@ of_row P row name kind same_name same_kind p =
     let R : Kind → Type 0 = λ k. P k name in
     subst Q (sym same_name) (subst R (sym same_kind) p)
 
+-- where the key of the first row is good, the rows after it are next
 goes_on : (rows : List Row) (name : List ℕ) (kind : Kind) (document : Members) → Begins rows name kind → Reaches rows document
     → IsGood kind name document
     → Reaches (rest rows) document
@@ -29,6 +30,7 @@ goes_on (row ∷ rows) name kind document begins reached good = record {
   first = λ found later. reached.first found (inr (of_row (λ k n. IsGood k n document) row name kind begins.0 begins.1 good, later));
 }
 
+-- a fault of the first row's key, reached in turn, is the document's first
 stops : (rows : List Row) (name : List ℕ) (kind : Kind) (document : Members) → Begins rows name kind → Reaches rows document
     → (found : List ℕ) → IsFaultOf kind name document found → IsFirstFault document found
 unfolding IsFirstIn
@@ -93,11 +95,13 @@ pub said : {A : Type 0} (found says : Option A) → found ≡ says → IfSome fo
 said None says is = tt
 said (Some value) says is = sym is
 
+-- where nothing was found, and that is what the document says, it says no value
 pub unsaid : {A : Type 0} (found says : Option A) → found ≡ says → IfNone found ((value : A) → says ≡ Some value → ⊥)
 unsaid None says is = λ value some. cc
 unsaid (Some value) says is = tt
 
 -- two facts, one after the other
 infixr 4 ◌&◌
+-- of two facts both hold together
 pub ◌&◌ : {P Q : Type 0} → P → Q → P × Q
 p & q = (p, q)

@@ -22,9 +22,11 @@ pub record IsLeft (networks : List Network) (address : Ipv4Addr) (i : ℕ) : Typ
   pub still : IsInOne networks address → IsInOne (drop i networks) address
   pub there : IsInOne (drop i networks) address → IsInOne networks address
 
+-- before any network was looked at, all are those that are left
 pub left_at_first : (networks : List Network) (address : Ipv4Addr) → IsLeft networks address 0
 left_at_first networks address = record { still = λ is. is; there = λ is. is }
 
+-- an address that is in the network at a place is in one of the networks
 pub is_there : (networks : List Network) (address : Ipv4Addr) (i : ℕ) (network : Network) → i < length networks
     → network ≡ get_or networks i network
     → IsLeft networks address i → IsIn network address → IsInOne networks address
@@ -32,6 +34,7 @@ is_there networks address i network inside is left in_it =
     let P : List Network → Type 0 = λ rest. IsInOne rest address in
     left.there (subst P (sym (at_place networks i network inside is)) (inl in_it))
 
+-- where an address isn't in the network at a place, only those after it are left
 pub left_after : (networks : List Network) (address : Ipv4Addr) (i : ℕ) (network : Network) → i < length networks
     → network ≡ get_or networks i network
     → IsLeft networks address i → (IsIn network address → ⊥) → IsLeft networks address (i + 1)
@@ -52,6 +55,7 @@ pub record AreSoFar (values : List Value) (networks : List Network) (i : ℕ) : 
   pub none : ((rest : List Network) → AreNetworks (items_view (drop i values)) rest → ⊥) → (all : List Network)
       → AreNetworks (items_view values) all → ⊥
 
+-- before any value was read there are no networks so far
 pub none_so_far : (values : List Value) (networks : List Network) → networks ≡ [] → AreSoFar values networks 0
 none_so_far values networks empty =
     let P : List Network → Type 0 = λ first. AreSoFar values first 0 in
@@ -64,6 +68,7 @@ no_rest : (value : Value) (values : List Value) → ((network : Network) → IsN
 no_rest value values bad [] are = are
 no_rest value values bad (network ∷ rest) are = bad network are.0
 
+-- where the value at a place is no network, the values are no networks
 pub no_networks : (values : List Value) (networks : List Network) (i : ℕ) (value : Value) → i < length values
     → value ≡ get_or values i value
     → AreSoFar values networks i → ((network : Network) → IsNetwork (view value) network → ⊥) → (all : List Network)
@@ -79,6 +84,7 @@ later_none : (value : Value) (values : List Value) → ((rest : List Network) �
 later_none value values none [] are = are
 later_none value values none (network ∷ rest) are = none rest are.1
 
+-- after a network more was read, the networks so far are those up to the next place
 pub one_more : (values : List Value) (networks after : List Network) (i : ℕ) (value : Value) (network : Network) → i < length values
     → value ≡ get_or values i value
     → AreSoFar values networks i → IsNetwork (view value) network → after ≡ networks ++ network ∷ [] → AreSoFar values after (i + 1)
@@ -105,6 +111,7 @@ pub no_network_alone : (text : List ℕ) → position_or_len is_slash text ≡ l
 no_network_alone text whole none network (inl one) = none network.address one.address
 no_network_alone text whole none network (inr prefixed) = absurd (omega (arith, whole, prefixed.slash))
 
+-- a text with no address before its slash says no network
 pub no_network_before : (text before : List ℕ) → position_or_len is_slash text < length text → before ≡ before_first is_slash text
     → ((ip : Ipv4Addr) → IsIpv4Text before ip → ⊥) → (network : Network) → IsNetworkText text network → ⊥
 no_network_before text before inside is none network (inl one) = absurd (omega (arith, inside, one.no_slash))
@@ -112,6 +119,7 @@ no_network_before text before inside is none network (inr prefixed) =
     let P : List ℕ → Type 0 = λ t. IsIpv4Text t network.address in
     none network.address (subst P (sym is) prefixed.address)
 
+-- a text with no number up to 32 after its slash says no network
 pub no_network_after : (text after : List ℕ) → position_or_len is_slash text < length text → after ≡ after_first is_slash text
     → ((bits : ℕ) → bits ≤ 32 → Writes 10 after bits → ⊥) → (network : Network) → IsNetworkText text network → ⊥
 no_network_after text after inside is none network (inl one) = absurd (omega (arith, inside, one.no_slash))
@@ -123,9 +131,11 @@ no_network_after text after inside is none network (inr prefixed) =
 same_some : {A : Type 0} (x y : A) → Some x ≡ Some y → x ≡ y
 same_some x y e = search (rules, e)
 
+-- a value that is no text is no network
 pub no_network_text : (value : Data) → as_str value ≡ None → (network : Network) → IsNetwork value network → ⊥
 no_network_text value none network is = absurd (search (rules, none, is.1))
 
+-- a value whose text says no network is no network
 pub no_network_in : (value : Data) (text : List ℕ) → as_str value ≡ Some text → ((network : Network) → IsNetworkText text network → ⊥)
     → (network : Network) → IsNetwork value network → ⊥
 no_network_in value text at none network is =
@@ -145,9 +155,11 @@ all_networks values networks i past so_far =
 no_value : {A : Type 0} (x : A) → Some x ≡ None → ⊥
 no_value x e = search (rules, e)
 
+-- two equal options with lists in them hold one list
 same_items : (x y : Items) → Some x ≡ Some y → x ≡ y
 same_items x y e = search (rules, e)
 
+-- a key whose value is no list says no networks
 pub no_list : (key : List ℕ) (document : Members) (value : Data) → get_member key document ≡ Some value → as_array value ≡ None
     → (found : Option (List Network)) → SaysNetworks key document found → ⊥
 no_list key document value at none None says = no_value value (sym at ∙ says)
@@ -155,6 +167,7 @@ no_list key document value at none (Some networks) says =
     let both : Some says.0 ≡ None = sym says.1 ∙ (ap (option_and_then as_array) at ∙ none) in
     no_value says.0 both
 
+-- a key whose list isn't one of networks says no networks
 pub no_list_of : (key : List ℕ) (document : Members) (value : Data) (items : Items) → get_member key document ≡ Some value
     → as_array value ≡ Some items
     → ((networks : List Network) → AreNetworks items networks → ⊥) → (found : Option (List Network)) → SaysNetworks key document found → ⊥
@@ -164,6 +177,7 @@ no_list_of key document value items at is none (Some networks) says =
     let P : Items → Type 0 = λ list. AreNetworks list networks in
     none networks (subst P (same_items says.0 items both) says.2)
 
+-- a key whose value is a list of these networks has them
 pub says_list : (key : List ℕ) (document : Members) (value : Data) (items : Items) (networks : List Network)
     → get_member key document ≡ Some value
     → as_array value ≡ Some items → AreNetworks items networks → HasNetworks key document networks

@@ -7,9 +7,11 @@ use Rattle.proxy_config.specs.declared.host.Host.{Host}
 use Rattle.proxy_config.specs.HostNames.{host_names, names_or_none, HasEach}
 use Rattle.proxy_config.specs.Values.{HasAddress}
 
+-- where a document has no hosts its table of names is empty
 pub without_names : (document : Members) → get_member (codes "hosts") document ≡ None → host_names document ≡ Some no_members
 without_names document none = ap names_or_none none
 
+-- an empty list of hosts is that of an empty table of names
 pub has_none : HasEach no_members []
 has_none = record {
   none_bad = λ name bad. false≢true bad.0;

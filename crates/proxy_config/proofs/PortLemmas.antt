@@ -6,12 +6,14 @@ use Rattle.proxy_config.specs.Ports.{SharesPort, IsAdmin, IsApart, IsMetrics}
 use Rattle.proxy_config.specs.Values.{HasAddress}
 use Rattle.proxy_config.proofs.Addresses.{one_address, some_is_none}
 
+-- an address that shares no port with that of a key is apart from the key
 pub shares_none : (key : List ℕ) (document : Members) (has address : SocketAddrV4) → HasAddress key document has
     → (SharesPort has address → ⊥) → IsApart key document address
 shares_none key document has address at none other other_at shares =
     let P : SocketAddrV4 → Type 0 = λ a. SharesPort a address in
     none (subst P (one_address key document other has other_at at) shares)
 
+-- where the addresses of two keys share a port, no address of the second key is apart from the first key
 pub not_apart : (key own : List ℕ) (document : Members) (has address : SocketAddrV4) → HasAddress key document has
     → HasAddress own document address
     → SharesPort has address → (found : SocketAddrV4) → HasAddress own document found → IsApart key document found → ⊥
@@ -19,6 +21,7 @@ not_apart key own document has address at own_at shares found found_at is_apart 
     let P : SocketAddrV4 → Type 0 = λ a. SharesPort has a in
     is_apart has at (subst P (one_address own document address found own_at found_at) shares)
 
+-- what holds anyway holds where nothing was found
 pub then_none : {A : Type 0} {Q : Type 0} (found : Option A) → Q → IfNone found Q
 then_none None q = q
 then_none (Some x) q = tt
@@ -29,6 +32,7 @@ pub no_admin : (document : Members) (listen admin : SocketAddrV4) → HasAddress
 no_admin document listen admin at own shares found is =
     not_apart (codes "listen") (codes "admin") document listen admin at own shares found is.0 is.1
 
+-- nothing is said of the counters where their address shares a port with that of the users
 pub no_metrics : (document : Members) (listen metrics : SocketAddrV4) → HasAddress (codes "listen") document listen
     → HasAddress (codes "metrics") document metrics → SharesPort listen metrics → (found : Option SocketAddrV4) → IsMetrics document found
     → ⊥
@@ -36,6 +40,7 @@ no_metrics document listen metrics at own shares None is = some_is_none own.0 (s
 no_metrics document listen metrics at own shares (Some found) is =
     not_apart (codes "listen") (codes "metrics") document listen metrics at own shares found is.0 is.1
 
+-- nothing is said of the counters where their address shares a port with the administrator's
 pub no_metrics_beside : (document : Members) (admin metrics : SocketAddrV4) → HasAddress (codes "admin") document admin
     → HasAddress (codes "metrics") document metrics → SharesPort admin metrics → (found : Option SocketAddrV4) → IsMetrics document found
     → ⊥

@@ -12,6 +12,7 @@ pub record Reading (lines rest : List (List ℕ)) (hosts : List Host) (number : 
   pub bad : (n : ℕ) → IsFirstBad (number + 1) rest n → IsFirstBad 1 lines n
   pub count : number + length rest ≡ length lines
 
+-- before any line was read, all are still to come, and there are no hosts
 pub starts : (lines : List (List ℕ)) → Reading lines lines [] 0
 starts lines = record { said = λ later is. is; bad = λ n is. is; count = omega arith }
 

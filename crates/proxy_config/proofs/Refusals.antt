@@ -8,6 +8,7 @@ use Rattle.proxy_config.specs.declared.fault.ConfigFault.TheVariants.{Text, Key,
 use Rattle.proxy_config.specs.Fault.{Names, IsFaultAt}
 use Rattle.proxy_config.specs.Config.{IsFirstFault, Refuses}
 
+-- a fault that names the first key at fault of a text's document refuses the text
 pub refuses_by_document : (text : List ℕ) (document : Members) → parse_document text ≡ Some document
     → (r : Result Config ConfigFault) → IfErr r (Names (IsFirstFault document)) → IfErr r (Refuses text)
 refuses_by_document text document parsed (Ok config) first = tt

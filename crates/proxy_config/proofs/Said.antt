@@ -12,6 +12,7 @@ use Rattle.proxy_config.specs.declared.places.Places.{Places}
 use Rattle.proxy_config.specs.declared.sizes.Sizes.{Sizes}
 use Rattle.proxy_config.specs.declared.times.Times.{Times}
 
+-- values that are said for two lists of keys are said for both joined
 said_then : (xs ys : List Row) (document : Members) (config : Config) → AreSaid xs document config → AreSaid ys document config
     → AreSaid (xs ++ ys) document config
 said_then [] ys document config first then = then

@@ -6,11 +6,13 @@ use Rattle.std.specs.Cmp.Lexicographic.{pointwise}
 use Rattle.std.specs.Str.{bytes_eq}
 use Rattle.std.specs.String.{string_eq}
 
+-- both of two are true where their conjunction is
 both : (a b : Bool) → (a && b) ≡ true → (a ≡ true) × (b ≡ true)
 both true true is = (refl, refl)
 both true false is = absurd (false≢true is)
 both false b is = absurd (false≢true is)
 
+-- lists of strings that are equal one by one have the same texts
 pub texts_same : (xs ys : List (String Global)) → pointwise string_eq xs ys ≡ true → map string_bytes xs ≡ map string_bytes ys
 texts_same [] [] is = refl
 texts_same [] (y ∷ ys) is = absurd (false≢true is)
@@ -20,11 +22,13 @@ texts_same (x ∷ xs) (y ∷ ys) is =
     ap (λ (t : List ℕ). t ∷ map string_bytes xs) ((bytes_eq-Decides (string_bytes x) (string_bytes y)).0 first)
     ∙ ap (λ (ts : List (List ℕ)). string_bytes y ∷ ts) (texts_same xs ys rest)
 
+-- where both of two are true their conjunction is
 and_true : (a b : Bool) → a ≡ true → b ≡ true → (a && b) ≡ true
 and_true true true is so = refl
 and_true true false is so = absurd (false≢true so)
 and_true false b is so = absurd (false≢true is)
 
+-- lists of strings with the same texts are equal one by one
 pub same_texts : (xs ys : List (String Global)) → map string_bytes xs ≡ map string_bytes ys → pointwise string_eq xs ys ≡ true
 same_texts [] [] is = refl
 same_texts [] (y ∷ ys) is = search (rules, is)

@@ -8,14 +8,17 @@ use Rattle.std.specs.Cmp.Lexicographic.{slice_cmp}
 use Rattle.std.specs.Ordering.{ordering_reverse}
 use Rattle.proxy_config.specs.Order.{comes_before, nested}
 
+-- an order that is below equal is less
 less_if_lt : (o : Ordering) → is_lt o ≡ true → o ≡ Less
 less_if_lt Less h = refl
 less_if_lt Equal h = absurd (false≢true h)
 less_if_lt Greater h = absurd (false≢true h)
 
+-- a text that comes before another is less than it
 pub less : (a b : List ℕ) → IsTrue (comes_before a b) → slice_cmp nat_cmp a b ≡ Less
 less a b h = less_if_lt (slice_cmp nat_cmp a b) h
 
+-- a text that is less than another comes before it
 pub before : (a b : List ℕ) → slice_cmp nat_cmp a b ≡ Less → IsTrue (comes_before a b)
 before a b h = ap is_lt h
 
@@ -23,6 +26,7 @@ before a b h = ap is_lt h
 pub not_before_itself : (a : List ℕ) → IsTrue (comes_before a a) → ⊥
 not_before_itself a h = false≢true (sym (ap is_lt (tied_itself nat_list_cmp_total a)) ∙ h)
 
+-- a text that comes before one comes before all that come after that
 pub goes_on : (a b c : List ℕ) → IsTrue (comes_before a b) → IsTrue (comes_before b c) → IsTrue (comes_before a c)
 goes_on a b c h k = before a c (nat_list_cmp_total.trans a b c (less a b h) (less b c k))
 
@@ -30,6 +34,7 @@ goes_on a b c h k = before a c (nat_list_cmp_total.trans a b c (less a b h) (les
 pub not_both : (a b : List ℕ) → IsTrue (comes_before a b) → IsTrue (comes_before b a) → ⊥
 not_both a b h k = not_before_itself a (goes_on a b a h k)
 
+-- a text before a second one comes before a third that isn't before the second, whatever the order of those two
 by_order : (a b c : List ℕ) (o : Ordering) → slice_cmp nat_cmp b c ≡ o → IsTrue (comes_before a b) → comes_before c b ≡ false
     → IsTrue (comes_before a c)
 by_order a b c Less e h k = goes_on a b c h (before b c e)
@@ -41,6 +46,7 @@ by_order a b c Greater e h k =
 pub before_later : (a b c : List ℕ) → IsTrue (comes_before a b) → comes_before c b ≡ false → IsTrue (comes_before a c)
 before_later a b c h k = by_order a b c (slice_cmp nat_cmp b c) refl h k
 
+-- texts of which neither comes before the other, however they compare, are one
 in_neither : (a b : List ℕ) (o : Ordering) → slice_cmp nat_cmp a b ≡ o → (IsTrue (comes_before a b) → ⊥) → (IsTrue (comes_before b a) → ⊥)
     → a ≡ b
 in_neither a b Less e h k = absurd (h (before a b e))
@@ -51,6 +57,7 @@ in_neither a b Greater e h k = absurd (k (before b a (nat_list_cmp_total.antisym
 pub neither_before : (a b : List ℕ) → (IsTrue (comes_before a b) → ⊥) → (IsTrue (comes_before b a) → ⊥) → a ≡ b
 neither_before a b h k = in_neither a b (slice_cmp nat_cmp a b) refl h k
 
+-- texts after the same prefix are in the order that they have alone
 behind : (front a b : List ℕ) → slice_cmp nat_cmp (front ++ a) (front ++ b) ≡ slice_cmp nat_cmp a b
 behind [] a b = refl
 behind (x ∷ front) a b = rw (tied_itself nat_cmp_total x) (behind front a b)

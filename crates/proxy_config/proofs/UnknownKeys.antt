@@ -25,15 +25,18 @@ pub record IsLooking (known : List (List ℕ)) (table : Members) (rest : List (S
   pub has : All (λ (key : String Global). HasKey table (string_bytes key)) rest
   pub done : (key : List ℕ) → HasKey table key → Contains known key ⊎ HasText rest key
 
+-- an option with a value has one when it is mapped
 map_some : {A B : Type 0} (f : A → B) (o : Option A) → IsSome o → IsSome (option_map f o)
 map_some f None h = absurd (false≢true h)
 map_some f (Some x) h = refl
 
+-- a key that the map finds is a key of the table
 has_at : (es : List Entry) (key : String Global) → IsSome (lookup (is_at (string_cmp key)) es) → HasKey (members_view es) (string_bytes key)
 has_at es key found =
     let P : Option Data → Type 0 = λ o. IsSome o in
     subst P (view-lookup (string_bytes key) es) (map_some view (lookup (is_at (string_cmp key)) es) found)
 
+-- before any key was looked at, all keys of the table are still to come
 pub looks : (known : List (List ℕ)) (es : List Entry) → IsStrictlySortedBy string_cmp (keys_of es)
     → All (λ (key : String Global). IsSome (lookup (is_at (string_cmp key)) es)) (keys_of es)
     → IsLooking known (members_view es) (keys_of es)
@@ -48,6 +51,7 @@ looks known es ascending found = record {
   done = λ key has. inr (has_text key es has);
 }
 
+-- after a key that is known, the keys after it are still to come
 pub looks_on : (known : List (List ℕ)) (table : Members) (key : String Global) (rest : List (String Global))
     → IsLooking known table (key ∷ rest)
     → Contains known (string_bytes key) → IsLooking known table rest
@@ -63,6 +67,7 @@ looks_on known table key rest looking is_known =
       ];
     }
 
+-- where all keys before it are known, a key that isn't is the first such one of the table
 pub finds : (known : List (List ℕ)) (table : Members) (key : String Global) (rest : List (String Global))
     → IsLooking known table (key ∷ rest)
     → (Contains known (string_bytes key) → ⊥) → IsFirst (HasOther known table) (string_bytes key)
@@ -75,10 +80,12 @@ finds known table key rest looking is_other = record {
   ];
 }
 
+-- where no key is left, the table has none that isn't known
 pub finds_none : (known : List (List ℕ)) (table : Members) → IsLooking known table [] → (key : List ℕ) → HasOther known table key → ⊥
 finds_none known table looking key other = elim (looking.done key other.0) as (λ _. ⊥)
     [ inl known_too ↦ other.1 known_too | inr none ↦ none ]
 
+-- two equal options of which each holds a value hold the same
 same_some : {A : Type 0} (x y : A) → Some x ≡ Some y → x ≡ y
 same_some x y e = search (rules, e)
 
@@ -91,6 +98,7 @@ inner_of known name document table key is unknown =
     let P : Members → Type 0 = λ t. HasOther known t unknown.1 in
     subst P same unknown.3
 
+-- a table's first unknown key, with the table's name before it, is the document's first unknown key in that table
 pub first_of_table : (known : List (List ℕ)) (name : List ℕ) (document table : Members) (key : List ℕ)
     → option_and_then as_table (get_member name document) ≡ Some table
     → IsFirst (HasOther known table) key → IsFirst (IsUnknownOf known name document) (nested name key)
@@ -134,18 +142,22 @@ first_of_both P Q None (Some other) none second = record {
 }
 first_of_both P Q None None none none_too = λ t has. elim has as (λ _. ⊥) [ inl p ↦ none t p | inr q ↦ none_too t q ]
 
+-- where a disjunction is true, one of its sides is
 or_cases : (a b : Bool) → (a || b) ≡ true → (a ≡ true) ⊎ (b ≡ true)
 or_cases true b h = inl refl
 or_cases false b h = inr h
 
+-- a disjunction is true where its first side is
 or_left : (a b : Bool) → a ≡ true → (a || b) ≡ true
 or_left true b h = refl
 or_left false b h = absurd (false≢true h)
 
+-- a disjunction is true where its second side is
 or_right : (a b : Bool) → b ≡ true → (a || b) ≡ true
 or_right true b h = refl
 or_right false b h = h
 
+-- an element of a list of one text is that text
 only_one : (text key : List ℕ) → Contains (text ∷ []) key → key ≡ text
 only_one text key contains =
     let P : List ℕ → Type 0 = λ t. t ≡ text in
@@ -163,6 +175,7 @@ known_if (other ∷ known) key found =
       | inr later ↦ Contains-append_right (other.now ∷ []) (texts known) key (known_if known key later)
     ]
 
+-- a key that is known is found by the test
 pub if_known : (known : List (Bor (List ℕ))) (key : List ℕ) → Contains (texts known) key
     → list_any (λ (other : Bor (List ℕ)). bytes_eq other.now key) known ≡ true
 if_known [] key contains = absurd (omega (arith, contains.1))

@@ -7,6 +7,7 @@ use Rattle.proxy_header.specs.declared.reading.Said.TheVariants.{From, Unknown, 
 use Rattle.proxy_header.specs.Blocks.{IsBlock, IsCutBlock, IsFixed, LacksBytes, Tells, signature}
 use Rattle.proxy_header.specs.Headers.{Answers, Begins, IsSaid, is_reading}
 
+-- fewer than four bytes after the signature lack some of a block
 pub short_lacks : (rest : List ℕ) → length rest < 4 → LacksBytes rest
 short_lacks [] short = tt
 short_lacks (a ∷ []) short = tt
@@ -14,9 +15,11 @@ short_lacks (a ∷ b ∷ []) short = tt
 short_lacks (a ∷ b ∷ c ∷ []) short = tt
 short_lacks (a ∷ b ∷ c ∷ d ∷ rest) short = absurd (omega arith)
 
+-- the signature and fewer than four bytes after it are a block whose end may still come
 pub cut_short : (bytes rest : List ℕ) → bytes ≡ signature ++ rest → length rest < 4 → IsCutBlock bytes
 cut_short bytes rest front short = record { rest = rest; front = front; lacks = short_lacks rest short }
 
+-- a block that says at most 520 bytes follow, of which fewer have come, may still get its end
 pub cut_behind : (bytes rest : List ℕ) (command family count : ℕ) (behind : List ℕ) → bytes ≡ signature ++ rest
     → IsFixed rest command family count behind
     → count ≤ 520 → length behind < count → IsCutBlock bytes
@@ -40,6 +43,7 @@ pub record Parts (command family count : ℕ) (behind : List ℕ) (from : Option
   pub short : count ≤ 520
   pub tells : Tells command family block from
 
+-- a block that the bytes begin with has the command, family and count that are read, and its bytes come after
 pub parts_of : (bytes rest : List ℕ) (command family count : ℕ) (behind : List ℕ) (from : Option Ipv4Addr) (size : ℕ)
     → bytes ≡ signature ++ rest
     → IsFixed rest command family count behind → Begins IsBlock bytes from size → Parts command family count behind from
@@ -67,6 +71,7 @@ parts_of bytes rest command family count behind from size front fixed b =
       tells = subst (λ c. Tells c family h.block from) e1 (subst (λ f. Tells h.command f h.block from) e2 h.tells);
     }
 
+-- bytes after the signature that say how many follow, and lack some, say at most 520, and fewer have come
 cut_not : (rest : List ℕ) (command family count : ℕ) (behind : List ℕ) → IsFixed rest command family count behind → LacksBytes rest
     → (count ≤ 520) × (length behind < count)
 cut_not rest command family count behind fixed lacks =
@@ -76,6 +81,7 @@ cut_not rest command family count behind fixed lacks =
     let counts = fixed.3 in
     (omega (arith, a, counts), omega (arith, b, counts))
 
+-- a block whose end may still come, once it says how many bytes follow, says at most 520, and fewer have come
 pub cut_of : (bytes rest : List ℕ) (command family count : ℕ) (behind : List ℕ) → bytes ≡ signature ++ rest
     → IsFixed rest command family count behind → IsCutBlock bytes → (count ≤ 520) × (length behind < count)
 cut_of bytes rest command family count behind front fixed cut =
@@ -83,6 +89,7 @@ cut_of bytes rest command family count behind front fixed cut =
     let same : cut.rest ≡ rest = cc in
     cut_not rest command family count behind fixed (subst LacksBytes same cut.lacks)
 
+-- bytes that say more than 520 follow are neither a block nor a part of one
 pub too_long : (bytes rest : List ℕ) (command family count : ℕ) (behind : List ℕ) → bytes ≡ signature ++ rest
     → IsFixed rest command family count behind → 520 < count
     → ((from : Option Ipv4Addr) (size : ℕ) → Begins IsBlock bytes from size → ⊥) × (IsCutBlock bytes → ⊥)
@@ -91,6 +98,7 @@ too_long bytes rest command family count behind front fixed long = (
   (λ cut. let s = (cut_of bytes rest command family count behind front fixed cut).0 in omega (arith, s, long)),
 )
 
+-- bytes that have all they say follow, at most 520, and tell what a block may, begin with a block of 16 bytes and these
 whole_block : (bytes rest : List ℕ) (command family count : ℕ) (behind : List ℕ) (from : Option Ipv4Addr) → bytes ≡ signature ++ rest
     → IsFixed rest command family count behind → count ≤ 520 → count ≤ length behind → Tells command family (take count behind) from
     → Begins IsBlock bytes from (16 + count)
@@ -116,14 +124,17 @@ whole_block bytes rest command family count behind from front fixed fits there t
       counted = omega (arith, len);
     }
 
+-- as many bytes as a text has are that text, whatever follows
 take_front : (block more : List ℕ) → take (length block) (block ++ more) ≡ block
 take_front [] more = refl
 take_front (b ∷ block) more = ap (λ x. b ∷ x) (take_front block more)
 
+-- a block of a known length that some bytes begin with is as many of their first bytes
 same_block : (behind block more : List ℕ) (count : ℕ) → behind ≡ block ++ more → length block ≡ count → block ≡ take count behind
 same_block behind block more count is len =
     sym (take_front block more) ∙ ap (λ n. take n (block ++ more)) len ∙ ap (take count) (sym is)
 
+-- bytes that have all they say follow, at most 520, are read as what their block says
 pub block_answers : (bytes rest : List ℕ) (command family count : ℕ) (behind : List ℕ) (said : Said) → bytes ≡ signature ++ rest
     → IsFixed rest command family count behind → count ≤ 520 → count ≤ length behind
     → IsSaid (Tells command family (take count behind)) said

@@ -19,17 +19,21 @@ pub says_not : (line : List ℕ) → ((rest : List ℕ) → line ≡ codes "PROX
 says_not line unknown other None h = unknown h.0 h.1
 says_not line unknown other (Some ip) h = other h.0 ip h.1 h.2
 
+-- where a line is PROXY TCP4 and a connection, what comes after PROXY TCP4 in it is that connection
 pub same_text : (line text other : List ℕ) (ip : Ipv4Addr) → line ≡ codes "PROXY TCP4 " ++ text → line ≡ codes "PROXY TCP4 " ++ other
     → IsConnection other ip → IsConnection text ip
 same_text line text other ip e f h = let same : other ≡ text = cc in subst (λ t. IsConnection t ip) same h
 
+-- a text that lacks a byte lacks it after another byte is put before it
 pub lacks_cons : (c b : ℕ) (text : List ℕ) → (b ≡ c → ⊥) → Lacks c text → Lacks c (b ∷ text)
 lacks_cons c b text other lacks zero inside is = other is
 lacks_cons c b text other lacks (suc k) inside is = lacks k (omega arith) is
 
+-- an empty text lacks each byte
 pub lacks_nil : (c : ℕ) → Lacks c []
 lacks_nil c k inside is = omega arith
 
+-- a line without a line feed has none with a CR after it
 pub lacks_cr : (line : List ℕ) → Lacks 10 line → Lacks 10 (line ++ 13 ∷ [])
 lacks_cr [] lacks = lacks_cons 10 13 [] (λ e. omega arith) (lacks_nil 10)
 lacks_cr (b ∷ line) lacks = lacks_cons 10 b (line ++ 13 ∷ []) (lacks 0 (omega arith)) (lacks_cr line (Lacks-tail 10 b line lacks))
@@ -51,6 +55,7 @@ pub no_line : (bytes : List ℕ) (from : Option Ipv4Addr) (size : ℕ) → Lacks
 no_line bytes from size lacks b =
     lacks_cut 10 bytes (b.is.line ++ 13 ∷ []) b.behind lacks (spelled_raw bytes b.header b.is.line b.behind b.spelled b.is.spelled)
 
+-- a header with CRLF at its end is one byte longer than its line with the CR
 length_cr : (line header : List ℕ) → header ≡ line ++ 13 ∷ 10 ∷ [] → length header ≡ length (line ++ 13 ∷ []) + 1
 length_cr line header e =
     let l = ap length e in omega (arith, l, length-append line (13 ∷ 10 ∷ []), length-append line (13 ∷ []))
@@ -67,6 +72,7 @@ raw_is bytes raw rest from size cut lacks b =
     let short = b.is.short in
     (same, omega (arith, l, k, short))
 
+-- a prefix of a text that lacks a byte lacks it
 pub lacks_front : (c : ℕ) (line more : List ℕ) → Lacks c (line ++ more) → Lacks c line
 lacks_front c [] more lacks = lacks_nil c
 lacks_front c (b ∷ line) more lacks = lacks_cons c b line (lacks 0 (omega arith))

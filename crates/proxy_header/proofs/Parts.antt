@@ -18,10 +18,12 @@ two_fronts (x ∷ a) b (y ∷ c) d e =
     let tails : a ++ b ≡ c ++ d = cc in
     ⊎_elim (λ l. let t = l.1 in inl (l.0, cc)) (λ r. let t = r.1 in inr (r.0, cc, r.2)) (two_fronts a b c d tails)
 
+-- nothing comes before a byte of a lone line feed
 one_left : (m more : List ℕ) (byte : ℕ) → 10 ∷ [] ≡ m ++ byte ∷ more → m ≡ []
 one_left [] more byte e = refl
 one_left (b ∷ m) more byte e = let l = ap length e in absurd (omega (arith, l, length-append m (byte ∷ more)))
 
+-- a part of a line that ends before the line's last byte has no line feed
 part_lacks : (header line part more : List ℕ) (byte : ℕ) → header ≡ line ++ 13 ∷ 10 ∷ [] → Lacks 10 line → header ≡ part ++ byte ∷ more
     → Lacks 10 part
 part_lacks header line part more byte spelled lacks cut = ⊎_elim
@@ -33,6 +35,7 @@ part_lacks header line part more byte spelled lacks cut = ⊎_elim
       append_nil_cr [] = refl
       append_nil_cr (b ∷ line) = ap (λ t. b ∷ t) (append_nil_cr line)
 
+-- the bytes of a line before any byte of it are a part of a header
 line_part : (header part more : List ℕ) (byte : ℕ) (from : Option Ipv4Addr) → IsLine header from → header ≡ part ++ byte ∷ more → IsCut part
 line_part header part more byte from h cut =
     let front = said_front h.line from h.says in
@@ -49,6 +52,7 @@ line_part header part more byte from h cut =
     })))
     (two_fronts (codes "PROXY ") (front.0 ++ 13 ∷ 10 ∷ []) part (byte ∷ more) all)
 
+-- what stands between a block's signature and any later byte of it lacks bytes of that block
 lacks_more : (r more block : List ℕ) (command family high low byte : ℕ) → command ∷ family ∷ high ∷ low ∷ block ≡ r ++ byte ∷ more
     → length block ≡ high * 256 + low → length block ≤ 520 → LacksBytes r
 lacks_more [] more block command family high low byte e counted short = tt
@@ -63,6 +67,7 @@ lacks_more (a ∷ b ∷ c ∷ d ∷ r) more block command family high low byte e
     let n : length block ≡ c * 256 + d = counted ∙ ap (λ x. x * 256 + low) hs ∙ ap (λ x. c * 256 + x) ls in
     (omega (arith, n, short), omega (arith, n, len, length-append r (byte ∷ more)))
 
+-- the bytes of a block before any byte of it are a part of a header
 block_part : (header part more : List ℕ) (byte : ℕ) (from : Option Ipv4Addr) → IsBlock header from → header ≡ part ++ byte ∷ more
     → IsCut part
 block_part header part more byte from h cut = ⊎_elim (λ f. inl (inr f))
@@ -73,6 +78,7 @@ block_part header part more byte from h cut = ⊎_elim (λ f. inl (inr f))
     })))
     (two_fronts signature (h.command ∷ h.family ∷ h.high ∷ h.low ∷ h.block) part (byte ∷ more) (sym h.spelled ∙ cut))
 
+-- the bytes of a header of either version before any byte of it are a part of a header
 pub cut_anywhere : (header part more : List ℕ) (byte : ℕ) (from : Option Ipv4Addr) → IsHeader header from → header ≡ part ++ byte ∷ more
     → IsCut part
 cut_anywhere header part more byte from h cut = ⊎_elim (λ l. line_part header part more byte from l cut)
@@ -88,33 +94,40 @@ line_long bytes from size b =
     let l3 = ap length front.1 in
     omega (arith, l1, l2, l3, length-append b.header b.behind, length-append b.is.line (13 ∷ 10 ∷ []))
 
+-- bytes that begin with a block are longer than its signature
 block_long : (bytes : List ℕ) (from : Option Ipv4Addr) (size : ℕ) → Begins IsBlock bytes from size → 12 < length bytes
 block_long bytes from size b = let f = block_front bytes from size b in
     let l1 = ap length b.spelled in
     let l2 = ap length b.is.spelled in
     omega (arith, l1, l2, length-append b.header b.behind)
 
+-- a part of the word PROXY and its space has at most six bytes
 six : (bytes more : List ℕ) → codes "PROXY " ≡ bytes ++ more → 6 < length bytes → ⊥
 six bytes more e long = let l = ap length e in omega (arith, l, long, length-append bytes more)
 
+-- a part of the signature has at most twelve bytes
 twelve : (bytes more : List ℕ) → signature ≡ bytes ++ more → 12 < length bytes → ⊥
 twelve bytes more e long = let l = ap length e in omega (arith, l, long, length-append bytes more)
 
+-- a part of the signature doesn't begin with PROXY and a space
 apart : (bytes more rest : List ℕ) → signature ≡ bytes ++ more → bytes ≡ codes "PROXY " ++ rest → ⊥
 apart bytes more rest e f = starts_apart _ _ (sym (e ∙ ap (λ b. b ++ more) f))
 
+-- bytes that begin with a whole line are no part of a header
 line_whole : (bytes : List ℕ) (from : Option Ipv4Addr) (size : ℕ) → Begins IsLine bytes from size → IsCut bytes → ⊥
 line_whole bytes from size b cut =
     let f = line_front bytes from size b in
     ⊎_elim (λ front. ⊎_elim (λ h. six bytes h.0 h.1 (line_long bytes from size b)) (λ h. apart bytes h.0 f.0 h.1 f.1) front)
     (λ more. ⊎_elim (λ l. no_line bytes from size l.unended b) (λ k. one_front bytes f.0 k.rest f.1 k.front) more) cut
 
+-- bytes that have all of a block that its length counts lack none
 lacks_not : (rest block more : List ℕ) (command family high low : ℕ) → rest ≡ command ∷ family ∷ high ∷ low ∷ (block ++ more)
     → length block ≡ high * 256 + low → LacksBytes rest → ⊥
 lacks_not rest block more command family high low is counted lacks =
     let l = (subst LacksBytes is lacks).1 in
     omega (arith, l, counted, length-append block more)
 
+-- bytes that begin with a whole block are no part of a header
 block_whole : (bytes : List ℕ) (from : Option Ipv4Addr) (size : ℕ) → Begins IsBlock bytes from size → IsCut bytes → ⊥
 block_whole bytes from size b cut =
     let f = block_front bytes from size b in
@@ -128,6 +141,7 @@ block_whole bytes from size b cut =
     let same : k.rest ≡ b.is.command ∷ b.is.family ∷ b.is.high ∷ b.is.low ∷ (b.is.block ++ b.behind) = cc in
     lacks_not k.rest b.is.block b.behind b.is.command b.is.family b.is.high b.is.low same b.is.counted k.lacks) more) cut
 
+-- bytes that begin with a whole header of either version are no part of one
 pub whole_or_cut : (bytes : List ℕ) (from : Option Ipv4Addr) (size : ℕ) → Begins IsHeader bytes from size → IsCut bytes → ⊥
 whole_or_cut bytes from size b cut = of_both bytes from size ⊥ (λ l. line_whole bytes from size l cut)
     (λ k. block_whole bytes from size k cut) b

@@ -15,6 +15,7 @@ pub said_front : (line : List ℕ) (from : Option Ipv4Addr) → Says line from �
 said_front line None h = (codes "UNKNOWN" ++ h.0, h.1)
 said_front line (Some ip) h = (codes "TCP4 " ++ h.0, h.1)
 
+-- bytes that begin with a line begin with PROXY and a space
 pub line_front : (bytes : List ℕ) (from : Option Ipv4Addr) (size : ℕ) → Begins IsLine bytes from size
     → (rest : List ℕ) × (bytes ≡ codes "PROXY " ++ rest)
 line_front bytes from size b =
@@ -24,14 +25,17 @@ line_front bytes from size b =
           ∙ ap (λ t. codes "PROXY " ++ t) (append_assoc front.0 (13 ∷ 10 ∷ []) b.behind),
     )
 
+-- bytes that begin with a block begin with the signature
 pub block_front : (bytes : List ℕ) (from : Option Ipv4Addr) (size : ℕ) → Begins IsBlock bytes from size
     → (rest : List ℕ) × (bytes ≡ signature ++ rest)
 block_front bytes from size b =
     (b.is.command ∷ b.is.family ∷ b.is.high ∷ b.is.low ∷ (b.is.block ++ b.behind), b.spelled ∙ ap (λ h. h ++ b.behind) b.is.spelled)
 
+-- a text that begins with P doesn't begin with a CR
 pub starts_apart : (a b : List ℕ) → 80 ∷ a ≡ 13 ∷ b → ⊥
 starts_apart a b e = cc
 
+-- bytes that begin with PROXY and a space don't begin with the signature
 pub one_front : (bytes rest other : List ℕ) → bytes ≡ codes "PROXY " ++ rest → bytes ≡ signature ++ other → ⊥
 one_front bytes rest other e f = starts_apart _ _ (sym e ∙ f)
 
@@ -43,6 +47,7 @@ of_both bytes from size P line block b = ⊎_elim
     (λ is. line (record { header = b.header; behind = b.behind; spelled = b.spelled; is = is; counted = b.counted }))
     (λ is. block (record { header = b.header; behind = b.behind; spelled = b.spelled; is = is; counted = b.counted })) b.is
 
+-- what comes after a whole text within that text is empty
 none_behind : (front rest more : List ℕ) → front ≡ (front ++ rest) ++ more → rest ≡ []
 none_behind front [] more e = refl
 none_behind front (b ∷ rest) more e =
@@ -57,12 +62,14 @@ front_block bytes rest front cut = ⊎_elim
     (λ h. let none : rest ≡ [] = none_behind signature rest h.0 (h.1 ∙ ap (λ b. b ++ h.0) front) in
     record { rest = []; front = front ∙ ap (λ r. signature ++ r) none; lacks = tt }) cut
 
+-- the word PROXY and its space have no line feed
 lacks_word : Lacks 10 (codes "PROXY ")
 lacks_word =
     lacks_cons 10 80 (82 ∷ 79 ∷ 88 ∷ 89 ∷ 32 ∷ []) (λ e. omega arith) (lacks_cons 10 82 (79 ∷ 88 ∷ 89 ∷ 32 ∷ []) (λ e. omega arith)
     (lacks_cons 10 79 (88 ∷ 89 ∷ 32 ∷ []) (λ e. omega arith) (lacks_cons 10 88 (89 ∷ 32 ∷ []) (λ e. omega arith)
     (lacks_cons 10 89 (32 ∷ []) (λ e. omega arith) (lacks_cons 10 32 [] (λ e. omega arith) (lacks_nil 10))))))
 
+-- a part of what a header begins with that has PROXY and a space is a line whose end may still come
 front_line : (bytes rest : List ℕ) → bytes ≡ codes "PROXY " ++ rest → IsCutFront bytes → IsCutLine bytes
 front_line bytes rest front cut = ⊎_elim
     (λ h. let none : rest ≡ [] = none_behind (codes "PROXY ") rest h.0 (h.1 ∙ ap (λ b. b ++ h.0) front) in
@@ -72,6 +79,7 @@ front_line bytes rest front cut = ⊎_elim
     (λ h. let all : signature ≡ codes "PROXY " ++ (rest ++ h.0) = h.1 ∙ ap (λ b. b ++ h.0) front in
     absurd (starts_apart _ _ (sym all))) cut
 
+-- what bytes with the signature are as a block they are as a header of either version
 pub block_is : (bytes rest : List ℕ) (reading : Reading) → bytes ≡ signature ++ rest → Answers IsBlock IsCutBlock bytes reading
     → Answers IsHeader IsCut bytes reading
 block_is bytes rest (Whole header) front h =
@@ -84,6 +92,7 @@ block_is bytes rest Fault front h = (
       (λ more. ⊎_elim (λ l. one_front bytes l.rest rest l.front front) (λ k. h.1 k) more) cut),
 )
 
+-- what bytes with PROXY and a space are as a line they are as a header of either version
 pub line_is : (bytes rest : List ℕ) (reading : Reading) → bytes ≡ codes "PROXY " ++ rest → Answers IsLine IsCutLine bytes reading
     → Answers IsHeader IsCut bytes reading
 line_is bytes rest (Whole header) front h =
@@ -96,6 +105,7 @@ line_is bytes rest Fault front h = (
       (λ more. ⊎_elim (λ l. h.1 l) (λ k. one_front bytes rest k.rest front k.front) more) cut),
 )
 
+-- bytes with neither PROXY and a space nor the signature, and no part of these, are neither a header nor a part of one
 pub neither : (bytes : List ℕ) → ((rest : List ℕ) → bytes ≡ signature ++ rest → ⊥) → ((rest : List ℕ) → bytes ≡ codes "PROXY " ++ rest → ⊥)
     → (IsCutFront bytes → ⊥) → ((from : Option Ipv4Addr) (size : ℕ) → Begins IsHeader bytes from size → ⊥) × (IsCut bytes → ⊥)
 neither bytes block line front = (

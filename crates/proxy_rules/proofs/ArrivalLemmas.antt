@@ -25,6 +25,7 @@ use Rattle.proxy_rules.specs.Arrivals.{Arrives, HasCome, Came}
 use Rattle.std.proofs.Math.Seq.{take-length}
 use Rattle.std.proofs.lemmas.List.{append-nil, append_assoc}
 
+-- a plan that offers nothing, of a body whose length isn't known
 some_plan : Plan
 some_plan = record {
   kind = Plain;
@@ -36,6 +37,7 @@ some_plan = record {
   len_in_range = λ len e. cc;
 }
 
+-- no text is that of a head that wasn't read
 no_text : (a : Asks) (text : List ℕ) → IsHeadText a heads.Unread text → ⊥
 no_text asks.Request text h = h
 no_text (asks.Response to_head) text h = h
@@ -46,12 +48,14 @@ begun_is_read read s b e =
     let r = (b (seen some_plan []) refl refl).0 in
     no_text s.asks r.head_text (subst (λ (h : SourceHead). IsHeadText s.asks h r.head_text) e r.head)
 
+-- whatever judging the raw bytes gives, the head is still to come or the message begins
 judged : (result : Result HeadProgress RelayFault) (read : List ℕ) (s : SourceSide) → JudgesHeadTo result read s → HasCome read s
 judged (Ok progress.More) read s h = inl h
 judged (Ok progress.Interim) read s h = inl h
 judged (Ok progress.Taken) read s h = inr h
 judged (Err fault) read s h = inl h
 
+-- after a turn at a head to come, a message was still read in turns at its head
 turned : (old new : SourceSide) (user : Option SourceSide) (before after : Past → Type 0) (result : Result HeadProgress RelayFault)
     → Arrives old user → old.head ≡ heads.Unread
     → HeadTurn old new before after result → new.asks ≡ old.asks → Arrives new user
@@ -64,9 +68,11 @@ turned old new user before after result a e t k = record {
   asks = k ∙ a.asks;
 }
 
+-- of a side that stays as it was, the message was still read in turns at its head
 same : (old new : SourceSide) (user : Option SourceSide) → Arrives old user → new ≡ old → Arrives new user
 same old new user a e = subst (λ (s : SourceSide). Arrives s user) (sym e) a
 
+-- after a turn that leaves a side as it is where its head was read, the message was still read in turns at its head
 by_head : (head : SourceHead) (old new : SourceSide) (user : Option SourceSide) (before after : Past → Type 0)
     (result : Result HeadProgress RelayFault) → Arrives old user → old.head ≡ head
     → (old.head ≡ heads.Unread → HeadTurn old new before after result) → ((old.head ≡ heads.Unread → ⊥) → new ≡ old) → new.asks ≡ old.asks
@@ -75,6 +81,7 @@ by_head heads.Unread old new user before after result a e t r k = turned old new
 by_head (heads.Request p) old new user before after result a e t r k = same old new user a (r (λ u. cc))
 by_head (heads.Response p) old new user before after result a e t r k = same old new user a (r (λ u. cc))
 
+-- after a turn that leaves a side as it is where it has a fault or a head, the message was still read in turns at its head
 by_fault : (fault : Option RelayFault) (old new : SourceSide) (user : Option SourceSide) (before after : Past → Type 0)
     (result : Result HeadProgress RelayFault) → Arrives old user → old.fault ≡ fault
     → (old.fault ≡ None → old.head ≡ heads.Unread → HeadTurn old new before after result)
@@ -101,6 +108,7 @@ has_begun side user a n = elim a.has_come [
 
 -- What the source's wire gave since the message began.
 
+-- a wire that was asked once at most gave just the bytes of its answer, and took none
 later_given : (p : Past) (given : List ℕ) (answer : Option Got) → IsGiven given answer → IsLater p given [] (after_ask p given answer)
 later_given p given None e = record {
   read = sym (ap (λ (t : List ℕ). p.read ++ t) e ∙ append-nil p.read);
@@ -152,6 +160,7 @@ at_head read s e h = elim h [
   | inr b ↦ absurd (begun_is_read read s b e)
 ]
 
+-- after a turn at a head to come, just the further bytes that the wire gave were read of the message
 came_on : {A : Type 0} (a : Wire A) (first : A) (ahead since beside : List ℕ) (old new : SourceSide) (wire wire' : A)
     (result : Result HeadProgress RelayFault) → old.head ≡ heads.Unread
     → HeadTurn old new (a.past wire) (a.past wire') result → Came a first ahead since beside old wire
@@ -172,6 +181,7 @@ came_on a first ahead since beside old new wire wire' result e t c = (
   },
 )
 
+-- where the side and its wire stay as they were, what came of the message is still what the wire gave
 came_still : {A : Type 0} (a : Wire A) (first : A) (ahead since beside : List ℕ) (old new : SourceSide) (wire wire' : A) → new ≡ old
     → wire' ≡ wire
     → Came a first ahead since beside old wire → (more : List ℕ) × Came a first ahead (since ++ more) beside new wire'
@@ -182,6 +192,7 @@ came_still {A} a first ahead since beside old new wire wire' e f c = (
       (subst (λ (z : A). Came a first ahead since beside old z) (sym f) c)),
 )
 
+-- after a turn at a head, read or still to come, what came of the message is still what the wire gave
 came_by_head : {A : Type 0} (a : Wire A) (first : A) (ahead since beside : List ℕ) (head : SourceHead) (old new : SourceSide)
     (wire wire' : A) (result : Result HeadProgress RelayFault) → old.head ≡ head
     → (old.head ≡ heads.Unread → HeadTurn old new (a.past wire) (a.past wire') result) → ((old.head ≡ heads.Unread → ⊥) → new ≡ old)
@@ -194,6 +205,7 @@ came_by_head a first ahead since beside (heads.Request p) old new wire wire' res
 came_by_head a first ahead since beside (heads.Response p) old new wire wire' result e t r w c =
     came_still a first ahead since beside old new wire wire' (r (λ u. cc)) (w (λ u. cc)) c
 
+-- after a turn at the head of a side with a fault or without, what came of the message is still what the wire gave
 came_by_fault : {A : Type 0} (a : Wire A) (first : A) (ahead since beside : List ℕ) (fault : Option RelayFault) (old new : SourceSide)
     (wire wire' : A) (result : Result HeadProgress RelayFault) → old.fault ≡ fault
     → (old.fault ≡ None → old.head ≡ heads.Unread → HeadTurn old new (a.past wire) (a.past wire') result)

@@ -18,6 +18,7 @@ use Rattle.proxy_rules.specs.Offers.{IsUnused}
 pub fresh_reader : (point : Point) (r : Reader) → r ≡ first_reader point → r ≡ first_reader r.point
 fresh_reader point r e = e ∙ ap first_reader (sym (ap (λ (q : Reader). q.point) e))
 
+-- a test together with false fails
 and_false : (b : Bool) → (b && false) ≡ false
 and_false true = refl
 and_false false = refl
@@ -30,6 +31,7 @@ nothing_sent request s plan u = record {
   last_stop = u.marks.0;
 }
 
+-- nothing was heard on a side that wasn't used, by any plan
 pub nothing_heard : (request : List ℕ) (s : Service) (plan : Plan) → IsUnused request s → ServiceHeard (seen plan []) [] [] s
 nothing_heard request s plan u = record {
   heard = side_begins plan s.replies.reader.point s.replies u.reader u.raw;

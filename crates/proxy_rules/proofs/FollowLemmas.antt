@@ -12,6 +12,7 @@ use Rattle.proxy_rules.specs.Wires.{WiresTook, begun_with}
 use Rattle.proxy_rules.specs.Following.{GaveTexts, IsMessageText}
 use Rattle.proxy_rules.proofs.SinceLemmas.{grown_none, grown_then}
 
+-- a connection that is still as it was gave no text, and no byte is left over
 pub gave_none : {A : Type 0} (a : Wire A) (wire : A) → GaveTexts a wire wire [] []
 gave_none a wire = record { taken = []; wire_is = grown_none (a.past wire) }
 

@@ -18,6 +18,7 @@ pub was_read : (user : Option SourceSide) (source : SourceHead) (asked : Request
 was_read None source asked e = tt
 was_read (Some side) source asked e = λ unread. (let found : request_of heads.Unread ≡ Some asked = rw unread at e in cc)
 
+-- a head made for the request that the user's side read is made of what the transaction has
 pub makes : (r : Result Headed Cause) (origin : OriginWay) (last : Bool) (user : Option SourceSide) (source : SourceHead) (x : Seen)
     (adapted : Option (List ℕ)) (is_response : Bool)
     (asked : RequestParts) (carries_on has_body : Bool) → request_of (user_head user source) ≡ Some asked

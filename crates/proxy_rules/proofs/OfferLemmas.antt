@@ -17,6 +17,7 @@ use Rattle.proxy_rules.specs.Plans.{IsPlanned}
 use Rattle.proxy_rules.specs.Offers.{Binds, IsUnused, previews_nothing, text_of}
 use Rattle.proxy_rules.specs.Beginnings.{service_end_of}
 
+-- a kind that is Whole where a test passes is no preview there
 by_length : (b : Bool) (n : ℕ) → (is_preview (if b then Whole else Preview n) && b) ≡ false
 by_length true n = refl
 by_length false n = refl
@@ -29,6 +30,7 @@ kinds treats.Complete preview limit len = refl
 kinds treats.Preview None limit len = refl
 kinds treats.Preview (Some size) limit len = by_length (is_null len) _
 
+-- the plan of a message, with a service or without, previews no body that is known to be empty
 pub previews_some : (options : Option Options) (limits : Limits) (point : Point) (path : List ℕ) (len : Option ℕ) (plan : Plan)
     → IsPlanned options limits point path len plan → previews_nothing plan ≡ false
 previews_some None limits point path len plan p = ap (λ (k : Kind). is_preview k && is_null plan.len) p.kind

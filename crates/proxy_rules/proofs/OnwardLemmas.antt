@@ -91,10 +91,12 @@ unmade_of (Err cause) refused user origin part other is_it is_wide wide e (inl m
 unmade_of (Err cause) refused user origin part other is_it is_wide wide e (inr unfit) =
     inr (inr (unfit.0, unfit_in user origin part other is_it is_wide wide e unfit.1))
 
+-- a request whose head is the text to its last byte is an adapted one of that text
 pub adapted_request_is : (text : List ℕ) (parts : RequestParts) (len : ℕ) → IsRead true text parts len → len ≡ length text
     → (m : Message) → IsRequest parts m → IsAdaptedRequest text m
 adapted_request_is text parts len read e m is_it = (parts, rw e at read, is_it)
 
+-- a response that may answer, and whose head is the text to its last byte, is an adapted one of that text
 pub adapted_response_is : (to_head has_body : Bool) (text : List ℕ) (parts : ResponseParts) (len : ℕ)
     → IsResponseRead to_head text parts len → len ≡ length text
     → may_answer has_body parts ≡ true → (m : Message) → IsResponse parts m → IsAdaptedResponse to_head has_body text m

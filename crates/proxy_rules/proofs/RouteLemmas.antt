@@ -27,12 +27,14 @@ module _ (config : Config) (host : List ℕ) (port : Option ℕ) where
   same : (a b : SocketAddrV4) → IsAt config.hosts host port a → IsAt config.hosts host port b → a ≡ b
   same a b = IsAt_unique config.hosts host port a b
 
+  -- a host and a port don't go both straight to an origin and to the parent
   apart : (address parent : SocketAddrV4) → GoesStraight config host port address → GoesToParent config host port parent → ⊥
   apart address parent straight through = elim straight.at [
     | inl named ↦ through.missing address named
     | inr literal ↦ (let both : None ≡ Some parent = sym literal.1 ∙ through.parent_is in cc)
   ]
 
+  -- two ways of a host and a port go to the same kind of server, and to the same address
   one_next : (n m : NextServer) (a b : SocketAddrV4) → GoesNext n config host port a → GoesNext m config host port b → (n ≡ m) × (a ≡ b)
   one_next Origin Origin a b x y = (refl, same a b (at_of a x.at) (at_of b y.at))
   one_next Parent Parent a b x y = (refl, same_Some a b (sym x.parent_is ∙ y.parent_is))
@@ -58,6 +60,7 @@ module _ (config : Config) (host : List ℕ) (port : Option ℕ) where
     allowed = λ a literal. absurd (none a (inl literal));
   }
 
+  -- a host and a port have one route at most
   pub one_route : (r s : Route) → GoesBy config host port r → GoesBy config host port s → r ≡ s
   one_route r s x y = let e = one_next r.next s.next r.address s.address x y in λ i. record { next = e.0 i; address = e.1 i }
 
@@ -78,13 +81,16 @@ module _ (config : Config) (host : List ℕ) (port : Option ℕ) where
     | inr named ↦ x.missing d.address named
   ]
 
+  -- a host and a port that have a route have no reason for none
   pub not_both : (r : Route) (why : Unrouted) → GoesBy config host port r → GoesNowhereBy config host port why → ⊥
   not_both r why = nowhere_by r.next r.address why
 
+  -- a host isn't both unknown and denied
   known : IsUnknown config host port → IsDenied config host port → ⊥
   known (inl none) d = none.1 d.address d.at
   known (inr own) d = d.other (subst (λ (z : SocketAddrV4). IsOwn config z) (same own.0 d.address own.1 d.at) own.2)
 
+  -- a host and a port have one reason at most for no route
   pub one_reason : (v w : Unrouted) → GoesNowhereBy config host port v → GoesNowhereBy config host port w → v ≡ w
   one_reason Unknown Unknown x y = refl
   one_reason Denied Denied x y = refl
@@ -100,6 +106,7 @@ module _ (config : Config) (host : List ℕ) (port : Option ℕ) where
   )
   route_is (Err why) ok err route = (λ e. absurd (let both : Err why ≡ Ok route = e in cc), λ goes. absurd (not_both route why goes err))
 
+  -- an answer that fits is a given reason exactly where the host and the port go nowhere for that reason
   pub reason_is : (r : Result Route Unrouted) → IfOk r (GoesBy config host port) → IfErr r (GoesNowhereBy config host port)
       → (why : Unrouted) → (r ≡ Err why) ↔ GoesNowhereBy config host port why
   reason_is (Ok x) ok err why = (λ e. absurd (let both : Ok x ≡ Err why = e in cc), λ nowhere. absurd (not_both x why ok nowhere))

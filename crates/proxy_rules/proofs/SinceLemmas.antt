@@ -12,19 +12,23 @@ use Rattle.proxy_rules.specs.Grown.{Grown}
 use Rattle.proxy_rules.specs.Wires.{begun_with}
 use Rattle.proxy_rules.specs.Since.{Snapshot, Since, SourceGrown, LineGrown, first_snapshot, held_or, freed_wire, anew_on, given_up}
 
+-- a wire that is as it was gave and took nothing
 pub grown_none : (past : Past → Type 0) → Grown past past [] []
 grown_none past = λ p b. (p, b, no_later p)
 
+-- what a wire gave and took up to a moment, and then after it, is what it gave and took in all
 pub grown_then : (before mid after : Past → Type 0) (g t g' t' : List ℕ) → Grown before mid g t → Grown mid after g' t'
     → Grown before after (g ++ g') (t ++ t')
 grown_then before mid after g t g' t' f h = λ p b. let w = f p b in let v = h w.0 w.1 in (v.0, v.1, later_then p w.0 v.0 g t g' t' w.2 v.2)
 
 -- A connection that is held: what is so of it is told by its wire alone.
 
+-- what is so of the connection that a service holds is so of its wire
 by_wire : {V W : Type 0} (service : Option (ServiceEnd V W)) (P : W → Type 0) → on_held service ⊥ P → MatchOption (wire_of service) ⊥ P
 by_wire None P h = h
 by_wire (Some l) P h = h
 
+-- what is so of a service's wire is so of the connection that it holds
 on_wire : {V W : Type 0} (service : Option (ServiceEnd V W)) (P : W → Type 0) → MatchOption (wire_of service) ⊥ P → on_held service ⊥ P
 on_wire None P h = h
 on_wire (Some l) P h = h
@@ -33,9 +37,11 @@ abbrev GoesOver : {W : Type 0} → Wire W → (old new : Option W) → (given ta
 GoesOver w old new given taken = (p : Past) → MatchOption old ⊥ (λ wire. w.past wire p)
     → (q : Past) × MatchOption new ⊥ (λ wire. w.past wire q) × IsLater p given taken q
 
+-- two texts without a byte have none together
 none_more : (xs ys : List ℕ) → xs ≡ [] → ys ≡ [] → xs ++ ys ≡ []
 none_more xs ys e f = ap (λ (zs : List ℕ). zs ++ ys) e ∙ f
 
+-- a text stays the same with no byte after it
 no_more : (xs ys : List ℕ) → ys ≡ [] → xs ≡ xs ++ ys
 no_more xs ys e = sym (ap (λ (zs : List ℕ). xs ++ zs) e ∙ append-nil xs)
 
@@ -55,6 +61,7 @@ gone {W} w f given g t g' t' u h =
     subst (λ (bs : List ℕ). MatchOption given ⊥ (λ l. Grown (w.past f) (w.past l) bs (t ++ t'))) (no_more g g' u.0)
     (subst (λ (bs : List ℕ). MatchOption given ⊥ (λ l. Grown (w.past f) (w.past l) g bs)) (no_more t t' u.1) h)
 
+-- a connection, held or given up, gave and took what it did before a pass, and then the bytes of the pass
 lasting : {W : Type 0} (w : Wire W) (f : W) (old new given : Option W) (g t g' t' : List ℕ) → GoesOver w old new g' t'
     → is_some new ≡ is_some old → (is_some old ≡ false → (g' ≡ []) × (t' ≡ []))
     → MatchOption (held_or old given) ⊥ (λ l. Grown (w.past f) (w.past l) g t)
@@ -64,6 +71,7 @@ lasting w f None (Some y) given g t g' t' goes holds unheld h = absurd cc
 lasting w f (Some x) None given g t g' t' goes holds unheld h = absurd cc
 lasting w f (Some x) (Some y) given g t g' t' goes holds unheld h = grown_then (w.past f) (w.past x) (w.past y) g t g' t' h goes
 
+-- the bytes of a pass come after what went over the service's connection, also where there never was one
 line_goes : {W : Type 0} (w : Wire W) (first old new given : Option W) (g t g' t' : List ℕ) → GoesOver w old new g' t'
     → is_some new ≡ is_some old → (is_some old ≡ false → (g' ≡ []) × (t' ≡ []))
     → LineGrown w first (held_or old given) g t → LineGrown w first (held_or new given) (g ++ g') (t ++ t')
@@ -119,10 +127,12 @@ since_goes {A} {W} {C} {V} a w c s old_took new_took source source' service serv
 
 -- The connection is given up.
 
+-- a service whose connection is given up has no wire
 without_is : {V W : Type 0} (service : Option (ServiceEnd V W)) → wire_of (without_wire service) ≡ None
 without_is None = refl
 without_is (Some l) = refl
 
+-- what the wires gave and took stays the same where the service's connection is given up
 pub since_without : {A W C V : Type 0} (a : Wire A) (w : Wire W) (c : Wire C) (s : Snapshot A W C)
     (old_took new_took : List ℕ → Texts → Type 0)
     (source source' : A) (service service' : Option (ServiceEnd V W)) (next next' : C)
@@ -143,6 +153,7 @@ since_without {A} {W} {C} {V} a w c s old_took new_took source source' service s
       next_is = subst (λ (z : C). Grown (c.past s.next) (c.past z) [] since.texts.next_taken) (sym e3) since.next_is;
     }
 
+-- what the wires gave and took stays the same where a call gives the service's connection up and returns it
 pub since_broken : {A W C V : Type 0} (a : Wire A) (w : Wire W) (c : Wire C) (s : Snapshot A W C)
     (old_took new_took : List ℕ → Texts → Type 0)
     (source source' : A) (service service' : Option (ServiceEnd V W)) (next next' : C) (result : Option W) → result ≡ wire_of service
@@ -186,10 +197,12 @@ since_freed {A} {W} {C} a w c s old_took new_took source source' service service
 
 -- The request begins anew.
 
+-- a connection on which a request begins just now gave and took nothing since
 line_anew : {W : Type 0} (w : Wire W) (line : Option W) → LineGrown w line (held_or line None) [] []
 line_anew w None = (refl, refl, refl)
 line_anew w (Some wire) = grown_none (w.past wire)
 
+-- where the request begins anew, nothing went over its connection yet, and the other wires' bytes stand
 pub since_anew : {A W C V : Type 0} (a : Wire A) (w : Wire W) (c : Wire C) (s : Snapshot A W C)
     (old_took new_took : List ℕ → Texts → Type 0)
     (source source' : A) (service service' : Option (ServiceEnd V W)) (next next' : C)
@@ -208,6 +221,7 @@ since_anew {A} {W} {C} a w c s old_took new_took source source' service service'
 
 -- The beginning.
 
+-- at the beginning only the source's wire gave and took: what came of the message, and what went beside it
 pub since_begun : {A W C V : Type 0} (a : Wire A) (w : Wire W) (c : Wire C) (request read ahead since beside : List ℕ)
     (first source source' : A) (service : Option (ServiceEnd V W)) (line : Option W) (next next' : C) (took : List ℕ → Texts → Type 0)
     → took request (record no_texts { source_read = record { bytes = read; ended = false } }) → read ≡ ahead ++ since

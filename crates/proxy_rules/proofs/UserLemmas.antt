@@ -8,6 +8,7 @@ use Rattle.adapt_bytes.specs.Text.{has_item}
 use Rattle.http_side.proofs.FieldLemmas.{values-more, values-front}
 use Rattle.proxy_rules.specs.Users.{expects_continue}
 
+-- an element of two lists in a row passes a test just where one of the first or of the second does
 any_more : (test : List ℕ → Bool) (xs ys : List (List ℕ)) → list_any test (xs ++ ys) ≡ (list_any test xs || list_any test ys)
 any_more test [] ys = refl
 any_more test (x ∷ xs) ys = ap (λ b. test x || b) (any_more test xs ys) ∙ sym (or_assoc (test x) (list_any test xs) (list_any test ys))
@@ -16,6 +17,7 @@ any_more test (x ∷ xs) ys = ap (λ b. test x || b) (any_more test xs ys) ∙ s
     or_assoc true b c = refl
     or_assoc false b c = refl
 
+-- anything or true is true
 or_true : (b : Bool) → (b || true) ≡ true
 or_true true = refl
 or_true false = refl

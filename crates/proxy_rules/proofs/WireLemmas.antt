@@ -25,19 +25,23 @@ use Rattle.http_relay.specs.Giving.{Hop, HasGiven, GivesMessage, GivenAt, IsAsid
 use Rattle.http_relay.proofs.Whole.{front_at, out_front_at, whole_front_at}
 use Rattle.proxy_rules.specs.Wires.{TookNoMessage, TookFront, TookMessage, TookRequest, TookOne, OtherTook}
 
+-- an original whose end the tape has is of just as many bytes as came by the history
 pub received_is : (h : Holding) (body : List ℕ) → IsTied h → EndsBody h.original body → length body ≡ (shows h.history).received
 received_is h body t e = sym e.end ∙ ap (λ (p : ℕ × ℕ). p.1) t.original
 
+-- an adapted body whose end the tape has is of just as many bytes as came by the history
 pub adapted_received_is : (h : Holding) (body : List ℕ) → IsTied h → EndsBody h.adapted body
     → length body ≡ (shows h.history).adapted_received
 adapted_received_is h body t e = sym e.end ∙ ap (λ (p : ℕ × ℕ). p.1) t.adapted
 
+-- the one of two bodies that is chosen is as long as its count, where nothing came of an adapted one without 200
 chosen_by : (c m : Bool) (r a : ℕ) (original adapted : List ℕ) → (m ≡ false → a ≡ 0) → length original ≡ r → length adapted ≡ a
     → length (if c then original else if m then adapted else []) ≡ (if c then r else a)
 chosen_by true m r a original adapted z o b = o
 chosen_by false true r a original adapted z o b = b
 chosen_by false false r a original adapted z o b = sym (z refl)
 
+-- the chosen body is of just as many bytes as came of it by the history, where the tapes have the ends of both
 pub chosen_is : (h : Holding) (original adapted : List ℕ) → IsTied h → EndsBody h.original original → EndsBody h.adapted adapted
     → length (chosen (shows h.history) original adapted) ≡ chosen_received (shows h.history)
 chosen_is h original adapted t o a =
@@ -45,6 +49,7 @@ chosen_is h original adapted t o a =
     chosen_by (chooses_original x) x.modified x.received x.adapted_received original adapted
     (sound h.history.plan h.history.events t.legal).unmodified (received_is h original t o) (adapted_received_is h adapted t a)
 
+-- a service that is offered the message took a prefix of one request with these heads and the original
 pub sent_one : (head : List ℕ) (h : Holding) (original taken : List ℕ) (s : Service) → IsTied h → EndsBody h.original original
     → is_plain (shows h.history).plan.kind ≡ false
     → ServiceSent head (shows h.history) original taken s → TookRequest (shows h.history) head original taken
@@ -58,19 +63,23 @@ sent_one head h original taken s t o n g = record {
   front = sent_is_front_legal h.history.plan h.history.events head original taken s.writer t.legal n (received_is h original t o) g.sent;
 }
 
+-- where two texts have no byte together, the first has none
 first_none : (xs ys : List ℕ) → xs ++ ys ≡ [] → xs ≡ []
 first_none [] ys e = refl
 first_none (x ∷ xs) ys e = cc
 
+-- at each stage without a message, what was taken is nothing, or a prefix of a refusal
 aside_at : (stage : Stage) (taken : List ℕ) (w : Writer) → AsideAt stage taken w → TookNoMessage taken
 aside_at at.Empty taken w a = inl (first_none taken (waiting w) a)
 aside_at at.Message taken w a = absurd a
 aside_at at.Whole taken w a = absurd a
 aside_at (at.Refusal status) taken w a = inr (status, record { rest = waiting w; whole = sym a })
 
+-- a hop's wire that took no byte of a message took nothing, or a prefix of a refusal
 pub aside_none : (taken : List ℕ) (h : Hop) → IsAside taken h → TookNoMessage taken
 aside_none taken h a = aside_at h.stage taken h.writer a.text
 
+-- what was taken of a message whose head was made is a prefix of it, where it is one with just the delivered bytes as its body
 message_front : (made : List ℕ → Type 0) (whole : Bool) (x : Seen) (f : Framing) (head body taken : List ℕ) (w : Writer) → made head
     → IsFrontOfMessage f head (take (chosen_delivered x) body) taken
     → (IfSome (length_of f) (λ n. chosen_received x ≤ n) → IsFrontOfMessage f head body taken) → GivesMessage x f whole head body taken w
@@ -99,6 +108,7 @@ whole_out_at x f head body taken w l g = subst (λ (xs : List ℕ). IsFrontOfMes
     (sym (ap (λ (n : ℕ). take n body) ((g.all_out refl).1 ∙ sym l) ∙ take-length body))
     (whole_front_at at.Whole x f head body taken w refl l g)
 
+-- at a stage with a message, what was taken is a prefix of one whose head was made
 took_at : (made : List ℕ → Type 0) (stage : Stage) (x : Seen) (f : Framing) (head body taken : List ℕ) (w : Writer) → made head
     → gift_of stage ≡ message → length body ≡ chosen_received x → GivenAt stage x f head body taken w
     → TookFront made f x body taken
@@ -111,6 +121,7 @@ took_at made at.Whole x f head body taken w k m l g =
     (λ i. whole_front_at at.Whole x f head body taken w refl l g) g
 took_at made (at.Refusal status) x f head body taken w k m l g = cc
 
+-- a hop that has a message took a prefix of one whose head was made, with the chosen body
 pub front_one : (made : List ℕ → Type 0) (x : Seen) (head body taken : List ℕ) (h : Hop) → made head → gift_of h.stage ≡ message
     → length body ≡ chosen_received x → HasGiven x head body taken h
     → TookFront made h.framing x body taken
@@ -124,9 +135,11 @@ unrefused_at at.Message taken w none a = absurd a
 unrefused_at at.Whole taken w none a = absurd a
 unrefused_at (at.Refusal status) taken w none a = absurd (none status refl)
 
+-- a hop that has neither a message nor a refusal took nothing
 unrefused : (taken : List ℕ) (h : Hop) → ((status : ℕ) → gift_of h.stage ≡ refused_by status → ⊥) → IsAside taken h → taken ≡ []
 unrefused taken h none a = unrefused_at h.stage taken h.writer none a.text
 
+-- a service's wire took a prefix of the request that is offered; without a service nothing was taken
 pub service_one : {W : Type 0} (head : List ℕ) (h : Holding) (original taken : List ℕ) (service : Option (ServiceEnd Service W)) → IsTied h
     → EndsBody h.original original
     → MatchOption service (taken ≡ []) (λ line. ServiceSent head (shows h.history) original taken line.side)
@@ -154,6 +167,7 @@ whole_one next back next_made back_made refusing x body to_next to_back d = elim
   | inr w ↦ inr (record { head = w.head; made_is = w.whole_is.0; message = w.whole_is.1 })
 ]
 
+-- of the wires to the next hop and back, one took a prefix of one message or of a refusal, and the other nothing of a message
 pub hops_one : (h : Holding) (next back : Hop) (next_made back_made : Seen → List ℕ → Type 0) (original adapted to_next to_back : List ℕ)
     → IsTied h → EndsBody h.original original → EndsBody h.adapted adapted
     → HopsAre (writer_at next_made next) (writer_at back_made back) (shows h.history) (chosen (shows h.history) original adapted) to_next
@@ -181,6 +195,7 @@ hops_one h next back next_made back_made original adapted to_next to_back t o a 
 hops_one h next back next_made back_made original adapted to_next to_back t o a (inr (inr (inr m))) =
     inl (inl (m.none, aside_none to_next next m.next_aside_is), aside_none to_back back m.back_aside_is)
 
+-- the wire that isn't the user's, where it gets no refusal, took nothing, or at REQMOD a prefix of a message
 pub other_one : (point : Point) (h : Holding) (next back : Hop) (next_made back_made : Seen → List ℕ → Type 0)
     (original adapted to_next to_back : List ℕ)
     → IsTied h → EndsBody h.original original → EndsBody h.adapted adapted

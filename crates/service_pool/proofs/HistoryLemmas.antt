@@ -18,6 +18,7 @@ within-after n GiveUp w may = grind (arith, common_steps)
 within-after n Replace w may = w
 within-after n (Limit most) w may = grind (arith, common_steps)
 
+-- allowed steps keep at most the maximum open, or none idle
 pub within-replay : (n : Numbers) (steps : List PoolStep) → IsWithin n → AreAllowed n steps → IsWithin (replay n steps)
 within-replay n [] w may = w
 within-replay n (step ∷ steps) w may = within-replay (after n step) steps (within-after n step w may.0) may.1
@@ -36,6 +37,7 @@ opens-take n GiveUp may more = absurd (grind (arith, common_steps))
 opens-take n Replace may more = absurd (omega (arith, more))
 opens-take n (Limit most) may more = absurd (grind (arith, common_steps))
 
+-- a step that opens a connection finds fewer than the maximum open
 opens-below : (n : Numbers) (step : PoolStep) → IsAllowed n step → open_count n < open_count (after n step) → open_count n < n.maximum
 opens-below n Take may more = grind (arith, common_steps)
 opens-below n Put may more = absurd (grind (arith, common_steps))
@@ -50,11 +52,13 @@ opens-after : (n : Numbers) (earlier : List PoolStep) (step : PoolStep)
 opens-after n earlier step more = let P : Numbers → Type 0 = λ m. open_count (replay n earlier) < open_count m in
     subst P (replay-append n earlier (step ∷ [])) more
 
+-- one of allowed steps that opens a connection is a take that finds none idle
 pub opened-by_take : (n : Numbers) (earlier later : List PoolStep) (step : PoolStep) → AreAllowed n (earlier ++ step ∷ later)
     → open_count (replay n earlier) < open_count (replay n (earlier ++ step ∷ [])) → (step ≡ Take) × ((replay n earlier).idle ≡ 0)
 opened-by_take n earlier later step may more = opens-take (replay n earlier) step (may-behind n earlier later step may)
     (opens-after n earlier step more)
 
+-- one of allowed steps that opens a connection finds fewer than the maximum open
 pub opened-below : (n : Numbers) (earlier later : List PoolStep) (step : PoolStep) → AreAllowed n (earlier ++ step ∷ later)
     → open_count (replay n earlier) < open_count (replay n (earlier ++ step ∷ []))
     → open_count (replay n earlier) < (replay n earlier).maximum
@@ -84,6 +88,7 @@ leased-after n GiveUp may = grind (arith, common_steps)
 leased-after n Replace may = refl
 leased-after n (Limit most) may = grind (arith, common_steps)
 
+-- after allowed steps the leased are those before, with the takes and less the returns
 pub leased-replay : (n : Numbers) (steps : List PoolStep) → AreAllowed n steps
     → (replay n steps).leased + count_by is_return steps ≡ n.leased + count_by is_take steps
 leased-replay n [] may = refl
@@ -108,6 +113,7 @@ maximum-after n GiveUp none = refl
 maximum-after n Replace none = refl
 maximum-after n (Limit most) none = absurd (omega arith)
 
+-- steps of which none sets a maximum keep it
 maximum-replay : (n : Numbers) (steps : List PoolStep) → count_by is_limit steps ≡ 0 → (replay n steps).maximum ≡ n.maximum
 maximum-replay n [] none = refl
 maximum-replay n (step ∷ steps) none =
@@ -116,6 +122,7 @@ maximum-replay n (step ∷ steps) none =
     let here : ◌≡◌ {A = ℕ} (cond (is_limit step) 1 0) 0 = omega arith in
     maximum-replay (after n step) steps rest ∙ maximum-after n step here
 
+-- the maximum is that of the last step that set one
 pub maximum-last : (n : Numbers) (earlier later : List PoolStep) (most : ℕ) → count_by is_limit later ≡ 0
     → (replay n (earlier ++ Limit most ∷ later)).maximum ≡ most
 maximum-last n [] later most none = maximum-replay (after n (Limit most)) later none

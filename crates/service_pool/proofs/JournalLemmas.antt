@@ -11,6 +11,7 @@ use Rattle.service_pool.specs.Journal.{Journaled, opening, rebased, shortened, s
 use Rattle.service_pool.specs.History.{HasLast}
 use Rattle.service_pool.proofs.StepLemmas.{replay-append, keep_all}
 
+-- a journal has the last of all steps still as a full one starts empty with its present numbers as its base
 has_last-rebased : (start : Numbers) (past : List PoolStep) (j : Journaled) → HasLast start past j → HasLast start past (rebased j)
 has_last-rebased start past j h = go (length j.steps == j.room) refl
   where
@@ -18,6 +19,7 @@ has_last-rebased start past j h = go (length j.steps == j.room) refl
     go true e = rw e (record { earlier = past; joined = sym (append-nil past); base = h.numbers; numbers = h.numbers })
     go false e = rw e h
 
+-- a journal has the last of all steps still as its oldest step goes into the base
 has_last-shortened : (start : Numbers) (past : List PoolStep) (j : Journaled) (ss : List PoolStep) → ss ≡ j.steps → HasLast start past j
     → HasLast start past (shortened j ss)
 has_last-shortened start past j [] e h = h
@@ -28,6 +30,7 @@ has_last-shortened start past j (s ∷ ss) e h = record {
   numbers = h.numbers;
 }
 
+-- a journal has the last of all steps still as a full one lets its oldest step go
 has_last-slid : (start : Numbers) (past : List PoolStep) (j : Journaled) → HasLast start past j → HasLast start past (slid j)
 has_last-slid start past j h = go (length j.steps == j.room) refl
   where
@@ -35,6 +38,7 @@ has_last-slid start past j h = go (length j.steps == j.room) refl
     go true e = rw e (has_last-shortened start past j j.steps refl h)
     go false e = rw e h
 
+-- a journal that takes a step has the last of all steps with it
 has_last-pushed : (start : Numbers) (past : List PoolStep) (j : Journaled) (s : PoolStep) → HasLast start past j
     → HasLast start (past ++ s ∷ []) (pushed j s)
 has_last-pushed start past j s h = record {
@@ -56,11 +60,13 @@ has_last-run make_room keeps start past j (s ∷ ss) h =
     (has_last-pushed start past (make_room j) s (keeps start past j h)) in
     rw (append_assoc past (s ∷ []) ss) at next
 
+-- a window that begins with no step has, after more steps, the last of them
 pub windows-have_last : (start : Journaled) (ss : List PoolStep) → start.base ≡ start.numbers → start.steps ≡ []
     → HasLast start.numbers ss (run slid start ss)
 windows-have_last start ss fresh empty =
     has_last-run slid has_last-slid start.numbers [] start ss (record { earlier = []; joined = sym empty; base = fresh; numbers = refl })
 
+-- a journal that begins with no step, and starts empty when it is full, has the last of all steps
 pub rebasing-has_last : (start : Journaled) (ss : List PoolStep) → start.base ≡ start.numbers → start.steps ≡ []
     → HasLast start.numbers ss (run rebased start ss)
 rebasing-has_last start ss fresh empty =
@@ -84,6 +90,7 @@ last-of_more past s room some full =
     let more : n + 1 ≡ length (past ++ s ∷ []) - room = omega (arith, length-append past (s ∷ []), long) in
     ap (λ l. l ++ s ∷ []) (drop-drop 1 n past) ∙ sym (drop-append-le (n + 1) past (s ∷ []) le) ∙ ap (λ k. drop k (past ++ s ∷ [])) more
 
+-- last steps that don't fill their room, with one more, are the last of all with it
 last-of_few : (past : List PoolStep) (s : PoolStep) (room : ℕ) → (length (keep_last room past) ≡ room → ⊥)
     → keep_last room past ++ s ∷ [] ≡ keep_last room (past ++ s ∷ [])
 last-of_few past s room not =
@@ -97,6 +104,7 @@ last-of_few past s room not =
           ap (λ k. drop k past ++ s ∷ []) none ∙ ap (λ k. drop k (past ++ s ∷ [])) (sym still)
     ]
 
+-- a window of the last steps has, after one more, the last of all with it, and the same room
 window-steps : (j : Journaled) (past : List PoolStep) (s : PoolStep) → 0 < j.room → j.steps ≡ keep_last j.room past
     → ((stepped slid j s).steps ≡ keep_last j.room (past ++ s ∷ [])) × ((stepped slid j s).room ≡ j.room)
 window-steps j past s some e =
@@ -108,6 +116,7 @@ window-steps j past s some e =
       | inr t ↦ rw t.0 (ap (λ l. l ++ s ∷ []) e ∙ last-of_few past s j.room (λ full. t.1 (ap (λ l. length l) e ∙ full)), refl)
     ]
 
+-- a window of the last steps has, after several more, the last of all with them
 windows-run : (j : Journaled) (past ss : List PoolStep) → 0 < j.room → j.steps ≡ keep_last j.room past
     → (run slid j ss).steps ≡ keep_last j.room (past ++ ss)
 windows-run j past [] some e = e ∙ ap (λ l. keep_last j.room l) (sym (append-nil past))
@@ -118,5 +127,6 @@ windows-run j past (s ∷ ss) some e =
     (one.0 ∙ ap (λ r. keep_last r (past ++ s ∷ [])) (sym one.1)) in
     next ∙ ap (λ r. keep_last r (past ++ s ∷ [] ++ ss)) one.1 ∙ ap (λ l. keep_last j.room l) (append_assoc past (s ∷ []) ss)
 
+-- a window that begins with no step has as many of the last steps as it has room for
 pub windows-keep_last : (b : Numbers) (room : ℕ) (ss : List PoolStep) → 0 < room → (run slid (opening b room) ss).steps ≡ keep_last room ss
 windows-keep_last b room ss some = windows-run (opening b room) [] ss some (sym (keep_all room [] (omega arith)))

@@ -79,6 +79,7 @@ sound-first j s ss h =
       room = h.room;
     }
 
+-- a sound window stays so as its oldest step goes into the base
 sound-slid : (j : Journaled) (s : PoolStep) (ss : List PoolStep) (b : Numbers) → IsSound j → j.steps ≡ s ∷ ss → b ≡ after j.base s
     → IsSound (record j { base = b; steps = ss })
 sound-slid j s ss b h e is =

@@ -44,6 +44,7 @@ pub lends_within : {Q A : Type 0} {now most seconds : ℕ} {asked : Latest} {lea
     → most ≡ seconds → LendsBy now most asked lease → LendsBy now seconds asked lease
 lends_within {now = now} {asked = asked} {lease = lease} same lends = subst (λ seconds. LendsBy now seconds asked lease) same lends
 
+-- what was put back under some limit of idle seconds was so under the configured one, if they are equal
 pub puts_within : {most seconds : ℕ} {asked : Latest} → most ≡ seconds → PutsBy most asked → PutsBy seconds asked
 puts_within {asked = asked} same puts = subst (λ seconds. PutsBy seconds asked) same puts
 

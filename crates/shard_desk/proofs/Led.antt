@@ -21,6 +21,7 @@ pub record Led (before after : List Doing → Type 0) (taken spent : ℕ) : Type
 pub led_none : (before : List Doing → Type 0) → Led before before 0 0
 led_none before = record { doings = []; past = λ past h. h; on = tt; many = refl; rounds_are = refl }
 
+-- a step may come after those so far, unless it is at a connection and as much was done there as a turn has
 may_step : (phase : Phase) (before after : List Doing → Type 0) (taken spent : ℕ) (led : Led before after taken spent)
     → (is_round phase ≡ true → spent < ROUNDS) → MayStep phase led.doings
 may_step phase before after taken spent led room is = subst (λ (n : ℕ). n < ROUNDS) (sym led.rounds_are) (room is)

@@ -12,6 +12,7 @@ record Mid {C : Type 0} (old all rest : List C) (j : ℕ) (x : C) : Type 0 where
   without : remove all j ≡ take j old ++ rest
   parts : old ≡ take j old ++ x ∷ drop (suc j) old
 
+-- the last of the first old connections stands between those before it and the rest
 mid : {C : Type 0} → (old rest : List C) (j : ℕ) (x : C) → j < length old → x ≡ slice_index_or (take (suc j) old ++ rest) j x
     → Mid old (take (suc j) old ++ rest) rest j x
 mid [] rest j x h e = absurd (omega (arith, h))
@@ -44,6 +45,7 @@ begins stays goes old k h = record {
   sifted = subst (λ l. IsSifted stays goes l []) (sym (drop_all k old h)) refl;
 }
 
+-- the connection to which a walk comes next stands between those before it and the rest
 mid_of : {C : Type 0} → (stays goes : C → Type 0) → (old all : List C) (k j : ℕ) (x : C) → (w : Walked stays goes old all k) → k ≡ suc j
     → j < length old
     → x ≡ slice_index_or all j x → Mid old all w.rest j x
@@ -107,6 +109,7 @@ walks_on leads fit unfit unsure old all new k j w e h (x, at, inl (lead, bad, go
 walks_on leads fit unfit unsure old all new k j w e h (x, at, inr (stay, same)) =
     stays_on (λ idle. (leads idle → ⊥) ⊎ unsure idle) (λ idle. leads idle × unfit idle) old all new k j x w e h at same stay
 
+-- a walk comes one place further with one that stays or goes there
 pub sifts_on : {C : Type 0} → (stays goes : C → Type 0) → (old all new : List C) (k j : ℕ)
     → Walked stays goes old all k → k ≡ suc j → j < length old → IsSiftedAt stays goes j all new → Walked stays goes old new j
 sifts_on stays goes old all new k j w e h (x, at, inl (go, gone)) = goes_away stays goes old all new k j x w e h at gone go
@@ -116,9 +119,11 @@ sifts_on stays goes old all new k j w e h (x, at, inr (stay, same)) = stays_on s
 pub one_less : (count passed : ℕ) → passed < count → count - passed ≡ suc (count - 1 - passed)
 one_less count passed h = omega (arith, h)
 
+-- the next index, counted from the end, is below the count
 pub below : (count passed : ℕ) → passed < count → count - 1 - passed < count
 below count passed h = omega (arith, h)
 
+-- as many are left when one more has passed as when there is one less
 pub index_after : (count passed : ℕ) → count - (passed + 1) ≡ count - 1 - passed
 index_after count passed = omega arith
 

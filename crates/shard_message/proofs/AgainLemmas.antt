@@ -27,6 +27,7 @@ pub still_come : (text more : List ℕ) (side : SourceSide) → more ≡ [] → 
 still_come text more side e has_come = subst (λ (read : List ℕ). HasCome read side)
     (ap (λ (bytes : List ℕ). text ++ bytes) e ∙ append-nil text) has_come
 
+-- what has come of a side has come with no bytes after it as well
 pub come_with_none : (text : List ℕ) (side : SourceSide) → HasCome text side → HasCome (text ++ []) side
 come_with_none text side has_come = subst (λ (read : List ℕ). HasCome read side) (sym (append-nil text)) has_come
 

@@ -21,6 +21,7 @@ use Rattle.shard_message.specs.Ended.{message_in}
 use Rattle.shard_message.specs.declared.ended.Sequel.{Sequel}
 use Rattle.shard_message.specs.declared.ended.Sequel.TheVariants as sequels
 
+-- a sequel that brings at most a next request of a kind brings it as one of a wider kind
 pub brings_more : {M : Type 0} (response next again further : M → Type 0) (sequel : Sequel M)
     → ((message : M) → next message → further message)
     → Brings (λ _. ⊥) next (λ _. ⊥) sequel → Brings response further again sequel
@@ -38,6 +39,7 @@ pub told_lines : {L : Type 0} (items : L → List ℕ) (told lines : List ℕ) (
 told_lines items told lines None is there = absurd there
 told_lines items told lines (Some c) is there = there ∙ is
 
+-- a sequel that brings a response of a kind brings it as one of a wider kind, whatever else it brings
 pub brings_told : {M : Type 0} (response told : M → Type 0) (sequel : Sequel M) → ((message : M) → response message → told message)
     → Brings response (λ _. ⊤) (λ _. ⊤) sequel → Brings told (λ _. ⊤) (λ _. ⊤) sequel
 brings_told response told (sequels.Sent None) more brings = tt
@@ -48,6 +50,7 @@ brings_told response told (sequels.Withdrawn None) more brings = tt
 brings_told response told (sequels.Withdrawn (Some message)) more brings = tt
 brings_told response told (sequels.Failed cause is_old) more brings = tt
 
+-- the response that a sent request brings comes by the end that says whether memory was found for it
 sent_by : {M : Type 0} (response next again : M → Type 0) (message : Option (Box M Global)) (has_memory : Bool)
     → has_memory ≡ is_some message
     → Brings response next again (sequels.Sent message) → IsNextBy response next again (ends.Sent has_memory) message
@@ -56,6 +59,7 @@ sent_by response next again None true e brings = absurd cc
 sent_by response next again (Some message) false e brings = absurd cc
 sent_by response next again (Some message) true e brings = brings
 
+-- the next request that an answer brings comes by the end that keeps the connection just where there is one
 answered_by : {M : Type 0} (response next again : M → Type 0) (message : Option (Box M Global)) (lasting keeps lasts : Bool)
     → keeps ≡ is_some message
     → Brings response next again (sequels.Answered message lasting) → IsNextBy response next again (ends.Answered keeps lasts) message
@@ -64,6 +68,7 @@ answered_by response next again None lasting true lasts e brings = absurd cc
 answered_by response next again (Some message) lasting false lasts e brings = absurd cc
 answered_by response next again (Some message) lasting true lasts e brings = brings
 
+-- the request that a withdrawal brings again comes by the end that says whether memory was found for it
 withdrawn_by : {M : Type 0} (response next again : M → Type 0) (message : Option (Box M Global)) (has_memory : Bool)
     → has_memory ≡ is_some message
     → Brings response next again (sequels.Withdrawn message) → IsNextBy response next again (ends.Withdrawn has_memory) message
@@ -72,6 +77,7 @@ withdrawn_by response next again None true e brings = absurd cc
 withdrawn_by response next again (Some message) false e brings = absurd cc
 withdrawn_by response next again (Some message) true e brings = brings
 
+-- the message of a sequel is the one that comes by the end of that sequel
 next_by : {M : Type 0} (response next again : M → Type 0) (point : Point) (sequel : Sequel M) (end : End)
     → Brings response next again sequel → IsEndOf point sequel end
     → IsNextBy response next again end (message_in sequel)
@@ -156,6 +162,7 @@ brings_closed response next x y false outcome onward carries lasts old (sequels.
 lasts_as : (lasting : Type 0) (lasts told found : Bool) → (lasts ≡ true ↔ lasting) → found ≡ lasts → told ≡ found → told ≡ true ↔ lasting
 lasts_as lasting lasts told found is f t = subst (λ (z : Bool). z ≡ true ↔ lasting) (sym (t ∙ f)) is
 
+-- the end of the sequel of a transaction that is done is one of such a transaction
 ends_done : {M : Type 0} (point : Point) (onward carries lasting bars : Type 0) (lasts may old : Bool) (sequel : Sequel M) (end : End)
     → (lasts ≡ true ↔ lasting)
     → IsSequel Done onward carries lasts may old sequel → IsEndOf point sequel end → EndsAs point Done onward carries lasting bars end
@@ -181,6 +188,7 @@ ends_done point onward carries lasting bars lasts may old (sequels.Answered mess
 ends_done point onward carries lasting bars lasts may old (sequels.Withdrawn message) end found is e = absurd is
 ends_done point onward carries lasting bars lasts may old (sequels.Failed cause is_old) end found is e = absurd is
 
+-- the end of the sequel of a transaction that failed is one of a transaction that failed for that cause
 ends_failed : {M : Type 0} (point : Point) (cause : Cause) (onward carries : Type 0) (further carries_further lasting bars : Type 0)
     (lasts may old : Bool) (sequel : Sequel M) (end : End)
     → (may ≡ false → bars) → IsSequel (Fail cause) onward carries lasts may old sequel → IsEndOf point sequel end
@@ -216,6 +224,7 @@ ends_failed point cause onward carries further carries_further lasting bars last
 ends_failed point cause onward carries further carries_further lasting bars lasts may old (sequels.Failed why is_old) ends.Lost b is e =
     subst (λ (z : Cause). is_user_lost z point ≡ true) is.0 e
 
+-- the end of the sequel of a transaction, done or failed, goes by what the transaction was
 ends_closed : {M T : Type 0} (point : Point) (onward carries lasting : T → Type 0) (bars : Type 0) (x y : T) (outcome : Outcome)
     (lasts may old : Bool) (sequel : Sequel M) (end : End)
     → x ≡ y → (lasts ≡ true ↔ lasting x) → (may ≡ false → bars) → IsSequel outcome (onward x) (carries x) lasts may old sequel
@@ -248,6 +257,7 @@ ends_told point onward carries lasting bars x y false outcome lasts may old sequ
     itself_with by (λ i e. ends_failed point Stopping (onward x) (carries x) (onward y) (carries y) (lasting y) bars lasts may old sequel
     end (b i) is e) itself
 
+-- a sequel ends with a withdrawal only where its request may be withdrawn
 withdrawn_is : {M : Type 0} (point : Point) (outcome : Outcome) (onward carries : Type 0) (lasts may old has_memory : Bool)
     (sequel : Sequel M)
     → IsSequel outcome onward carries lasts may old sequel → IsEndOf point sequel (ends.Withdrawn has_memory) → may ≡ true

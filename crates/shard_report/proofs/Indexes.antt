@@ -35,6 +35,7 @@ all = Requests ∷ Retries ∷ Read ∷ Sent ∷ Users ∷ Milliseconds
 abbrev at : ℕ → Count
 at index = get_or all index Requests
 
+-- the list of all counts has each of them at its index
 found : (count : Count) → at (index_of count) ≡ count
 found Requests = refl
 found Retries = refl
@@ -79,5 +80,6 @@ found (Failures Reqmod (Failed BadRequest)) = refl
 found (Failures Respmod (Failed BadRequest)) = refl
 found _ = refl
 
+-- counts of the same index are the same
 pub one_index : (one other : Count) → index_of one ≡ index_of other → one ≡ other
 one_index one other e = sym (found one) ∙ ap at e ∙ found other

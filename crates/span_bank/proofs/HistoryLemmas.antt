@@ -14,6 +14,7 @@ record Adds (b : Numbers) (s : BankStep) : Type 0 where
   pub held : (after b s).held + shrunk s ≡ b.held + grown s
   pub claimed : (after b s).claimed + released s ≡ b.claimed + reserved s
 
+-- an allowed step changes each total by what it adds and takes off
 adds : (b : Numbers) (s : BankStep) → IsAllowed b s → Adds b s
 adds b (Open claim) m = record { rows = omega arith; held = refl; claimed = omega arith }
 adds b (Grow n) m = record { rows = refl; held = omega arith; claimed = refl }
@@ -22,6 +23,7 @@ adds b (Reclaim old new) m = record { rows = refl; held = refl; claimed = omega 
 adds b (Close claim) m = record { rows = omega (arith, m.0); held = refl; claimed = omega (arith, m.1) }
 adds b (Capacity n) m = record { rows = refl; held = refl; claimed = refl }
 
+-- the last capacity that steps set is the last one set after the first step, or else the one that stands after it
 sets : (b : Numbers) (s : BankStep) (ss : List BankStep) → set_last (after b s).capacity ss ≡ set_last b.capacity (s ∷ ss)
 sets b (Open claim) ss = refl
 sets b (Grow n) ss = refl
@@ -30,6 +32,7 @@ sets b (Reclaim old new) ss = refl
 sets b (Close claim) ss = refl
 sets b (Capacity n) ss = refl
 
+-- the totals after allowed steps are those before, with what they add and without what they take off
 pub adds_up : (b : Numbers) (ss : List BankStep) → AreAllowed b ss → AddsUp b ss (replay b ss)
 adds_up b [] all = record { rows = refl; held = refl; claimed = refl; capacity = refl }
 adds_up b (s ∷ ss) all =

@@ -12,6 +12,7 @@ use Rattle.std.proofs.Math.Seq.{take-append-add, drop-append-add}
 abbrev tape_of : ℕ → ℕ → List ℕ → Tape
 tape_of b s l = record { base = b; start = s; bytes = l }
 
+-- after a whole page of a text its bytes go on from the next page
 pub next_page : (T p r : List ℕ) (i : ℕ) → length p ≡ 4096 → p ++ r ≡ drop (4096 * i) T → r ≡ drop (4096 * (i + 1)) T
 next_page T p r i n e =
     let more : 4096 * i + 4096 ≡ 4096 * (i + 1) = omega arith in
@@ -24,6 +25,7 @@ between T start len gone le =
     ap (λ k. drop gone (take k (drop start T))) parts ∙ drop-take gone (len - gone) (drop start T)
     ∙ ap (λ l. take (len - gone) l) (drop-drop gone start T)
 
+-- a part of a text without its first bytes begins on the page of the byte after them
 pub dropped : (T : List ℕ) (start len gone : ℕ) → gone ≤ len
     → take (len - gone) (drop ((start + gone) % 4096) (drop (4096 * ((start + gone) / 4096)) T)) ≡ drop gone (take len (drop start T))
 dropped T start len gone le =
@@ -31,11 +33,13 @@ dropped T start len gone le =
     ap (λ l. take (len - gone) l) (drop-drop ((start + gone) % 4096) (4096 * ((start + gone) / 4096)) T ∙ ap (λ k. drop k T) whole)
     ∙ sym (between T start len gone le)
 
+-- bytes of a part of a text, after some that are skipped, are those of the text at their place
 pub copied : (T : List ℕ) (start len skipped count : ℕ) → skipped ≤ len → count ≤ len - skipped
     → take count (drop (start + skipped) T) ≡ take count (drop skipped (take len (drop start T)))
 copied T start len skipped count le few =
     sym (ap (λ l. take count l) (between T start len skipped le) ∙ take-take count (len - skipped) (drop (start + skipped) T) few)
 
+-- bytes put after the filled part of a text stand after what lies in it from a place on
 pub appended : (old new more : List ℕ) (start len : ℕ) → start + len ≤ length old
     → take (start + len + length more) new ≡ take (start + len) old ++ more
     → take (len + length more) (drop start new) ≡ take len (drop start old) ++ more
@@ -101,6 +105,7 @@ before_end T base start len place long lt =
       | inr e ↦ let no : ⊥ = omega (arith, e.1, size, lt) in absurd no
     ]
 
+-- the first bytes of a list, with those right after them, are its first bytes, as many as both
 take_on : (xs : List ℕ) (w n : ℕ) → take w xs ++ take n (drop w xs) ≡ take (w + n) xs
 take_on xs w n =
     let front : w ≤ w + n = omega arith in
@@ -118,6 +123,7 @@ another_copied T P N out more at from done m size fits e before is =
     sym (take-append-le m (drop from P) N few) ∙ ap (λ l. take m l) (sym (drop-append-le from P N low) ∙ e ∙ sym (drop-drop done at T)) in
     is ∙ ap (λ l. l ++ take m (drop from P)) before ∙ ap (λ l. take done (drop at T) ++ l) here ∙ take_on (drop at T) done m
 
+-- where bytes of a text fill the rest of a page, the text goes on at the next page's first byte
 pub next_text : (T P N : List ℕ) (at from done m : ℕ) → length P ≡ 4096 → from + m ≡ 4096 → drop from (P ++ N) ≡ drop (at + done) T
     → drop 0 N ≡ drop (at + (done + m)) T
 next_text T P N at from done m size full e =
@@ -148,6 +154,7 @@ length_down (p ∷ ps) = omega (arith, length-append (down_of ps) p, length-appe
 pub before_last : (D N P : List ℕ) (R n : ℕ) → length N ≡ n → n ≤ R → N ++ P ≡ take R D → N ≡ take n D
 before_last D N P R n size le e = sym (take_at N P n size) ∙ ap (λ l. take n l) e ∙ take-take n R D le
 
+-- bytes on the last of some first pages are those of the whole text at their place
 on_last_page : (D N P : List ℕ) (R p n j : ℕ) → N ++ P ≡ take R D → p ≡ length N + j → p + n ≤ R → take n (drop j P) ≡ take n (drop p D)
 on_last_page D N P R p n j e at le =
     let rest = R - (p + n) in

@@ -31,12 +31,14 @@ use Rattle.world_ties.proofs.Counted.{bank_takes}
 
 -- One step.
 
+-- no event raises the reservation
 claim_falls : (x : Seen) (event : Event) (claim window : ℕ) → claim_then x event claim window ≤ claim
 claim_falls x Continue claim window = falls x claim window
 claim_falls x NoMod claim window = falls x claim window
 claim_falls x (Mod payload) claim window = falls x claim window
 claim_falls x _ claim window = omega arith
 
+-- an event that brings no bytes takes none of those that wait
 none_brought : (event : Event) (bytes : List ℕ) → BringsNone event → take (brought event) bytes ≡ []
 none_brought (In n) bytes b = absurd b
 none_brought (Ad n) bytes b = absurd b
@@ -52,6 +54,7 @@ step_shows : (h : Holding) (event : Event) (bytes : List ℕ) → IsTied h → M
     → shows (moved h event bytes).history ≡ after (shows h.history) event
 step_shows h event bytes t m = then_shows h event (history_then h.history event) t m refl
 
+-- a tied holding stays tied after an event that may follow and brings no bytes
 quiet_tied : (h : Holding) (event : Event) → IsTied h → MayFollow h.history.plan h.history.events event → BringsNone event
     → IsTied (moved h event [])
 quiet_tied h event t m b = let s = brings_none h event m b in moved-tied h event [] t s (still_fits h event t s b)
@@ -62,6 +65,7 @@ record Keeps (old new : Span) (place : ℕ) : Type 0 where
   end : place < span_end new
   byte : new.base ≤ place → byte_at new place ≡ byte_at old place
 
+-- after an event of a tied holding a place before a tape's end still is, no base is lower, and a kept byte is the same
 keeps : (tape : Tape) (h : Holding) (event : Event) (bytes : List ℕ) (place : ℕ) → IsTied h → Steps h event bytes
     → place < span_end (tape_of tape h) → Keeps (tape_of tape h) (tape_of tape (moved h event bytes)) place
 keeps Original h event bytes place t s p =
@@ -96,6 +100,7 @@ on_tape Adapted place h _ t m s = absurd s
 
 -- Events that bring nothing.
 
+-- a tied holding takes by itself a script without bytes and retries that may follow
 runs_quiet : (h : Holding) (script : List Event) (bytes : List ℕ) → IsTied h → AreQuiet script → MayAllFollow (shows h.history) script
     → RunsAlone h script bytes
 runs_quiet h [] bytes t q m = tt
@@ -118,6 +123,7 @@ abbrev Sent : Tape → ℕ → Holding → List Event → List ℕ → Type 0
 Sent tape place h script bytes =
     ((tape_of tape h).base ≤ place) × SendsByte tape place (byte_at (tape_of tape h) place) h script bytes
 
+-- a byte that stays on its tape after an event, and is sent then, is sent with that event before
 sent_then : (tape : Tape) (place : ℕ) (h : Holding) (event next : Event) (script : List Event) (bytes own : List ℕ)
     → own ≡ take (brought event) bytes
     → Keeps (tape_of tape h) (tape_of tape (moved h event own)) place
@@ -131,6 +137,7 @@ sent_then tape place h event next script bytes own e k r =
       subst (λ (bs : List ℕ). SendsByte tape place (byte_at (tape_of tape h) place) (moved h event bs) (next ∷ script) others) e same,
     )
 
+-- a script without bytes and retries that leads a tied holding to a place before its tape's end sends its byte
 sends_quiet : (tape : Tape) (place : ℕ) (h : Holding) (script : List Event) (bytes : List ℕ) → IsTied h → AreQuiet script
     → Leads tape place (shows h.history) script → place < span_end (tape_of tape h) → Sent tape place h script bytes
 sends_quiet tape place h [] bytes t q l p = absurd l
@@ -145,18 +152,22 @@ sends_quiet tape place h (event ∷ next ∷ script) bytes t q l p =
 
 -- Bytes of the source come first.
 
+-- each event of a script that may follow with a lease and a claim may follow those before it
 may_all : (claim : ℕ) (x : Seen) (script : List Event) → Follows (Some 0) claim x script → MayAllFollow x script
 may_all claim x [] f = tt
 may_all claim x (event ∷ script) f = (f.0.0, f.0.1, may_all claim (after x event) script f.3)
 
+-- where all bytes of a script are there, its first event's bytes are as many as it counts
 own_bytes : (n : ℕ) (rest : List Event) (bytes : List ℕ) → brought_all (In n ∷ rest) ≤ length bytes
     → length (take (brought (In n)) bytes) ≡ n
 own_bytes n rest bytes c = let own = length-take-le (brought (In n)) bytes (omega (arith, c)) in omega arith
 
+-- a tied holding stays tied after bytes of the source that its reservation has room for
 in_tied : (h : Holding) (n : ℕ) (own : List ℕ) → IsTied h → Steps h (In n) own → held_places (shows_then h.history (In n)) ≤ h.claim
     → IsTied (moved h (In n) own)
 in_tied h n own t s room = moved-tied h (In n) own t s room
 
+-- a tied holding takes by itself a script that may follow and brings only source bytes, first, if they are there
 runs_first : (h : Holding) (n : ℕ) (rest : List Event) (bytes : List ℕ) → IsTied h → AreQuiet rest
     → Follows (Some 0) h.claim (shows h.history) (In n ∷ rest)
     → brought_all (In n ∷ rest) ≤ length bytes → RunsAlone h (In n ∷ rest) bytes
@@ -173,10 +184,12 @@ runs_first h n rest bytes t q f c =
       runs_quiet (moved h (In n) own) rest (drop (brought (In n)) bytes) tied q may,
     )
 
+-- bytes that come from the source send no place
 no_sent_in : (tape : Tape) (x : Seen) (n place : ℕ) → Sends tape x (In n) place → ⊥
 no_sent_in Original x n place s = s
 no_sent_in Adapted x n place s = s
 
+-- a script that brings only source bytes, first, and leads a tied holding to a place before its tape's end sends its byte
 sends_first : (tape : Tape) (place : ℕ) (h : Holding) (n : ℕ) (rest : List Event) (bytes : List ℕ) → IsTied h → AreQuiet rest
     → Follows (Some 0) h.claim (shows h.history) (In n ∷ rest)
     → brought_all (In n ∷ rest) ≤ length bytes → Leads tape place (shows h.history) (In n ∷ rest)
@@ -192,12 +205,14 @@ sends_first tape place h n (next ∷ rest) bytes t q f c l p =
 
 -- Both.
 
+-- the script of a place that a tied and wide holding has held may follow within its claim
 followed : (h : Holding) (tape : Tape) (place : ℕ) → IsTied h → IsWide h → IsIn (held_on tape (shows h.history)) place
     → Follows (Some 0) h.claim (shows h.history) (script_of tape (shows h.history) place)
 followed h tape place t w i =
     let within : held_places (shows h.history) ≤ h.claim = let e = held_before h t in let v = t.within in omega arith in
     follows tape place (Some 0) h.claim (shows h.history) (sound h.history.plan h.history.events t.legal) w within tt i
 
+-- a tied and wide holding takes the script of a held place by itself, where its bytes are there
 pub runs_alone : (h : Holding) (tape : Tape) (place : ℕ) (bytes : List ℕ) → IsTied h → IsWide h
     → IsIn (held_on tape (shows h.history)) place → brought_all (script_of tape (shows h.history) place) ≤ length bytes
     → RunsAlone h (script_of tape (shows h.history) place) bytes
@@ -213,11 +228,13 @@ runs_alone h tape place bytes t w i c =
         (subst (Follows (Some 0) h.claim (shows h.history)) s.is f)
         (subst (λ (es : List Event). brought_all es ≤ length bytes) s.is c))
 
+-- a held place of a tied holding is before its tape's end
 end_of_held : (tape : Tape) (h : Holding) (place : ℕ) → IsTied h → IsIn (held_on tape (shows h.history)) place
     → place < span_end (tape_of tape h)
 end_of_held Original h place t i = let e = ap (λ (p : ℕ × ℕ). p.1) t.original in let high = i.1 in omega arith
 end_of_held Adapted h place t i = let e = ap (λ (p : ℕ × ℕ). p.1) t.adapted in let high = i.1 in omega arith
 
+-- the script of a place that a tied and wide holding has held sends the byte now at the place, if its bytes are there
 pub sends_byte : (h : Holding) (tape : Tape) (place : ℕ) (bytes : List ℕ) → IsTied h → IsWide h
     → IsIn (held_on tape (shows h.history)) place → brought_all (script_of tape (shows h.history) place) ≤ length bytes
     → SendsByte tape place (byte_at (tape_of tape h) place) h (script_of tape (shows h.history) place) bytes

@@ -29,6 +29,7 @@ passed_by : {X : Type 0} (test : Bool) (first second : X) → test ≡ false →
 passed_by true first second e = absurd cc
 passed_by false first second e = refl
 
+-- what others do leaves a transaction open as it was
 pub open_amid : (t : ℕ) (others before : List WorldEvent) → AreOfOthers t others → open_at t (others ++ before) ≡ open_at t before
 open_amid t [] before a = refl
 open_amid t (Lease u s ∷ others) before a = open_amid t others before a.1
@@ -40,6 +41,7 @@ open_amid t (Close u ∷ others) before a = passed_by (u == t) _ _ a.0 ∙ open_
 open_amid t (Limit s n ∷ others) before a = open_amid t others before a.1
 open_amid t (Capacity n ∷ others) before a = open_amid t others before a.1
 
+-- what others do leaves a transaction its lease, or none, as before
 pub lease_amid : (t : ℕ) (others before : List WorldEvent) → AreOfOthers t others → lease_of t (others ++ before) ≡ lease_of t before
 lease_amid t [] before a = refl
 lease_amid t (Lease u s ∷ others) before a = passed_by (u == t) _ _ a.0 ∙ lease_amid t others before a.1
@@ -58,6 +60,7 @@ rows_same : (needs leased retry reused reused' crowded crowded' over : Bool) →
 rows_same needs leased true reused reused' crowded crowded' over e = absurd cc
 rows_same needs leased false reused reused' crowded crowded' over e = refl
 
+-- but for a retry, an event has the same fault by two findings of its connection that both have a lease or both have none
 fault_by_lease : (o : Option Opened) (found other : LeaseState) (event : Event) → is_retry event ≡ false → found.leased ≡ other.leased
     → opened_event_fault o found event ≡ opened_event_fault o other event
 fault_by_lease None found other event r l = refl
@@ -78,6 +81,7 @@ of_amid w before others t event a r =
     ∙ fault_by_lease (open_at t before) (found_at w t (others ++ before)) (found_at w t before) event r
     (ap (λ (lease : Option ℕ). is_some lease) (lease_amid t others before a))
 
+-- what others do changes no answer to the return of a transaction's connection
 back_amid : (w : Setting) (before others : List WorldEvent) (t : ℕ) (kept : Bool) → AreOfOthers t others
     → world_fault w (others ++ before) (Back t kept) ≡ world_fault w before (Back t kept)
 back_amid w before others t kept a =
@@ -86,6 +90,7 @@ back_amid w before others t kept a =
     ap (λ (lease : Option ℕ). row lease (open_at t (others ++ before))) (lease_amid t others before a)
     ∙ ap (row (lease_of t before)) (open_amid t others before a)
 
+-- what others do changes no answer to a transaction's own event, other than a lease, its opening or a retry
 pub fault_amid : (w : Setting) (before others : List WorldEvent) (t : ℕ) (event : WorldEvent) → AreOfOthers t others
     → IsOfItself t event → world_fault w (others ++ before) event ≡ world_fault w before event
 fault_amid w before others t (Of u event) a i =
@@ -107,12 +112,14 @@ fault_amid w before others t (Capacity n) a i = absurd i
 
 -- a script, event by event
 
+-- an open transaction is open after an event of its own, which is the newest of its part
 open_more : (t : ℕ) (event : Event) (before : List WorldEvent) (o : Opened) → open_at t before ≡ Some o
     → open_at t (Of t event ∷ before) ≡ Some (record { plan = o.plan; part = event ∷ o.part; claim = o.claim })
 open_more t event before o e =
     cond_both (t == t) _ _ (λ (x : Option Opened). x ≡ Some (record { plan = o.plan; part = event ∷ o.part; claim = o.claim }))
     (λ yes. ap (λ (x : Option Opened). with_event event x) e) (λ no. let yes = eq-eqb t t refl in absurd cc)
 
+-- a script that may follow an open transaction goes on amid whatever others do
 goes_on : (w : Setting) (t : ℕ) (before : List WorldEvent) (o : Opened) (script : List Event) → open_at t before ≡ Some o
     → Follows (lease_of t before) o.claim (shown o) script → GoesOnAmid w t before script
 goes_on w t before o [] e f = tt
@@ -125,6 +132,7 @@ goes_on w t before o (event ∷ script) e f = λ others a l.
           (open_more t event (others ++ before) o own) follows.3,
     )
 
+-- the script of a place that an open transaction holds goes on amid whatever others do
 pub script_amid : (w : Setting) (before : List WorldEvent) (tape : Tape) (t place : ℕ) (o : Opened) → IsLegalWorld w before
     → open_at t before ≡ Some o → IsIn (held_on tape (shown o)) place → GoesOnAmid w t before (script_of tape (shown o) place)
 script_amid w before tape t place o l e i =

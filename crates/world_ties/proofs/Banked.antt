@@ -28,6 +28,7 @@ use Rattle.world_ties.proofs.Summing.{sum_unless, sum_changed}
 
 -- An open transaction is one that was opened.
 
+-- a transaction that is open was opened at some time
 pub was_open : (t : ℕ) (events : List WorldEvent) → is_some (open_at t events) ≡ true → was_opened t events ≡ true
 was_open t [] h = absurd cc
 was_open t (Open u plan claim ∷ before) h = by_case (u == t) (open_at t before) (was_opened t before) h (was_open t before)
@@ -61,9 +62,11 @@ was_open t (Capacity n ∷ before) h = was_open t before h
 
 -- The sums before and after an event of one transaction.
 
+-- at its own number a changed transaction is found
 at_own : (u : ℕ) (x y : Option Opened) → cond (u == u) x y ≡ x
 at_own u x y = cond_both (u == u) x y (λ o. o ≡ x) (λ yes. refl) (λ no. let yes = eq-eqb u u refl in absurd cc)
 
+-- where the number is another a transaction is found as it was
 at_other : (b : Bool) (x y : Option Opened) → b ≡ false → cond b x y ≡ y
 at_other true x y e = absurd cc
 at_other false x y e = refl
@@ -104,6 +107,7 @@ same_numbers a b r h k m =
 
 -- what is held of the open transactions is within what they claim
 
+-- after a legal history all places held are together within all claims
 pub held_within : (w : Setting) (events : List WorldEvent) → IsLegalWorld w events → held_in events ≤ claimed events
 held_within w events l =
     sum_less (λ t. held_at (open_at t events)) (λ t. claim_in (open_at t events)) (opened events)
@@ -115,14 +119,17 @@ held_within w events l =
 
 -- An event that is taken is of an open transaction.
 
+-- an event of a message that isn't refused is of an open transaction
 pub open_event : (o : Option Opened) (found : LeaseState) (e : Event) → opened_event_fault o found e ≡ None → is_some o ≡ true
 open_event None found e f = absurd cc
 open_event (Some o) found e f = refl
 
+-- another claim that isn't refused is of an open transaction
 pub open_claim : (o : Option Opened) (claim : ℕ) → opened_claim_fault o claim ≡ None → is_some o ≡ true
 open_claim None claim f = absurd cc
 open_claim (Some o) claim f = refl
 
+-- an end that isn't refused is of an open transaction
 pub open_close : (o : Option Opened) → opened_close_fault o ≡ None → is_some o ≡ true
 open_close None f = absurd cc
 open_close (Some o) f = refl
@@ -142,6 +149,7 @@ lower (Some o) claim f =
 none_held : (x : Seen) → x.closed ≡ true → held_places x ≡ 0
 none_held x c = grind (arith, nat_tests)
 
+-- a transaction whose end isn't refused holds nothing
 closed_holds : (o : Option Opened) → opened_close_fault o ≡ None → held_at o ≡ 0
 closed_holds None f = refl
 closed_holds (Some o) f = none_held (shown o) (is_so (shown o).closed (row_1 (not (shown o).closed) NotClosed f))
@@ -152,26 +160,32 @@ closed_holds (Some o) f = none_held (shown o) (is_so (shown o).closed (row_1 (no
 
 -- The totals after each event, by those before it.
 
+-- a message's event leaves its transaction open or not, as it was
 row_event : (e : Event) (o : Option Opened) → row_in (with_event e o) ≡ row_in o
 row_event e None = refl
 row_event e (Some o) = refl
 
+-- a message's event leaves its transaction's claim as it was
 claim_event : (e : Event) (o : Option Opened) → claim_in (with_event e o) ≡ claim_in o
 claim_event e None = refl
 claim_event e (Some o) = refl
 
+-- another claim leaves its transaction open or not, as it was
 row_claim : (claim : ℕ) (o : Option Opened) → row_in (with_claim claim o) ≡ row_in o
 row_claim claim None = refl
 row_claim claim (Some o) = refl
 
+-- another claim leaves its transaction as many places held
 held_claim : (claim : ℕ) (o : Option Opened) → held_at (with_claim claim o) ≡ held_at o
 held_claim claim None = refl
 held_claim claim (Some o) = refl
 
+-- an open transaction with another claim reserves just that
 own_claim : (claim : ℕ) (o : Option Opened) → is_some o ≡ true → claim_in (with_claim claim o) ≡ claim
 own_claim claim None h = absurd cc
 own_claim claim (Some o) h = refl
 
+-- an open transaction is one row
 row_open : (o : Option Opened) → is_some o ≡ true → row_in o ≡ 1
 row_open None h = absurd cc
 row_open (Some o) h = refl
@@ -183,6 +197,7 @@ pub record Changed (w : Setting) (before : List WorldEvent) (event : WorldEvent)
     pub held_is : held_in (event ∷ before) + held_off ≡ held_in before + held
     pub claimed_is : claimed (event ∷ before) + claim_off ≡ claimed before + claim
 
+-- an opening that is taken adds one row and its claim to the totals, and nothing held
 pub by_open : (w : Setting) (before : List WorldEvent) (t claim : ℕ) (plan : Plan) → IsLegalWorld w (Open t plan claim ∷ before)
     → Changed w before (Open t plan claim) 1 0 0 0 claim 0
 by_open w before t claim plan l =
@@ -198,6 +213,7 @@ by_open w before t claim plan l =
     none : (plan : Plan) → held_at (Some (record { plan = plan; part = []; claim = claim })) ≡ 0
     none plan = grind (arith, nat_tests)
 
+-- a message's event that is taken changes no total but what is held, and that by its own change
 pub by_event : (w : Setting) (before : List WorldEvent) (t : ℕ) (e : Event) → IsLegalWorld w (Of t e ∷ before)
     → Changed w before (Of t e) 0 0 (held_at (with_event e (open_at t before))) (held_at (open_at t before)) 0 0
 by_event w before t e l =
@@ -209,6 +225,7 @@ by_event w before t e l =
     let same_claim = claim_event e (open_at t before) in
     record { rows_are = omega arith; held_is = omega arith; claimed_is = omega arith }
 
+-- another claim that is taken changes no total but what is claimed, and that by its own change
 pub by_claim : (w : Setting) (before : List WorldEvent) (t claim : ℕ) → IsLegalWorld w (Reclaim t claim ∷ before)
     → Changed w before (Reclaim t claim) 0 0 0 0 claim (claim_in (open_at t before))
 by_claim w before t claim l =
@@ -221,6 +238,7 @@ by_claim w before t claim l =
     let own = own_claim claim (open_at t before) o in
     record { rows_are = omega arith; held_is = omega arith; claimed_is = omega arith }
 
+-- an end that is taken takes one row and its claim off the totals, and nothing held
 pub by_close : (w : Setting) (before : List WorldEvent) (t : ℕ) → IsLegalWorld w (Close t ∷ before)
     → Changed w before (Close t) 0 1 0 0 0 (claim_in (open_at t before))
 by_close w before t l =

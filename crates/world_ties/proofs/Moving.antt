@@ -29,6 +29,7 @@ adds-in : (x : Seen) (n : ℕ) → Sound x → x.closed ≡ false → Allows x (
     → held_places (after x (In n)) ≡ held_places x + cond (keeps_original x) n 0
 adds-in x n s c a = grind (arith, nat_tests)
 
+-- all bytes of the adapted body that come are held
 adds-ad : (x : Seen) (n : ℕ) → Sound x → x.closed ≡ false → Allows x (Ad n) → held_places (after x (Ad n)) ≡ held_places x + n
 adds-ad x n s c a = grind (arith, nat_tests)
 
@@ -40,24 +41,31 @@ adds-none x n s c a d = let e = subst (λ (keeps : Bool). held_places (after x (
 
 -- these leave as many
 
+-- the end of the source's body leaves as many places held
 stays-end : (x : Seen) → Sound x → x.closed ≡ false → Allows x End → held_places (after x End) ≡ held_places x
 stays-end x s c a = grind (arith, nat_tests)
 
+-- a last chunk to the service leaves as many places held
 stays-stop : (x : Seen) → Sound x → x.closed ≡ false → Allows x Stop → held_places (after x Stop) ≡ held_places x
 stays-stop x s c a = grind (arith, nat_tests)
 
+-- the first byte of a reply leaves as many places held
 stays-heard : (x : Seen) → Sound x → x.closed ≡ false → Allows x Heard → held_places (after x Heard) ≡ held_places x
 stays-heard x s c a = grind (arith, nat_tests)
 
+-- a 204 leaves as many places held
 stays-no_mod : (x : Seen) → Sound x → x.closed ≡ false → Allows x NoMod → held_places (after x NoMod) ≡ held_places x
 stays-no_mod x s c a = grind (arith, nat_tests)
 
+-- a transaction that is done holds as many places as just before
 stays-done : (x : Seen) → Sound x → x.closed ≡ false → Allows x Done → held_places (after x Done) ≡ held_places x
 stays-done x s c a = grind (arith, nat_tests)
 
+-- a retry leaves as many places held
 stays-retry : (x : Seen) → Sound x → x.closed ≡ false → Allows x Retry → held_places (after x Retry) ≡ held_places x
 stays-retry x s c a = grind (arith, nat_tests)
 
+-- any allowed event that is quiet leaves as many places held
 stays : (x : Seen) (event : Event) → Sound x → x.closed ≡ false → Allows x event → IsQuiet event
     → held_places (after x event) ≡ held_places x
 stays x End s c a q = stays-end x s c a
@@ -77,22 +85,28 @@ stays x (Fail cause) s c a q = absurd q
 
 -- and these let some go, or none
 
+-- bytes to the service leave at most as many places held
 falls-svc : (x : Seen) (n : ℕ) → Sound x → x.closed ≡ false → Allows x (Svc n) → held_places (after x (Svc n)) ≤ held_places x
 falls-svc x n s c a = grind (arith, nat_tests)
 
+-- a 100 leaves at most as many places held
 falls-continue : (x : Seen) → Sound x → x.closed ≡ false → Allows x Continue → held_places (after x Continue) ≤ held_places x
 falls-continue x s c a = grind (arith, nat_tests)
 
+-- a 200 leaves at most as many places held
 falls-mod : (x : Seen) (payload : Payload) → Sound x → x.closed ≡ false → Allows x (Mod payload)
     → held_places (after x (Mod payload)) ≤ held_places x
 falls-mod x payload s c a = grind (arith, nat_tests)
 
+-- the end of the adapted body leaves at most as many places held
 falls-ad_end : (x : Seen) → Sound x → x.closed ≡ false → Allows x AdEnd → held_places (after x AdEnd) ≤ held_places x
 falls-ad_end x s c a = grind (arith, nat_tests)
 
+-- bytes to the next hop leave at most as many places held
 falls-usr : (x : Seen) (n : ℕ) → Sound x → x.closed ≡ false → Allows x (Usr n) → held_places (after x (Usr n)) ≤ held_places x
 falls-usr x n s c a = grind (arith, nat_tests)
 
+-- a failure leaves at most as many places held
 falls-fail : (x : Seen) (cause : Cause) → Sound x → x.closed ≡ false → Allows x (Fail cause)
     → held_places (after x (Fail cause)) ≤ held_places x
 falls-fail x cause s c a = grind (arith, nat_tests)
@@ -102,12 +116,15 @@ record Moves (old new came : ℕ) : Type 0 where
   at_most : new ≤ old + came
   brought : 1 ≤ came → new ≡ old + came
 
+-- where as much more is held as came, at most what came is held more, and all of it where any came
 moves_by : (old new came : ℕ) → new ≡ old + came → Moves old new came
 moves_by old new came e = record { at_most = omega arith; brought = λ some. e }
 
+-- where at most as much is held as before, what is held moves as if nothing came
 moves_none : (old new : ℕ) → new ≤ old → Moves old new 0
 moves_none old new l = record { at_most = omega arith; brought = λ some. absurd (omega arith) }
 
+-- at most what an allowed event brings is held more, and all of it where it brings any
 moves : (o : Opened) (event : Event) → Sound (shown o) → (shown o).closed ≡ false → Allows (shown o) event
     → Moves (held_places (shown o)) (held_places (after (shown o) event)) (brings o event)
 moves o (In n) s c a = moves_by _ _ (brings o (In n)) (adds-in (shown o) n s c a)
@@ -133,6 +150,7 @@ record Taken (o : Opened) (event : Event) : Type 0 where
   unclosed : (shown o).closed ≡ false
   allowed : Allows (shown o) event
 
+-- an event that the world takes is one that its open transaction's message allows
 taken : (w : Setting) (before : List WorldEvent) (t : ℕ) (event : Event) (o : Opened) → IsLegalWorld w (Of t event ∷ before)
     → open_at t before ≡ Some o → Taken o event
 taken w before t event o l e =
@@ -141,16 +159,19 @@ taken w before t event o l e =
     let may = may_follow o.plan o.part event s.legal (rows_of o (found_at w t before) event none).0 in
     record { sane = sound o.plan o.part s.legal; unclosed = may.0; allowed = may.1 }
 
+-- the step of a message's event is that from what its transaction holds to what it holds then
 step_of : (before : List WorldEvent) (t : ℕ) (event : Event) (o : Opened) → open_at t before ≡ Some o
     → bank_step before (Of t event) ≡ held_step (held_places (shown o)) (held_places (after (shown o) event))
 step_of before t event o e = ap (λ (x : Option Opened). held_step (held_at x) (held_at (with_event event x))) e
 
+-- a rise of what is held by at least one is a Grow by as many
 grow_by : (old new n : ℕ) → 1 ≤ n → new ≡ old + n → held_step old new ≡ Some (bank.Grow n)
 grow_by old new n one e =
     cond_both (nat_lt old new) (Some (bank.Grow (new - old))) (cond (nat_lt new old) (Some (bank.Shrink (old - new))) None)
     (λ step. step ≡ Some (bank.Grow n))
     (λ more. ap (λ (k : ℕ). Some (bank.Grow k)) (omega arith)) (λ no. absurd (grind (arith, nat_tests)))
 
+-- an event that is taken and brings bytes that are kept is a Grow by as many
 pub grows : (w : Setting) (before : List WorldEvent) (t n : ℕ) (event : Event) (o : Opened) → IsLegalWorld w (Of t event ∷ before)
     → open_at t before ≡ Some o → brings o event ≡ n → 1 ≤ n
     → bank_step before (Of t event) ≡ Some (bank.Grow n)
@@ -159,6 +180,7 @@ grows w before t n event o l e b one =
     let came = (moves o event is.sane is.unclosed is.allowed).brought (omega arith) in
     step_of before t event o e ∙ grow_by (held_places (shown o)) (held_places (after (shown o) event)) n one (omega arith)
 
+-- where at most as much is held as before, the step is no Grow
 no_grow : (old new n : ℕ) → new ≤ old → held_step old new ≡ Some (bank.Grow n) → ⊥
 no_grow old new n l = cond_both (nat_lt old new) (Some (bank.Grow (new - old)))
     (cond (nat_lt new old) (Some (bank.Shrink (old - new))) None) (λ step. step ≡ Some (bank.Grow n) → ⊥)
@@ -166,9 +188,11 @@ no_grow old new n l = cond_both (nat_lt old new) (Some (bank.Grow (new - old)))
     (λ no. cond_both (nat_lt new old) (Some (bank.Shrink (old - new))) None (λ step. step ≡ Some (bank.Grow n) → ⊥) (λ less e. absurd cc)
     (λ as_many e. absurd cc))
 
+-- two Grow steps that are one are by the same number
 same_grow : (n k : ℕ) → Some (bank.Grow n) ≡ Some (bank.Grow k) → n ≡ k
 same_grow n k e = cc
 
+-- where an event that is taken is a Grow, it brings just as many bytes that are kept
 pub only_brought : (w : Setting) (before : List WorldEvent) (t n : ℕ) (event : Event) (o : Opened) → IsLegalWorld w (Of t event ∷ before)
     → open_at t before ≡ Some o
     → bank_step before (Of t event) ≡ Some (bank.Grow n) → brings o event ≡ n
@@ -182,6 +206,7 @@ only_brought w before t n event o l e g = by_number (brings o event) refl
         (sym (step_of before t event o e) ∙ g))
     by_number (suc came) b = b ∙ same_grow (suc came) n (sym (grows w before t (suc came) event o l e b (omega arith)) ∙ g)
 
+-- where as much is held as before, there is no step
 no_step : (n m : ℕ) → m ≡ n → held_step n m ≡ None
 no_step n m e =
     cond_both (nat_lt n m) (Some (bank.Grow (m - n))) (cond (nat_lt m n) (Some (bank.Shrink (n - m))) None) (λ step. step ≡ None)
@@ -189,6 +214,7 @@ no_step n m e =
     (λ no. cond_both (nat_lt m n) (Some (bank.Shrink (n - m))) None (λ step. step ≡ None) (λ less. absurd (grind (arith, nat_tests)))
     (λ as_many. refl))
 
+-- a quiet event that is taken is no step of the bank
 pub quiet : (w : Setting) (before : List WorldEvent) (t : ℕ) (event : Event) → IsLegalWorld w (Of t event ∷ before) → IsQuiet event
     → bank_step before (Of t event) ≡ None
 quiet w before t event l q = by_case (open_at t before) refl
@@ -200,6 +226,7 @@ quiet w before t event l q = by_case (open_at t before) refl
         step_of before t event o e ∙ no_step (held_places (shown o)) (held_places (after (shown o) event))
         (stays (shown o) event is.sane is.unclosed is.allowed q)
 
+-- bytes of the source that come and are dropped are no step of the bank
 pub dropped : (w : Setting) (before : List WorldEvent) (t n : ℕ) (o : Opened) → IsLegalWorld w (Of t (In n) ∷ before)
     → open_at t before ≡ Some o → keeps_original (shown o) ≡ false
     → bank_step before (Of t (In n)) ≡ None

@@ -39,6 +39,7 @@ after_step n (Some step) = after n step
 
 -- One step on one pool.
 
+-- a take from a pool that isn't full leaves the numbers that a lease of the world leaves
 take_goes : (p : world.Numbers) → is_full (Some p) ≡ false → after (numbers_of p) pool.Take ≡ numbers_of (taken p)
 take_goes p f = by_idle (p.idle == 0) refl
   where
@@ -50,6 +51,7 @@ take_goes p f = by_idle (p.idle == 0) refl
         record { idle = n; leased = p.leased + 1; maximum = p.maximum }) (eqb-true p.idle 0 e))
     by_idle false e = rw e refl
 
+-- a connection that is put or given up leaves the numbers that its return in the world leaves
 put_goes : (p : world.Numbers) (kept : Bool) → after (numbers_of p) (back_step kept) ≡ numbers_of (put_back kept p)
 put_goes p true = by_room (nat_le (p.idle + p.leased) p.maximum) refl
   where
@@ -72,6 +74,7 @@ leaves b f o p q e h = by_case b (subst (λ (x : Option world.Numbers). cond b (
     by_case true h = same (f p) q h
     by_case false h = same p q h
 
+-- two pools that are found at one place are the same
 stays : (o : Option world.Numbers) (p q : world.Numbers) → o ≡ Some p → o ≡ Some q → p ≡ q
 stays o p q e h = same p q (sym e ∙ h)
   where
@@ -85,6 +88,7 @@ goes_if : (b : Bool) (step : PoolStep) (f : world.Numbers → world.Numbers) (p 
 goes_if true step f p h = h refl
 goes_if false step f p h = refl
 
+-- a lease that is taken finds the pool of its service not full
 not_full : (w : Setting) (before : List WorldEvent) (t u s : ℕ) (p : world.Numbers) → IsLegalWorld w (Lease t u ∷ before)
     → pool_of w.maxima s before ≡ Some p → (u == s) ≡ true → is_full (Some p) ≡ false
 not_full w before t u s p l e b =
@@ -93,6 +97,7 @@ not_full w before t u s p l e b =
     let here = subst (λ (v : ℕ). is_full (pool_of w.maxima v before) ≡ false) (eqb-true u s b) row.2 in
     subst (λ (o : Option world.Numbers). is_full o ≡ false) e here
 
+-- after a taken event's step, if there is one, a service's pool has the numbers that the world then has
 pub goes_with : (w : Setting) (before : List WorldEvent) (event : WorldEvent) (s : ℕ) (p q : world.Numbers)
     → IsLegalWorld w (event ∷ before) → pool_of w.maxima s before ≡ Some p
     → pool_of w.maxima s (event ∷ before) ≡ Some q → after_step (numbers_of p) (pool_step s before event) ≡ numbers_of q
@@ -117,12 +122,14 @@ goes_with w before (Reclaim t claim) s p q l e h = ap numbers_of (stays (pool_of
 goes_with w before (Close t) s p q l e h = ap numbers_of (stays (pool_of w.maxima s before) p q e h)
 goes_with w before (Capacity n) s p q l e h = ap numbers_of (stays (pool_of w.maxima s before) p q e h)
 
+-- the step that a taken event is leaves a service's pool with the numbers that the world then has
 pub step_goes : (w : Setting) (before : List WorldEvent) (event : WorldEvent) (step : PoolStep) (s : ℕ) (p q : world.Numbers)
     → IsLegalWorld w (event ∷ before) → pool_of w.maxima s before ≡ Some p
     → pool_of w.maxima s (event ∷ before) ≡ Some q → pool_step s before event ≡ Some step → after (numbers_of p) step ≡ numbers_of q
 step_goes w before event step s p q l e h is = subst (λ (o : Option PoolStep). after_step (numbers_of p) o ≡ numbers_of q) is
     (goes_with w before event s p q l e h)
 
+-- an event that is no step of a service's pool leaves its numbers in the world as they were
 pub none_stays : (w : Setting) (before : List WorldEvent) (event : WorldEvent) (s : ℕ) (p q : world.Numbers)
     → IsLegalWorld w (event ∷ before) → pool_of w.maxima s before ≡ Some p
     → pool_of w.maxima s (event ∷ before) ≡ Some q → pool_step s before event ≡ None → numbers_of p ≡ numbers_of q
@@ -131,6 +138,7 @@ none_stays w before event s p q l e h is = subst (λ (o : Option PoolStep). afte
 
 -- making room in a journal changes no number
 
+-- a full journal that lets its oldest step go has the same numbers
 slid_keeps : (j : Journaled) → (slid j).numbers ≡ j.numbers
 slid_keeps j = by_case (length j.steps == j.room)
   where
@@ -142,6 +150,7 @@ slid_keeps j = by_case (length j.steps == j.room)
     by_case true = first j.steps
     by_case false = refl
 
+-- a full journal that starts empty from its present numbers has the same ones
 rebased_keeps : (j : Journaled) → (rebased j).numbers ≡ j.numbers
 rebased_keeps j = by_case (length j.steps == j.room)
   where
@@ -149,6 +158,7 @@ rebased_keeps j = by_case (length j.steps == j.room)
     by_case true = refl
     by_case false = refl
 
+-- a journal with the world's numbers of a pool still has them after a taken event's step, whichever way it makes room
 pub journals_go : (w : Setting) (before : List WorldEvent) (event : WorldEvent) (step : PoolStep) (s : ℕ) (p q : world.Numbers)
     (j : Journaled) → IsLegalWorld w (event ∷ before)
     → pool_of w.maxima s before ≡ Some p → pool_of w.maxima s (event ∷ before) ≡ Some q → pool_step s before event ≡ Some step
@@ -160,20 +170,24 @@ journals_go w before event step s p q j l e h is k =
 
 -- The pool takes the step.
 
+-- an event is an allowed step of a pool or none, if the step is allowed where the event is of the pool
 if_here : (b : Bool) (step : PoolStep) (n : Numbers) → (b ≡ true → IsAllowed n step) → IfSome (cond b (Some step) None) (IsAllowed n)
 if_here true step n h = h refl
 if_here false step n h = tt
 
+-- a lease that the test finds to be of a service is of that service
 of_service : (s : ℕ) (lease : Option ℕ) → is_service s lease ≡ true → lease ≡ Some s
 of_service s None h = absurd cc
 of_service s (Some u) h = ap (λ (x : ℕ). Some x) (eqb-true u s h)
 
+-- a pool of which a transaction has a lease has one leased at least
 one_leased : (w : Setting) (before : List WorldEvent) (t s : ℕ) (p : world.Numbers) → IsLegalWorld w before
     → pool_of w.maxima s before ≡ Some p → is_service s (lease_of t before) ≡ true → 1 ≤ p.leased
 one_leased w before t s p l e b =
     subst (λ (o : Option world.Numbers). IsSomeAnd o (λ x. 1 ≤ x.leased)) e
     (pool_leased w t s before l (of_service s (lease_of t before) b))
 
+-- a pool with one leased allows that a connection is put and that it is given up
 back_may : (n : Numbers) (kept : Bool) → 1 ≤ n.leased → IsAllowed n (back_step kept)
 back_may n true one = one
 back_may n false one = one
@@ -196,6 +210,7 @@ few_open w before t s event p l e lease r = by_case (open_at t before) refl
         lease quiet in
         ltb-false p.maximum (p.idle + p.leased) (subst (λ (x : Option world.Numbers). is_crowded x ≡ false) e own)
 
+-- the numbers of a service's pool allow the step of a taken event, if any, whose maximum a pool takes
 pub may_step : (w : Setting) (before : List WorldEvent) (event : WorldEvent) (s : ℕ) (p : world.Numbers) → IsLegalWorld w (event ∷ before)
     → IsPoolEvent event → pool_of w.maxima s before ≡ Some p
     → IfSome (pool_step s before event) (IsAllowed (numbers_of p))
@@ -226,6 +241,7 @@ may_step w before (Reclaim t claim) s p l i e = tt
 may_step w before (Close t) s p l i e = tt
 may_step w before (Capacity n) s p l i e = tt
 
+-- a service's pool allows a step that is that of a taken event whose maximum a pool takes
 pub step_allowed : (w : Setting) (before : List WorldEvent) (event : WorldEvent) (step : PoolStep) (s : ℕ) (p : world.Numbers)
     → IsLegalWorld w (event ∷ before) → IsPoolEvent event
     → pool_of w.maxima s before ≡ Some p → pool_step s before event ≡ Some step → IsAllowed (numbers_of p) step
@@ -234,10 +250,12 @@ step_allowed w before event step s p l i e is = subst (λ (o : Option PoolStep).
 
 -- The whole history.
 
+-- numbers after steps and one more are those after the steps, and then after that one
 replay_push : (n : Numbers) (steps : List PoolStep) (step : PoolStep) → replay n (steps ++ step ∷ []) ≡ after (replay n steps) step
 replay_push n [] step = refl
 replay_push n (s ∷ steps) step = replay_push (after n s) steps step
 
+-- numbers after steps and one that may be there are those after the steps, and then after that, if any
 replay_with : (n : Numbers) (steps : List PoolStep) (o : Option PoolStep) → replay n (with_step steps o) ≡ after_step (replay n steps) o
 replay_with n steps None = refl
 replay_with n steps (Some step) = replay_push n steps step
@@ -271,6 +289,7 @@ has_pool maxima s most (Reclaim t claim ∷ before) e = has_pool maxima s most b
 has_pool maxima s most (Close t ∷ before) e = has_pool maxima s most before e
 has_pool maxima s most (Capacity n ∷ before) e = has_pool maxima s most before e
 
+-- a legal history's steps lead a pool with no connection to the numbers that the world has
 pub replays : (w : Setting) (events : List WorldEvent) (s most : ℕ) (p : world.Numbers) → IsLegalWorld w events
     → slice_get w.maxima s ≡ Some most → pool_of w.maxima s events ≡ Some p
     → replay (none_open most) (pool_steps s events) ≡ numbers_of p
@@ -284,16 +303,19 @@ replays w (event ∷ before) s most q l e h =
     ∙ ap (λ (n : Numbers). after_step n (pool_step s before event)) (replays w before s most old.0 l.1 e old.1)
     ∙ goes_with w before event s old.0 q l old.1 h
 
+-- steps that are allowed are so with one more that is allowed after them
 allowed_push : (n : Numbers) (steps : List PoolStep) (step : PoolStep) → AreAllowed n steps → IsAllowed (replay n steps) step
     → AreAllowed n (steps ++ step ∷ [])
 allowed_push n [] step all m = (m, tt)
 allowed_push n (s ∷ steps) step all m = (all.0, allowed_push (after n s) steps step all.1 m)
 
+-- steps that are allowed are so with one that may be there, if it is allowed after them
 allowed_with : (n : Numbers) (steps : List PoolStep) (o : Option PoolStep) → AreAllowed n steps → IfSome o (IsAllowed (replay n steps))
     → AreAllowed n (with_step steps o)
 allowed_with n steps None all m = all
 allowed_with n steps (Some step) all m = allowed_push n steps step all m
 
+-- a pool allows each step of a legal history where it stands, if its maxima are such as a pool takes
 pub all_allowed : (w : Setting) (events : List WorldEvent) (s most : ℕ) → IsLegalWorld w events → ArePoolEvents events
     → slice_get w.maxima s ≡ Some most
     → AreAllowed (none_open most) (pool_steps s events)
@@ -304,6 +326,7 @@ all_allowed w (event ∷ before) s most l a e =
     (subst (λ (n : Numbers). IfSome (pool_step s before event) (IsAllowed n)) (sym (replays w before s most old.0 l.1 e old.1))
     (may_step w before event s old.0 l a.0 old.1))
 
+-- a journal that has the last of a legal history's steps has the numbers of the world's pool
 pub journal_shows : (w : Setting) (events : List WorldEvent) (s most : ℕ) (p : world.Numbers) (j : Journaled) → IsLegalWorld w events
     → slice_get w.maxima s ≡ Some most → pool_of w.maxima s events ≡ Some p
     → HasLast (none_open most) (pool_steps s events) j → j.numbers ≡ numbers_of p
@@ -311,14 +334,17 @@ journal_shows w events s most p j l e h last = last.numbers ∙ replays w events
 
 -- Want of connections is one condition.
 
+-- a lease's row is PoolFull just where none is idle and the leased aren't below the maximum
 lease_row : (p : world.Numbers) → ((first_of ((is_none (Some p), UnknownService) ∷ (false, HasLease) ∷ (is_full (Some p), PoolFull) ∷ [])
     ≡ Some PoolFull) ↔ ((p.idle ≡ 0) × (p.maximum ≤ p.leased)))
 lease_row p = grind (arith, nat_tests)
 
+-- a list of no length is empty
 no_length : {C : Type 0} (xs : List C) → length xs ≡ 0 → xs ≡ []
 no_length [] e = refl
 no_length (x ∷ xs) e = absurd (omega arith)
 
+-- a lease of a transaction that has none is refused with PoolFull exactly where the pool is busy
 pub busy_where : {C : Type 0} (w : Setting) (before : List WorldEvent) (t s : ℕ) (p : world.Numbers) (pool : Pooled C)
     → pool_of w.maxima s before ≡ Some p → lease_of t before ≡ None → IsKept pool
     → pool.journal.numbers ≡ numbers_of p → ((world_fault w before (Lease t s) ≡ Some PoolFull) ↔ IsBusy pool)
@@ -340,6 +366,7 @@ busy_where w before t s p pool e none k h =
       λ b. let empty : length pool.idle ≡ 0 = ap length b.0 in let over = b.1 in same ∙ row.1 (omega arith, omega arith),
     )
 
+-- the row of an allowed retry of a reused lease is PoolFull just where more are open than the maximum
 retry_row : (x : Seen) (claim : ℕ) (p : world.Numbers) → first_fault x Retry ≡ None
     → ((event_fault x claim (lease_state (Some 0) true (λ s. Some p)) Retry ≡ Some PoolFull) ↔ (p.maximum < p.idle + p.leased))
 retry_row x claim p f = rows (first_fault x Retry) (needs_lease x Retry) (nat_lt claim (held_places (seen_after x Retry))) f
@@ -353,6 +380,7 @@ retry_row x claim p f = rows (first_fault x Retry) (needs_lease x Retry) (nat_lt
     rows None false false e = grind (arith, nat_tests)
     rows (Some fault) needs over e = absurd cc
 
+-- an allowed retry of a reused lease is refused with PoolFull exactly where its pool has too many open
 pub over_where : (w : Setting) (before : List WorldEvent) (t s : ℕ) (o : Opened) (p : world.Numbers) → open_at t before ≡ Some o
     → first_fault (shown o) Retry ≡ None → lease_of t before ≡ Some s
     → is_reused w.maxima t before ≡ true → pool_of w.maxima s before ≡ Some p

@@ -31,20 +31,24 @@ pub record FirstIn (script : List Event) : Type 0 where
 abbrev pub IsScripted : List Event → Type 0
 IsScripted script = AreQuiet script ⊎ FirstIn script
 
+-- two lists of events without bytes and retries are one such list together
 quiet_join : (xs ys : List Event) → AreQuiet xs → AreQuiet ys → AreQuiet (xs ++ ys)
 quiet_join [] ys p q = q
 quiet_join (x ∷ xs) ys p q = (p.0, p.1, quiet_join xs ys p.2 q)
 
+-- a 204 and the original that goes out after it bring no bytes, and no retry is among them
 quiet_answer : (heard : Bool) (place : ℕ) → AreQuiet (answer_and_send heard place)
 quiet_answer true place = (tt, refl, (tt, refl, tt))
 quiet_answer false place = (tt, refl, (tt, refl, (tt, refl, tt)))
 
+-- the rest of a preview and its last chunk bring no bytes, and no retry is among them
 quiet_close : (size received sent : ℕ) → AreQuiet (close_preview size received sent)
 quiet_close size received sent =
     cond_both (nat_lt sent (min size received)) (Svc (min size received - sent) ∷ []) []
     (λ first. AreQuiet (first ++ Stop ∷ []))
     (λ yes. (tt, refl, (tt, refl, tt))) (λ no. (tt, refl, tt))
 
+-- the end of a preview's body brings no bytes, and is no retry
 quiet_end : (size full : ℕ) (ended : Bool) → AreQuiet (end_body size full ended)
 quiet_end size full ended =
     cond_both (nat_lt full size && not ended) (End ∷ []) [] AreQuiet (λ yes. (tt, refl, tt)) (λ no. tt)
@@ -63,6 +67,7 @@ scripted_early (Some size) x place =
     cond_both (nat_lt x.received full) (In (full - x.received) ∷ []) [] (λ first. IsScripted (first ++ rest))
     (λ yes. inr (record { count = full - x.received; rest = rest; is = refl; quiet = quiet })) (λ no. inl quiet)
 
+-- at most the first event of an original place's script brings bytes, the source's, and none is a retry
 scripted_original : (x : Seen) (place : ℕ) → IsScripted (original_script x place)
 scripted_original x place =
     let one : (event : Event) → BringsNone event → is_retry event ≡ false → IsScripted (event ∷ []) =
@@ -75,6 +80,7 @@ scripted_original x place =
     (λ e. cond_both (not (is_final x) && is_preview x.plan.kind && x.stopped) _ _ IsScripted (λ yes. answer)
     (λ f. scripted_early (open_preview x) x place)))))
 
+-- at most the first event of a place's script brings bytes, the source's, whichever the body; none is a retry
 pub scripted : (tape : Tape) (x : Seen) (place : ℕ) → IsScripted (script_of tape x place)
 scripted Adapted x place = inl (tt, refl, tt)
 scripted Original x place = scripted_original x place

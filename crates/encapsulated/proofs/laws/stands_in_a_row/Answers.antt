@@ -4,6 +4,7 @@ use Rattle.encapsulated.specs.Layouts.{Rises, offsets, parts_of}
 use Rattle.encapsulated.specs.Laws.{StandsInARow}
 use Rattle.encapsulated.proofs.laws.stands_in_a_row.Goals as goal
 
+-- the parts of a layout whose offsets rise from 0 stand in a row
 in_a_row : (q r : Option ℕ) (b : BodyPart) (o : ℕ) → Rises (offsets (parts_of (record { req_hdr = q; res_hdr = r; body = b; offset = o })))
     → StandsInARow (record { req_hdr = q; res_hdr = r; body = b; offset = o })
 in_a_row None None b o h = record { req_hdr = tt; res_hdr = tt; res_first = tt; body_first = h.0 }

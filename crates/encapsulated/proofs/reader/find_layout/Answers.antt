@@ -12,6 +12,7 @@ use Rattle.encapsulated.specs.Order.{Unread, any_front, seen_parts}
 use Rattle.encapsulated.proofs.RowLemmas.{no_front, any_front-sound, whole_layout, no_body}
 use Rattle.encapsulated.proofs.reader.find_layout.Goals as goal
 
+-- a list that can't be read as parts in order is refused for the same fault
 unread : (m : Method) (d : Direction) (text : List ℕ) (f : EncFault) → Unread f text → RefusesList f m d text
 unread m d text Syntax h = h
 unread m d text Name h = h

@@ -4,6 +4,7 @@ use Rattle.event_loop.specs.declared.ended.LoopFault.{LoopFault}
 use Rattle.event_loop.proofs.Running.{ran_nothing, ran_same}
 use Rattle.event_loop.proofs.threads.run_loop.Goals as goal
 
+-- some fault isn't none
 some_none : {fault : LoopFault} → Some fault ≡ None → ⊥
 some_none e = cc
 

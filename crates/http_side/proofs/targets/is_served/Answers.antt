@@ -4,9 +4,11 @@ use Rattle.http_uri.specs.Uri.{uri_scheme, uri_authority}
 use Rattle.http_side.specs.Targets.{serves}
 use Rattle.http_side.proofs.targets.is_served.Goals as goal
 
+-- false isn't true
 false_true : false ≡ true → ⊥
 false_true e = cc
 
+-- whether a target is served is the same for the same scheme and authority
 same_answer : (a p : Bool) (text : List ℕ) (s t : Option (List ℕ)) (x y : Option (List ℕ)) → s ≡ t → x ≡ y
     → serves a p text s x ≡ serves a p text t y
 same_answer a p text s t x y e f = ap (λ z. serves a p text z x) e ∙ ap (serves a p text t) f

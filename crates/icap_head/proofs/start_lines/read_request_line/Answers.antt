@@ -6,9 +6,11 @@ use Rattle.icap_head.proofs.Words.{no_first, no_second, all_words, line_from, wo
 use Rattle.icap_head.proofs.Lacking.{false_true}
 use Rattle.icap_head.proofs.start_lines.read_request_line.Goals as goal
 
+-- a line that is no request line, whatever its words, is refused as a start line
 no_form : (line : List ℕ) → ((m u v : List ℕ) → IsRequestLine line m u v → ⊥) → RefusesStartLine RequestForm StartLine line
 no_form line none = inl (refl, λ v form. none form.0 form.1 v form.2)
 
+-- a token, a word without a space and a version, cut at spaces, may be a request line
 three_words : (line method rest word version : List ℕ) → line ≡ method ++ 32 ∷ rest → rest ≡ word ++ 32 ∷ version → Lacks 32 word
     → IsToken method → IsVersion version → MayBeRequestLine line
 three_words line method rest word version first next one token is =

@@ -5,6 +5,7 @@ use Rattle.icap_head.proofs.Lacking.{false_true}
 use Rattle.icap_head.proofs.Statuses.{status_words, no_status_word}
 use Rattle.icap_head.proofs.start_lines.read_status_line.Goals as goal
 
+-- a line that is no status line, whatever its parts, is refused as a start line
 no_form : (line : List ℕ) → ((n : ℕ) (p v : List ℕ) → IsStatusLine line n p v → ⊥) → RefusesStartLine StatusForm StartLine line
 no_form line none = inl (refl, λ v form. none form.0 form.1 v form.2)
 

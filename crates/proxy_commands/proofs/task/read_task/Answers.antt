@@ -12,6 +12,7 @@ returns-in-len1-clause-none c =
     none_alone (map string_bytes c.args.args.now) c.as_str.result.now
     (words ∙ ap (λ (w : List ℕ). w ∷ []) (sym c.as_str.ensures.value)) c.task_of.result c.task_of.ensures.none
 
+-- two arguments are words without a path alone, the first of them as it was read
 two : (c : After-task_before) → Others (map string_bytes c.args.args.now) c.as_str-in-len2.result.now
 two c = subst (λ (w : List ℕ). Others (map string_bytes c.args.args.now) w) (sym c.as_str-in-len2.ensures.value)
     (two_words c.args.args.now c.word-item-then-args-lt3.result c.in-len2.len_at_least c.in-len2.len_below c.word-item-then-args-lt3.is)
@@ -28,6 +29,7 @@ returns-in-len2-clause-none c =
     none_before (map string_bytes c.args.args.now) c.as_str-in-len2.result.now o.next o.rest o.are o.no_path c.task_before.result
     c.task_before.ensures.none
 
+-- three arguments are three words, the first two of them as they were read
 three : (c : After-task_of_three) → ThreeWords (map string_bytes c.args.args.now) c.as_str-in-len3.result.now c.as_str-in-len3-2.result.now
 three c = subst (λ (w : List ℕ). ThreeWords (map string_bytes c.args.args.now) w c.as_str-in-len3-2.result.now)
     (sym c.as_str-in-len3.ensures.value)
@@ -48,6 +50,7 @@ returns-in-len3-clause-none c =
     none_of_three (map string_bytes c.args.args.now) c.as_str-in-len3.result.now c.as_str-in-len3-2.result.now path are
     c.task_of_three.result c.task_of_three.ensures.none
 
+-- four arguments or more are words without a path alone, the first of them as it was read
 four : (c : After-task_before-in-len4-up) → Others (map string_bytes c.args.args.now) c.as_str-in-len4-up.result.now
 four c = subst (λ (w : List ℕ). Others (map string_bytes c.args.args.now) w) (sym c.as_str-in-len4-up.ensures.value)
     (four_words c.args.args.now c.word-item-2.result c.in-len4-up.len_at_least c.word-item-2.is)

@@ -4,6 +4,7 @@ use Rattle.proxy_config.specs.HostsFile.{lines_left, lines_of, AddsLine}
 use Rattle.proxy_config.proofs.ReadLines.{ends, few_lines, reads_one}
 use Rattle.proxy_config.proofs.hosts_file.hosts_in.Goals as goal
 
+-- the number of the next line of a text of fewer than 2^63 bytes is one of 64 bits
 fits : (number rest lines bytes : ℕ) → number + rest ≡ lines → lines ≤ bytes + 1 → bytes < 2 ^ 63 → Fits w64 (number + 1)
 fits number rest lines bytes count few short = omega arith
 

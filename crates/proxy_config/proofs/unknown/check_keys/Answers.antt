@@ -9,6 +9,7 @@ use Rattle.proxy_config.proofs.Refusals.{names_it}
 use Rattle.proxy_config.proofs.UnknownKeys.{first_unknown_key}
 use Rattle.proxy_config.proofs.unknown.check_keys.Goals as goal
 
+-- what is found in three steps, each the first of two texts, is the first of all four texts
 first_texts : (a b d e found of_tables of_two one two three : Option (List ℕ)) → found ≡ first_text a of_tables
     → of_tables ≡ first_text one of_two
     → of_two ≡ first_text two three → one ≡ b → two ≡ d → three ≡ e → found ≡ first_text a (first_text b (first_text d e))

@@ -6,6 +6,7 @@ use Rattle.proxy_config.specs.HostsFile.{is_line_end}
 use Rattle.proxy_config.proofs.WordSplits.{split_at, split_whole}
 use Rattle.proxy_config.proofs.words.cut_line.Goals as goal
 
+-- a text's lines are what stands before its first LF, and the lines after that
 line_at : (text : List ℕ) (end : ℕ) → end < length text → get_or text end 0 ≡ 10 → ((k : ℕ) → k < end → get_or text k 0 ≢ 10)
     → slice_split is_line_end text ≡ take end text ∷ slice_split is_line_end (drop (suc end) text)
 line_at text end inside here before =

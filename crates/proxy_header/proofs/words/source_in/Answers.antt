@@ -6,6 +6,7 @@ use Rattle.proxy_header.specs.Lines.{IsConnection, words}
 use Rattle.proxy_header.proofs.WordCuts.{said_of}
 use Rattle.proxy_header.proofs.words.source_in.Goals as goal
 
+-- a text of four words is no connection where the first is no address
 no_source : (text s t u v : List ℕ) (r : Option Ipv4Addr) → words text ≡ s ∷ t ∷ u ∷ v ∷ []
     → IfNone r ((ip : Ipv4Addr) → IsIpv4Text s ip → ⊥)
     → IfNone r ((ip : Ipv4Addr) → IsConnection text ip → ⊥)

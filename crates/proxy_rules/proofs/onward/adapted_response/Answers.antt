@@ -18,6 +18,7 @@ returns-then-head-text-clause-err c = inr (
       [ inl e ↦ cc e | inr same ↦ c.if-head-text.true same.1 ],
 )
 
+-- false and true are different
 false_true : false ≡ true → ⊥
 false_true e = cc
 

@@ -35,10 +35,12 @@ broken true fresh point = tt
 broken false true point = refl
 broken false false point = refl
 
+-- the word for a broken source has the status of its refusal, at either point
 source : (point : Point) → HasStatus (refusal_status Source point) (Failed (broken_source point))
 source Reqmod = refl
 source Respmod = refl
 
+-- the word of a failed exchange has the status of its refusal, where the service's fault lies elsewhere
 has_status : (cause : Cause) (seen : Seen) (evidence : Evidence) → cause_of evidence.service ≡ Elsewhere
     → HasStatus (refusal_status cause seen.plan.point) (failed_word cause seen evidence)
 has_status Source seen evidence elsewhere = source seen.plan.point

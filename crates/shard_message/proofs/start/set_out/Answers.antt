@@ -69,6 +69,7 @@ line_is None (Some w) e = absurd cc
 line_is (Some s) None e = absurd cc
 line_is (Some s) (Some w) e = refl
 
+-- a function of three makes the same of the same
 three : {P Q R T : Type 0} (f : P → Q → R → T) {p p' : P} {q q' : Q} {r r' : R} → p ≡ p' → q ≡ q' → r ≡ r' → f p q r ≡ f p' q' r'
 three {P} {Q} {R} {T} f {p} {p'} {q} {q'} {r} {r'} d e h = ap (λ x. f x q r) d ∙ (ap (λ x. f p' x r) e ∙ ap (λ x. f p' q' x) h)
 

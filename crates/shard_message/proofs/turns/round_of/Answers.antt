@@ -5,6 +5,7 @@ use Rattle.shard_message.specs.Outset.{IsLineAfter}
 use Rattle.shard_message.specs.Rounds.{is_broken}
 use Rattle.shard_message.proofs.turns.round_of.Goals as goal
 
+-- a round that isn't the one of a broken connection isn't broken
 not_broken : (round : Round) → (round ≡ rounds.Broken → ⊥) → is_broken round ≡ false
 not_broken rounds.Broken n = absurd (n refl)
 not_broken rounds.Over n = refl

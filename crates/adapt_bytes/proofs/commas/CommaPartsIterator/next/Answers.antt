@@ -15,6 +15,7 @@ at_comma c =
     let part = c.trim.ensures in
     ap left_of c.in_ok-rest.was ∙ split ∙ simp (take_rest, add-one, part)
 
+-- where no comma is left, the part that is given is the last of those that were left
 at_end : (c : After-trim-in-None) → parts_left c.args.self.now ≡ c.trim-in-None.result.now ∷ []
 at_end c =
     ap left_of c.in_ok-rest.was ∙ comma_parts_whole c.in_ok-rest.rest.now (search rules) ∙ ap (λ x. x ∷ []) (sym c.trim-in-None.ensures)

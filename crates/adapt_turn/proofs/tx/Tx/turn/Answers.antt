@@ -28,21 +28,27 @@ use Rattle.plan_rules.specs.declared.pace.Pace.{Pace}
 use Rattle.adapt_turn.proofs.ServiceEnds.{line_told}
 use Rattle.adapt_turn.proofs.tx.Tx.turn.Goals as goal
 
+-- nothing isn't something
 none_some : {A : Type 0} {a : A} → None ≡ Some a → ⊥
 none_some d = cc
 
+-- two failures that are the same have the same cause
 same_cause : {cause other : Cause} → outcomes.Fail cause ≡ outcomes.Fail other → cause ≡ other
 same_cause d = cc
 
+-- the deadline isn't a stop
 not_stopping : Deadline ≡ Stopping → ⊥
 not_stopping d = cc
 
+-- an answer that says moved bytes isn't one that says Broken
 moved_not_broken : {n : ℕ} → answers.Moved n ≡ answers.Broken → ⊥
 moved_not_broken d = cc
 
+-- two answers that say moved bytes and are the same say as many
 moved_same : {n m : ℕ} → answers.Moved n ≡ answers.Moved m → n ≡ m
 moved_same d = cc
 
+-- a number is at most its sum with another
 at_most : (n more : ℕ) → n ≤ n + more
 at_most n more = omega arith
 

@@ -6,9 +6,11 @@ use Rattle.event_loop.proofs.Turning.{did_is, did_mark, does_nothing, does_one}
 use Rattle.event_loop.proofs.Serving.{no_admin, no_metrics, served_news, served_still}
 use Rattle.event_loop.proofs.looping.EventLoop.serve.Goals as goal
 
+-- where some pair is some other one, the pairs are the same
 same_pair : {x y : ℕ × Peer} → Some x ≡ Some y → x ≡ y
 same_pair e = cc
 
+-- where some number and peer are some others, the numbers are the same, and so are the peers
 same_named : {k n : ℕ} {p q : Peer} → let x : ℕ × Peer = (k, p) in let y : ℕ × Peer = (n, q) in Some x ≡ Some y → (k ≡ n) × (p ≡ q)
 same_named {k} {n} {p} {q} e = let x : ℕ × Peer = (k, p) in let y : ℕ × Peer = (n, q) in let f : x ≡ y = same_pair e in
     (ap (λ (z : ℕ × Peer). z.0) f, ap (λ (z : ℕ × Peer). z.1) f)
@@ -34,6 +36,7 @@ returns-in-None-note g c =
     (λ x key. (refl, refl, tt)) c.in-None-note.ensures.kept refl refl)
     (served_still c.args.event c.in-Some.number c.in-Some.peer _ (λ n p e. same_named (c.in-Some.ensures n p e)), (tt, tt))
 
+-- none isn't some pair
 none_some : {x : ℕ × Peer} → None ≡ Some x → ⊥
 none_some e = cc
 

@@ -10,12 +10,15 @@ use Rattle.icap_chunks.proofs.pieces.Collector.read_to.Goals as goal
 
 -- a piece of a text, and some of its bytes
 module _ (text : List ℕ) (at end used : ℕ) (low : at ≤ end) (high : end ≤ length text) (fits : used ≤ end - at) where
+  -- the bytes before a piece of a text, and first bytes of the piece, are a prefix of the text
   take_piece : take at text ++ take used (slice_range text at end) ≡ take (at + used) text
   take_piece = ap (λ x. take at text ++ x) (take-take used (end - at) (drop at text) fits) ∙ sym (take-add at used text)
 
+-- the bytes before a piece of a text, and the whole piece, are the text up to the piece's end
 whole_piece : (text : List ℕ) (at end : ℕ) → at ≤ end → take at text ++ slice_range text at end ≡ take end text
 whole_piece text at end low = let e : end ≡ at + (end - at) = omega arith in sym (ap (λ n. take n text) e ∙ take-add at (end - at) text)
 
+-- a piece of a text has as many bytes as lie between its start and its end
 piece_length : (text : List ℕ) (at end : ℕ) → at ≤ end → end ≤ length text → length (slice_range text at end) ≡ end - at
 piece_length text at end low high = omega (arith, length-take (end - at) (drop at text), length-drop at text)
 

@@ -4,6 +4,7 @@ use Rattle.icap_chunks.proofs.Runs.{Framing, framing_part, framing_end_first, fa
 use Rattle.icap_chunks.proofs.Runs.{end_of_behind, fault_of_behind, no_data_behind, no_end_here, no_fault_here, pauses_cases}
 use Rattle.icap_chunks.proofs.reader.ChunkReader.read_piece.Goals as goal
 
+-- what is there isn't nothing
 some_is_none : {A : Type 0} {a : A} → Some a ≡ None → ⊥
 some_is_none e = cc
 

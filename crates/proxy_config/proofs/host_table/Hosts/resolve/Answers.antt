@@ -13,6 +13,7 @@ returns-in-Some-clause-found c = inr (record {
   of_port = search rules;
 })
 
+-- an option that holds a value isn't none
 some_is_none : {A : Type 0} (x : A) → Some x ≡ None → ⊥
 some_is_none x e = search (rules, e)
 

@@ -16,10 +16,12 @@ use Rattle.shard_exchange.proofs.exchange.Exchange.response_failed.Goals.{else-i
 use Rattle.shard_exchange.proofs.exchange.Exchange.response_failed.Goals.{else-is_end_of_wire-via-then-is_end_of_wire+else-may}
 use Rattle.shard_exchange.proofs.exchange.Exchange.response_failed.Goals.{else-is_end_of_wire-via-else-is_end_of_wire}
 
+-- where both of two are true, the first is
 first_holds : (a b : Bool) → (a && b) ≡ true → a ≡ true
 first_holds true b h = refl
 first_holds false b h = h
 
+-- where both of two are true, the second is
 second_holds : (a b : Bool) → (a && b) ≡ true → b ≡ true
 second_holds true b h = h
 second_holds false b h = absurd cc

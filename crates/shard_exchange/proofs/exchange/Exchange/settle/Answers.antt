@@ -33,6 +33,7 @@ untold usable (Ready reused) new same = same
 untold usable (InUse reused) new same = subst (λ (c : Connection). IsServedBy usable (InUse reused) c) (sym same) tt
 untold usable Spent new same = same
 
+-- a connection is as its service left it, whether something was told of it or nothing
 served_where : (told usable : Bool) (old new : Connection) → IsToldServed (if told then Some usable else None) old new
     → IsServedBy usable old new
 served_where true usable old new h = h

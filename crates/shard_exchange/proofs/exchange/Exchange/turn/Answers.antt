@@ -35,14 +35,17 @@ served_anew usable (InUse reused) (InUse again) h = h
 served_anew usable (InUse reused) Spent h = h
 served_anew usable Spent new h = h
 
+-- a phase in which a message moves is no refusal
 not_refusing : (p : Phase) → is_moving p ≡ true → is_refusing p ≡ false
 not_refusing (Moving point offered) h = refl
 not_refusing _ h = cc
 
+-- a phase in which a message moves is no withdrawal
 not_withdrawing : (p : Phase) → is_moving p ≡ true → is_withdrawing p ≡ false
 not_withdrawing (Moving point offered) h = refl
 not_withdrawing _ h = cc
 
+-- a message that moves can't be one that is neither at the gate nor moving
 still_moves : (gate moving : Bool) → moving ≡ true → (gate || moving) ≡ false → false ≡ true
 still_moves true moving h k = sym k
 still_moves false moving h k = sym k ∙ h
@@ -54,6 +57,7 @@ record Noted (answered usable : Bool) (mid new : CourseState) : Type 0 where
   begun : new.begun ≡ (mid.begun || (answered && has_answer mid.phase))
   served : IsServedBy usable mid.connection new.connection
 
+-- what a round came to over a fresh connection, it came to over the broken one in whose place that stands
 noted_anew : (answered usable : Bool) (old new : CourseState) → Noted answered usable (after old Renewed) new
     → Noted answered usable old new
 noted_anew answered usable old new n = record {
@@ -63,6 +67,7 @@ noted_anew answered usable old new n = record {
   served = served_anew usable old.connection new.connection n.served;
 }
 
+-- what a round came to, it came to from the course before it, also where its connection broke
 from_round : (answered usable : Bool) (round : Round) (old new : CourseState) → Noted answered usable (anew_with round old) new
     → Noted answered usable old new
 from_round answered usable came.Broken old new n = noted_anew answered usable old new n
@@ -78,6 +83,7 @@ anew_is (came.Moved framing) old mid anew still = still (λ e. cc)
 anew_is came.Waiting old mid anew still = still (λ e. cc)
 anew_is came.Over old mid anew still = still (λ e. cc)
 
+-- a round that isn't the last, and after which the message moves, is a turn of that message
 moving_on : {H O : Type 0} (rounds : H → H → O → Round → Type 0) (frees : H → Option Bool → Type 0) (answered reusable : H → Bool)
     (ends : H → Bool → End → Type 0) (follows : H → O → End → Type 0) (repeats : H → Type 0) (late : O → Bool) (held turned : H) (later : O)
     (round : Round)
