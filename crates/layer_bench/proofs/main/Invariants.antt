@@ -1,3 +1,4 @@
+-- Each of the four ledgers has the name and the parts of its blank.
 use Rattle.layer_bench.proofs.main.Given as goal
 
 abbrev pub ghosts-run-H-Ledger : goal.ghosts-run-H-Ledger

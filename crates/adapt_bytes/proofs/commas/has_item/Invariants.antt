@@ -1,3 +1,4 @@
+-- The list has the word just where an item that is still to come is the word, but for case.
 use Rattle.std.proofs.Common.{◌≡◌}
 use Rattle.std.specs.List.{list_any}
 use Rattle.std.specs.Str.{str_eq_ignore_ascii_case}

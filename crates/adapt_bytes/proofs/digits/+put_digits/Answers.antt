@@ -1,3 +1,4 @@
+-- The digits of a positive number are those of its quotient by the base, and then the remainder as one digit.
 use Rattle.std.proofs.Common.{append_assoc}
 use Rattle.adapt_bytes.proofs.Numerals.{digits_more}
 use Rattle.adapt_bytes.proofs.digits.+put_digits.Goals as goal

@@ -1,3 +1,4 @@
+-- The number to be written falls with each call.
 use Rattle.adapt_bytes.proofs.digits.+put_digits.Given as goal
 
 abbrev pub decreases-put_digits : goal.decreases-put_digits

@@ -1,3 +1,4 @@
+-- One more digit goes on the value so far; where that fails, the bytes write no number below 2 to the 64.
 use Rattle.std.proofs.Common.{arith, sym, ◌∙◌}
 use Rattle.std.proofs.lemmas.Int.Digits.{digits_value_more, digits_more}
 use Rattle.adapt_bytes.proofs.Numerals.{refuses}

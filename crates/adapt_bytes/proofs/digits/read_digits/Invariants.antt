@@ -1,3 +1,4 @@
+-- The bytes read so far are digits of the base, and the value is the one that they write.
 use Rattle.std.proofs.Common.{◌≡◌, take}
 use Rattle.std.specs.Str.Parse.{AllDigits, digits_value}
 use Rattle.adapt_bytes.proofs.digits.read_digits.Given as goal

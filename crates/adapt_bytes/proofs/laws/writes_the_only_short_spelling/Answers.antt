@@ -1,3 +1,4 @@
+-- A numeral has no leading zero and no letter in upper case, and is the only such spelling of its number.
 use Rattle.adapt_bytes.proofs.Spellings.{short_spelling, only_spelling}
 use Rattle.adapt_bytes.proofs.laws.writes_the_only_short_spelling.Goals as goal
 

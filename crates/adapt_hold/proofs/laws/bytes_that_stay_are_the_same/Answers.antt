@@ -1,3 +1,4 @@
+-- A byte on a tape that an event doesn't drop is the same after the event as before it.
 use Rattle.adapt_hold.specs.Holding.{shows_then, original_in, adapted_in}
 use Rattle.trace_core.specs.Held.{original_from, adapted_from}
 use Rattle.adapt_hold.proofs.Tied.{original_low, adapted_low, byte_stays}

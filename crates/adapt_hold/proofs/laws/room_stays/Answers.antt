@@ -1,3 +1,4 @@
+-- From an empty hold on, events within their room fit the claim, and leave a window for the adapted body.
 use Rattle.adapt_hold.proofs.Bodies.{room_begins, room_in, room_ad, room_others}
 use Rattle.adapt_hold.proofs.laws.room_stays.Goals as goal
 

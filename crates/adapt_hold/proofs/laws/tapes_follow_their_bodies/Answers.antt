@@ -1,3 +1,4 @@
+-- A tape that has all of its body from its base on also has it so after an event, from its new base on and with the bytes that came.
 use Rattle.adapt_hold.proofs.Bodies.{steps, original_follows, adapted_follows}
 use Rattle.adapt_hold.proofs.laws.tapes_follow_their_bodies.Goals as goal
 

@@ -1,3 +1,4 @@
+-- What may go to the service lies on the original's tape; what may go out of the chosen body begins its tape.
 use Rattle.adapt_hold.proofs.Bodies.{to_service, original_to_next, adapted_to_next}
 use Rattle.adapt_hold.proofs.laws.what_may_be_sent_is_on_its_tape.Goals as goal
 

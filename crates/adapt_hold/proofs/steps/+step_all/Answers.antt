@@ -1,3 +1,4 @@
+-- After the first event the others may run, and together they are all the events; where there is none, all stays as it was.
 use Rattle.std.proofs.Common.{rules, ◌<◌, length, take, drop, ◌-◌}
 use Rattle.adapt_hold.specs.Steps.{MayRun}
 use Rattle.adapt_hold.proofs.Row.{none_left_at, run_rest_at, one_more_at, shorter}

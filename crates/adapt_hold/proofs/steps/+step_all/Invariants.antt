@@ -1,3 +1,4 @@
+-- The events that are left become fewer with each call.
 use Rattle.std.proofs.Common.{length}
 use Rattle.adapt_hold.proofs.steps.+step_all.Given as goal
 

@@ -1,3 +1,4 @@
+-- Bytes within their room fit the claim, and leave a window where an adapted body may come.
 use Rattle.adapt_hold.proofs.Row.{fits_in, brought_roomy}
 use Rattle.adapt_hold.proofs.steps.bring.Goals as goal
 

@@ -1,3 +1,4 @@
+-- An event that may follow isn't refused, and without bytes it leaves a window where an adapted body may come.
 use Rattle.adapt_hold.proofs.Row.{gone_on_roomy, never}
 use Rattle.adapt_hold.proofs.steps.go_on.Goals as goal
 

@@ -1,3 +1,4 @@
+-- One write offers what is left of the text, and its answer says how far the text is out.
 use Rattle.std.proofs.Common.{◌≡◌, ℕ, ◌+◌, ◌-◌, ◌≤◌, length, drop, List, Some, refl, ap, ◌∙◌, subst, arith}
 use Rattle.std.proofs.lemmas.List.{length-drop}
 use Rattle.wire_kit.specs.declared.wire.Put.{Put}

@@ -1,3 +1,4 @@
+-- Before the first event nothing is held, so the claim has a window free where an adapted body may come.
 use Rattle.std.proofs.Common.{sym, subst}
 use Rattle.plan_rules.proofs.Paced.{paces-begin}
 use Rattle.adapt_hold.specs.Holding.{Holding, IsRoomy}

@@ -1,3 +1,4 @@
+-- The four ledgers of the audited bank have the names and the parts of its blanks.
 use Rattle.code_tests.proofs.audits.stakes_back.Given as goal
 
 abbrev pub ghosts-audit_without_one_of-H-Ledger : goal.ghosts-audit_without_one_of-H-Ledger

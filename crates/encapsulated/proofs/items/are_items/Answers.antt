@@ -1,3 +1,4 @@
+-- Each part so far is an item; a list with a part that is no item isn't a list of items.
 use Rattle.std.proofs.Common.{Bor, ℕ, List, [], ◌∷◌, ◌++◌, map, length, subst, sym, rules}
 use Rattle.std.proofs.lemmas.List.{map-append}
 use Rattle.std.proofs.lemmas.Iterator.Consumers.{YieldsList-from_first, YieldsList-turn}

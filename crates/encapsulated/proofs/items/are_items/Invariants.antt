@@ -1,3 +1,4 @@
+-- Each part so far is an item, and the parts come to an end.
 use Rattle.std.proofs.Common.{ℕ, List, map}
 use Rattle.std.specs.List.{AllZip}
 use Rattle.encapsulated.specs.Grammar.{IsItem}

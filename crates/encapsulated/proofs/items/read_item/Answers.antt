@@ -1,3 +1,4 @@
+-- A text without an equals sign, without an offset after it, or without a token before it, is no item.
 use Rattle.std.proofs.Common.{rules, IsTrue, false}
 use Rattle.std.proofs.lemmas.List.{take_rest}
 use Rattle.encapsulated.proofs.ItemLemmas.{no_item, item_cut, false_true}

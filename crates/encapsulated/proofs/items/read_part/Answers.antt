@@ -1,3 +1,4 @@
+-- A text that is no item, or whose one name is no part's, is the item of no part.
 use Rattle.std.proofs.Common.{◌∙◌, sym, ap, map}
 use Rattle.std.specs.Char.{to_ascii_lowercase}
 use Rattle.encapsulated.proofs.ItemLemmas.{item_unique}

@@ -1,3 +1,4 @@
+-- A layout whose offsets have 64 bits can be read exactly where the message may have it: from its written text.
 use Rattle.encapsulated.specs.Layouts.{written}
 use Rattle.encapsulated.proofs.WriteBack.{reads_back}
 use Rattle.encapsulated.proofs.laws.can_be_read.Goals as goal

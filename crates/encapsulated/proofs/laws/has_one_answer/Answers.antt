@@ -1,3 +1,4 @@
+-- Each text is a layout or has a fault, just one of them, and never both.
 use Rattle.encapsulated.proofs.OneAnswer.{parts_unique, layout_unique, one_fault, no_fault}
 use Rattle.encapsulated.proofs.SomeAnswer.{some_answer}
 use Rattle.encapsulated.proofs.laws.has_one_answer.Goals as goal

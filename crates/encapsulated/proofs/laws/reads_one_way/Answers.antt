@@ -1,3 +1,4 @@
+-- The items, the parts and the layout of a text are unique; the message doesn't matter.
 use Rattle.encapsulated.proofs.OneAnswer.{items_unique, parts_unique, layout_unique}
 use Rattle.encapsulated.proofs.laws.reads_one_way.Goals as goal
 

@@ -1,3 +1,4 @@
+-- Where the offsets of a layout rise from 0, its parts stand in a row.
 use Rattle.std.proofs.Common.{ℕ, Option, Some, None}
 use Rattle.encapsulated.specs.declared.parts.BodyPart.{BodyPart}
 use Rattle.encapsulated.specs.Layouts.{Rises, offsets, parts_of}

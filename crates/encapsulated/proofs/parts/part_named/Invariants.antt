@@ -1,3 +1,4 @@
+-- The name is that of none of the parts before this one, ASCII case ignored.
 use Rattle.std.proofs.Common.{ℕ, ◌<◌, get_or}
 use Rattle.adapt_bytes.specs.Text.{SameAscii}
 use Rattle.encapsulated.specs.Grammar.{name_of}

@@ -1,3 +1,4 @@
+-- The parts in order are an allowed layout whose offsets rise, or the first fault that applies is answered.
 use Rattle.std.proofs.Common.{◌≡◌, ℕ, List, subst, sym, rules, true}
 use Rattle.std.proofs.lemmas.Result.{err_from_is_err_and}
 use Rattle.adapt_bytes.specs.declared.method.Method.{Method}

@@ -1,3 +1,4 @@
+-- A text has just one layout or fault, so the one that was found is answered exactly where it applies.
 use Rattle.encapsulated.proofs.OneAnswer.{only_layout, only_fault}
 use Rattle.encapsulated.proofs.reader.read.Goals as goal
 

@@ -1,3 +1,4 @@
+-- The items so far name parts, seen while in order; an item that names none, or parts out of order, are a fault.
 use Rattle.std.proofs.Common.{Bor, ℕ, List, [], ◌∷◌, ◌++◌, map, length, subst, sym, rules}
 use Rattle.std.specs.List.{AllZip}
 use Rattle.std.proofs.lemmas.List.{map-append}

@@ -1,3 +1,4 @@
+-- The items so far name parts, and these are what was seen, or they are out of order.
 use Rattle.std.proofs.Common.{ℕ, List, map}
 use Rattle.std.specs.List.{AllZip}
 use Rattle.encapsulated.specs.declared.parts.Part.{Part}

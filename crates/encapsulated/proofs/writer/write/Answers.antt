@@ -1,3 +1,4 @@
+-- What is put is the layout's text, which is read back as its parts, and so as no other layout.
 use Rattle.std.proofs.Common.{◌≡◌, ◌++◌, subst, sym, rules, ◌∙◌}
 use Rattle.encapsulated.specs.declared.parts.Part.TheVariants.{ReqHdr, ResHdr, Body}
 use Rattle.encapsulated.specs.Grammar.{AreParts}

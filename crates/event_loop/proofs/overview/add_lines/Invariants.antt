@@ -1,3 +1,4 @@
+-- The lines so far, with those of the sheet still to come, are those before and all of the sheet.
 use Rattle.std.proofs.Common.{◌≡◌, ◌++◌, drop, map}
 use Rattle.event_loop.specs.Overview.{seen, shown_at, lines_of}
 use Rattle.event_loop.proofs.overview.add_lines.Given as goal

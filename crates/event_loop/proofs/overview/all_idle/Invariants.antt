@@ -1,3 +1,4 @@
+-- The idle users so far, counted on through the sheets left, are those of all sheets.
 use Rattle.std.proofs.Common.{◌≡◌, drop}
 use Rattle.event_loop.specs.Overview.{idle_from}
 use Rattle.event_loop.proofs.overview.all_idle.Given as goal

@@ -1,3 +1,4 @@
+-- The lines left out so far, counted on through the sheets left, are those of all sheets.
 use Rattle.std.proofs.Common.{◌≡◌, drop}
 use Rattle.event_loop.specs.Overview.{left_out_from}
 use Rattle.event_loop.proofs.overview.all_left_out.Given as goal

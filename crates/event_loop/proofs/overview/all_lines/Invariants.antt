@@ -1,3 +1,4 @@
+-- The lines so far, with those of the sheets left, are the lines of all threads.
 use Rattle.std.proofs.Common.{◌≡◌, ◌++◌, drop, map}
 use Rattle.event_loop.specs.Overview.{seen, all_lines}
 use Rattle.event_loop.proofs.overview.all_lines.Given as goal

@@ -1,3 +1,4 @@
+-- What is written so far, with the lines left, is the text before and all lines.
 use Rattle.std.proofs.Common.{◌≡◌, ◌++◌, drop, map}
 use Rattle.event_loop.specs.Overview.{seen, joined}
 use Rattle.event_loop.proofs.overview.write_lines.Given as goal

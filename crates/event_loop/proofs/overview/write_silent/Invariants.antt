@@ -1,3 +1,4 @@
+-- What is written, with a line for each silent thread still to come, is the text before and all such lines.
 use Rattle.std.proofs.Common.{◌≡◌, ◌++◌, drop}
 use Rattle.event_loop.specs.Overview.{silent_text}
 use Rattle.event_loop.proofs.overview.write_silent.Given as goal

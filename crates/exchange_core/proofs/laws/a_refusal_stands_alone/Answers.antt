@@ -1,3 +1,4 @@
+-- A refusal goes to a user with no byte of an answer; it is the only one, stays the same, and only the end follows.
 use Rattle.exchange_core.proofs.Leaving.{untouched, whole, keeps_to, one_refusal, parting}
 use Rattle.exchange_core.proofs.laws.a_refusal_stands_alone.Goals as goal
 

@@ -1,3 +1,4 @@
+-- Until all is over something is due and may be done; each wait has a deadline; while the user alone is waited for, nothing is held.
 use Rattle.exchange_core.proofs.Going.{over_means_nothing, nothing_means_over, goes_on, wait_has_deadline, user_holds_nothing}
 use Rattle.exchange_core.proofs.Going.{queue_is_free}
 use Rattle.exchange_core.proofs.Doing.{fails_there}

@@ -1,3 +1,4 @@
+-- Each byte of the word of a value from outside is visible, and no quote.
 use Rattle.exchange_report.proofs.OneWord.{plain_word}
 use Rattle.exchange_report.proofs.laws.a_value_is_one_word.Goals as goal
 

@@ -1,3 +1,4 @@
+-- What is written and the text of the metrics that are left come to what was there and the text of all.
 use Rattle.std.proofs.Common.{◌≡◌, ◌++◌, drop}
 use Rattle.exchange_report.specs.Metrics.{metrics_text}
 use Rattle.exchange_report.proofs.metrics.write_metrics.Given as goal

@@ -1,3 +1,4 @@
+-- The head gives the length of the filled page, which follows it unless the request was HEAD.
 use Rattle.std.proofs.Common.{◌≡◌, ℕ, List, [], ◌++◌, length, ap, sym, ◌∙◌, append-nil, arith}
 use Rattle.adapt_bytes.specs.Numeral.{numeral}
 use Rattle.exchange_report.specs.Entry.{why_word}

@@ -1,3 +1,4 @@
+-- What is written and the rest of the page, filled, come to what was there and the whole page, filled.
 use Rattle.std.proofs.Common.{◌≡◌, ◌++◌, length}
 use Rattle.exchange_report.specs.Pages.{filled}
 use Rattle.exchange_report.proofs.page.write_filled.Given as goal

@@ -1,3 +1,4 @@
+-- The bytes before this one are written as they are.
 use Rattle.std.proofs.Common.{◌≡◌, ◌++◌, take, drop}
 use Rattle.exchange_report.specs.Words.{escaped_text}
 use Rattle.exchange_report.proofs.words.are_plain.Given as goal

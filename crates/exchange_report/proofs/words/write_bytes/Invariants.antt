@@ -1,3 +1,4 @@
+-- What is written and the bytes that are left, escaped, come to what was there and all bytes, escaped.
 use Rattle.std.proofs.Common.{◌≡◌, ◌++◌, drop}
 use Rattle.exchange_report.specs.Words.{escaped_text}
 use Rattle.exchange_report.proofs.words.write_bytes.Given as goal

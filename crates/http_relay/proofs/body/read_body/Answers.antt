@@ -1,3 +1,4 @@
+-- Runs one after another are one reading; a run that breaks before any byte of the body came breaks the whole.
 use Rattle.std.proofs.Common.{◌-◌, length, sym, ap, arith, length-drop, ◌∙◌}
 use Rattle.http_relay.proofs.Bodies.{reads_more_runs, reads_kept, reads_none, breaks_behind, not_ended}
 use Rattle.http_relay.proofs.body.read_body.Goals as goal

@@ -1,3 +1,4 @@
+-- What a prefix of the bytes reads or breaks, all of them do; where its part finds no room, the next byte is one of the body.
 use Rattle.std.proofs.Common.{◌≡◌, ℕ, ◌<◌, List, length, take, refl, ap, sym, subst, ◌∙◌, arith}
 use Rattle.http_relay.specs.Body.{ReadsOn}
 use Rattle.http_relay.proofs.Bodies.{breaks_whole, reads_whole, next_is_body}

@@ -1,3 +1,4 @@
+-- What comes next is all of the body that may go and fits, and its end where that follows; or the body breaks its length.
 use Rattle.std.proofs.Common.{◌≡◌, ◌≤◌, ◌+◌, IfSome, sym, subst, ap, ◌∙◌, arith}
 use Rattle.trace_core.specs.History.{shows}
 use Rattle.trace_core.specs.declared.history.Seen.{Seen}

@@ -1,3 +1,4 @@
+-- A body breaks its length where more bytes came than that, or fewer and it is over.
 use Rattle.std.proofs.Common.{◌≡◌, ◌<◌, arith, ap, true}
 use Rattle.std.proofs.lemmas.Bool.Decides.{nat_tests}
 use Rattle.http_relay.specs.Message.{length_of}

@@ -1,3 +1,4 @@
+-- What was taken of a begun message is a prefix of one message, and all of it once its end is fixed and nothing waits.
 use Rattle.http_relay.proofs.Whole.{front_at, out_front_at, whole_at, whole_front_at, empty_at}
 use Rattle.http_relay.proofs.laws.given_is_a_front.Goals as goal
 

@@ -1,3 +1,4 @@
+-- Before a message nothing was taken of one, and where no byte went out, nothing was taken at all.
 use Rattle.http_relay.specs.HopLaws.{fresh_given, given_fresh}
 use Rattle.http_relay.proofs.laws.nothing_before_the_message.Goals as goal
 

@@ -1,3 +1,4 @@
+-- While a refusal is written, a prefix of it was taken, all of it once nothing waits, and nothing of a message.
 use Rattle.http_relay.proofs.Whole.{refusal_front, refusal_whole}
 use Rattle.http_relay.specs.HopLaws.{no_message_at}
 use Rattle.http_relay.proofs.laws.refusal_goes_alone.Goals as goal

@@ -1,3 +1,4 @@
+-- A name that is an item of one Connection field is named by Connection.
 use Rattle.std.proofs.Common.{sym, ◌∙◌, arith, ap}
 use Rattle.adapt_bytes.specs.Text.{has_item}
 use Rattle.http_side.proofs.ForwardLemmas.{named_here}

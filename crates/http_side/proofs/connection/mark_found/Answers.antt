@@ -1,3 +1,4 @@
+-- If the first of the names from the item on is marked, so is each field that the item names.
 use Rattle.std.proofs.Common.{◌≡◌, true, false, subst, arith, rules}
 use Rattle.std.specs.Prelude.{slice_index_or}
 use Rattle.http_side.proofs.NameLemmas.{front_marked}

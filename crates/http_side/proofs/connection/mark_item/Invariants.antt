@@ -1,3 +1,4 @@
+-- The fields before this one are also marked where the item names them; the others are as they were.
 use Rattle.std.proofs.Common.{◌≡◌, ℕ, ◌<◌, ◌≤◌, false, ◌||◌, length}
 use Rattle.std.specs.Prelude.{slice_index_or}
 use Rattle.std.specs.Str.{str_eq_ignore_ascii_case}

@@ -1,3 +1,4 @@
+-- The marks so far and the items left mark what the old marks and the value do.
 use Rattle.std.proofs.Common.{◌≡◌, ℕ, ◌<◌, false, ◌||◌, length}
 use Rattle.std.specs.Prelude.{slice_index_or}
 use Rattle.std.specs.List.{list_any}

@@ -1,3 +1,4 @@
+-- Beside the old marks the places of the first names that are the item are marked: up to another name, or all.
 use Rattle.std.proofs.Common.{◌≡◌, ◌||◌, false, take, sym, ap, ◌∙◌, arith}
 use Rattle.std.specs.Prelude.{slice_index_or}
 use Rattle.std.proofs.lemmas.List.{take_all}

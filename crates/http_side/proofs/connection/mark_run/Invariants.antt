@@ -1,3 +1,4 @@
+-- All names so far are the item, and the fields at their places are marked beside those before.
 use Rattle.std.proofs.Common.{◌≡◌, ℕ, ◌<◌, true, false, ◌||◌, length, take}
 use Rattle.std.specs.Prelude.{slice_index_or}
 use Rattle.std.specs.Str.{str_eq_ignore_ascii_case}

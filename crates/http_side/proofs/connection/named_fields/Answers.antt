@@ -1,3 +1,4 @@
+-- Without a Connection field none is named; with one short value just the fields that its items name are marked.
 use Rattle.std.proofs.Common.{◌||◌, sym, ap, ◌∙◌, false, arith}
 use Rattle.std.specs.List.{list_any}
 use Rattle.std.proofs.lemmas.List.{get_or-replicate}

@@ -1,3 +1,4 @@
+-- At the start no field is marked, so those of one name are marked alike.
 use Rattle.std.proofs.Common.{refl, sym, ◌∙◌, false, arith}
 use Rattle.std.proofs.lemmas.List.{get_or-replicate}
 use Rattle.http_side.proofs.connection.searched_fields.Goals as goal

@@ -1,3 +1,4 @@
+-- Just the fields that the Connection fields so far name are marked; those of one name are marked alike.
 use Rattle.std.proofs.Common.{◌≡◌, ℕ, ◌<◌, false, length, take}
 use Rattle.std.specs.Prelude.{slice_index_or}
 use Rattle.adapt_bytes.specs.Fields.{name_at}

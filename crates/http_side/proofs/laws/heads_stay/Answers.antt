@@ -1,3 +1,4 @@
+-- A head that a text begins with stays the same, and as long, whatever bytes follow the text.
 use Rattle.http_side.proofs.Stays.{request_stays, response_stays}
 use Rattle.http_side.proofs.laws.heads_stay.Goals as goal
 

@@ -1,3 +1,4 @@
+-- A text has to be refused for one fault at most, and one that has to be refused has no head.
 use Rattle.http_side.proofs.RequestAnswers.{one_fault, head_or_fault}
 use Rattle.http_side.proofs.ResponseAnswers.{one_fault as one_response_fault, head_or_fault as response_or_fault}
 use Rattle.http_side.proofs.laws.one_fault.Goals as goal

@@ -1,3 +1,4 @@
+-- Two heads that one text begins with have the same parts and the same length.
 use Rattle.std.proofs.Common.{sym, ◌∙◌}
 use Rattle.http_side.specs.Heads.{judged}
 use Rattle.http_side.proofs.RequestAnswers.{one_at}

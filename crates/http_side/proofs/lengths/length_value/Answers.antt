@@ -1,3 +1,4 @@
+-- A decimal below the limit of counts is the length; a text that spells no number of 64 bits gives none.
 use Rattle.http_side.proofs.LengthLemmas.{length_some, length_none}
 use Rattle.http_side.proofs.lengths.length_value.Goals as goal
 

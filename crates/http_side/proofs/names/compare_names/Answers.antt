@@ -1,3 +1,4 @@
+-- Where one of the names ends and no byte before differed, their lengths decide.
 use Rattle.std.proofs.Common.{◌≤◌, length, inl, inr, ◌⊎◌, sym, ◌∙◌, arith}
 use Rattle.std.proofs.lemmas.Bool.{cases_lt}
 use Rattle.http_side.proofs.NameLemmas.{order_at_end}

@@ -1,3 +1,4 @@
+-- The names are in the order of what is left of both from here on.
 use Rattle.std.proofs.Common.{◌≡◌, drop}
 use Rattle.http_side.specs.Names.{name_order}
 use Rattle.http_side.proofs.names.compare_names.Given as goal

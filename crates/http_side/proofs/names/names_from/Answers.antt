@@ -1,3 +1,4 @@
+-- After the lesser names those that are equal come first, with the places of just the fields so named.
 use Rattle.std.proofs.Common.{◌≡◌, ◌-◌, length, take, drop, rules, of_calls, arith}
 use Rattle.std.specs.Ordering.{is_lt}
 use Rattle.std.specs.List.{prefix_len}

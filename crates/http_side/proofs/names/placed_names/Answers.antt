@@ -1,3 +1,4 @@
+-- With one more each name is still that of the field at its place, and each place up to this one is there.
 use Rattle.std.proofs.Common.{◌≡◌, ℕ, ◌<◌, ◌+◌, length, All, sym, refl, subst, arith}
 use Rattle.std.specs.List.{Contains}
 use Rattle.std.proofs.lemmas.List.Elements.{All-push}

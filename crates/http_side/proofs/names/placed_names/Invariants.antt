@@ -1,3 +1,4 @@
+-- Each name is that of the field at its place, and the place of each field so far is there.
 use Rattle.std.proofs.Common.{◌≡◌, ℕ, ◌<◌, ◌≤◌, length, All}
 use Rattle.std.specs.List.{Contains}
 use Rattle.adapt_bytes.specs.Fields.{name_at}

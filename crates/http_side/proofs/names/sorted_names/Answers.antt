@@ -1,3 +1,4 @@
+-- A sort only moves the names, each with its place, and puts them in their order.
 use Rattle.std.proofs.Common.{◌≡◌, rules, of_calls, length, sym, ap, ◌∙◌, subst}
 use Rattle.std.specs.List.Sorted.{IsPermutation}
 use Rattle.std.specs.Str.{str_to_ascii_lowercase}

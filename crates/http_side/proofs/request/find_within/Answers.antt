@@ -1,3 +1,4 @@
+-- A head is there at its offsets; a text may be refused for its fault, or as too long if unfinished at 16,384 bytes.
 use Rattle.std.proofs.Common.{ℕ, List, subst, arith}
 use Rattle.httparse.specs.Grammar.{HasNoRequest, MayBecomeRequest}
 use Rattle.http_side.proofs.RequestLemmas.{refused_at, there_at}

@@ -1,3 +1,4 @@
+-- A head is refused for its first fault, CONNECT, an unserved target or want of memory; else it is taken.
 use Rattle.std.proofs.Common.{◌≡◌, Bool, false, List, ℕ, None, Ok, refl, sym, ap, ◌∙◌, subst}
 use Rattle.httparse.specs.Spans.{span_bytes}
 use Rattle.http_side.specs.Heads.{RequestParts, parts_at, request_fault, is_connect, is_options}

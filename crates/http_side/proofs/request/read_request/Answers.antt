@@ -1,3 +1,4 @@
+-- A head that is there is answered, and so is a fault that stands, unless memory runs out for head or target.
 use Rattle.http_side.proofs.RequestAnswers.{head_told, fault_told}
 use Rattle.http_side.proofs.request.read_request.Goals as goal
 

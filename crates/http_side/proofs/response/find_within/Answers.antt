@@ -1,3 +1,4 @@
+-- A text may be refused for its head's fault, or as too long if its first 16,384 bytes are an unfinished head.
 use Rattle.std.proofs.Common.{ℕ, List, subst, arith}
 use Rattle.httparse.specs.Grammar.{HasNoResponse, MayBecomeResponse}
 use Rattle.http_side.proofs.ResponseLemmas.{refused_at}

@@ -1,3 +1,4 @@
+-- A head is refused for the first fault of its fields.
 use Rattle.std.proofs.Common.{sym, ap, ◌∙◌}
 use Rattle.http_side.specs.Heads.{response_at, fields_fault}
 use Rattle.http_side.proofs.ResponseLemmas.{refuses}

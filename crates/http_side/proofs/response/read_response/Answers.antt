@@ -1,3 +1,4 @@
+-- A head that is there is answered, unless memory runs out; a fault that stands is answered in any case.
 use Rattle.http_side.proofs.ResponseAnswers.{head_told, fault_told}
 use Rattle.http_side.proofs.response.read_response.Goals as goal
 

@@ -1,3 +1,4 @@
+-- The length so far is that of the lines at the places so far, up to the largest number of 64 bits.
 use Rattle.std.proofs.Common.{◌≡◌, take}
 use Rattle.std.specs.Prelude.{option_copied}
 use Rattle.http_side.specs.Forward.{field_lines, sent_fields, size_of}

@@ -1,3 +1,4 @@
+-- The length is that of all parts and the empty line, up to the largest number of 64 bits.
 use Rattle.std.proofs.Common.{lit≤}
 use Rattle.http_side.proofs.Sums.{parts}
 use Rattle.http_side.proofs.sizes.head_len.Goals as goal

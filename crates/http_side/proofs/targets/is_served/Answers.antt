@@ -1,3 +1,4 @@
+-- All URIs that a target spells have one scheme and one authority, so the one that is read decides.
 use Rattle.std.proofs.Common.{◌≡◌, Bool, true, false, Option, List, ℕ, sym, ap, ◌∙◌}
 use Rattle.http_uri.proofs.Theorems.{Spells_unique}
 use Rattle.http_uri.specs.Uri.{uri_scheme, uri_authority}

@@ -1,3 +1,4 @@
+-- Each field that stays goes on, except a Content-Length after another one.
 use Rattle.std.proofs.Common.{◌≡◌, ◌<◌, Bool, false, List, ℕ, [], ◌∷◌, ◌++◌, ◌&&◌, ◌||◌, map, length, take, All, sym, ap, ◌∙◌, subst, arith}
 use Rattle.std.specs.List.{list_any, filter}
 use Rattle.std.proofs.lemmas.List.{map-append}

@@ -1,3 +1,4 @@
+-- The places are those of the fields so far that go on, and it is known whether a Content-Length is among them.
 use Rattle.std.proofs.Common.{◌≡◌, ◌<◌, ◌≤◌, take, false, map, length, All}
 use Rattle.std.specs.List.{list_any, filter}
 use Rattle.adapt_bytes.specs.Fields.{field_at}

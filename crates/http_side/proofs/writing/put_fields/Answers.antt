@@ -1,3 +1,4 @@
+-- Where there was room for the lines of all fields, there is room for the next one.
 use Rattle.std.proofs.Common.{◌≡◌, length, ap, ◌∙◌, get_or, arith}
 use Rattle.std.specs.Prelude.{option_copied}
 use Rattle.adapt_bytes.specs.Fields.{field_at, name_at}

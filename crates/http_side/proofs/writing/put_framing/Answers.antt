@@ -1,3 +1,4 @@
+-- The length of zero and then the coding are written, each where it is asked for.
 use Rattle.std.specs.Prelude.{codes}
 use Rattle.http_side.specs.Forward.{when}
 use Rattle.http_side.proofs.Writes.{puts_lines}

@@ -1,3 +1,4 @@
+-- The version, three digits, a space, the phrase and CR LF are written one after the other.
 use Rattle.std.proofs.Common.{List, ℕ, subst}
 use Rattle.adapt_bytes.specs.Room.{Puts}
 use Rattle.http_side.proofs.Writes.{puts_both}

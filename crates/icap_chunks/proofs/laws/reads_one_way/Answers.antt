@@ -1,3 +1,4 @@
+-- A text that is a whole chunked body has one body, and ends with `ieof` or without it, never both.
 use Rattle.icap_chunks.proofs.Written.{one_reading}
 use Rattle.icap_chunks.proofs.laws.reads_one_way.Goals as goal
 

@@ -1,3 +1,4 @@
+-- The outcome within a piece or the rest is that of the text; without one, the text is a prefix of a body.
 use Rattle.std.proofs.Common.{arith, ap, subst, Option, Ok}
 use Rattle.std.specs.Prelude.{IfSome}
 use Rattle.icap_chunks.specs.declared.pieces.Outcome.{Outcome}

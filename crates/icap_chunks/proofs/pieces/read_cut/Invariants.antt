@@ -1,3 +1,4 @@
+-- The text is read up to the collector's offset, and neither the end nor a fault has come.
 use Rattle.icap_chunks.specs.Collected.{HasReadTo}
 use Rattle.icap_chunks.proofs.pieces.read_cut.Given as goal
 

@@ -1,3 +1,4 @@
+-- If no piece has the end or a fault, the text is a prefix of a body.
 use Rattle.icap_chunks.specs.declared.pieces.Outcome.TheVariants.{More}
 use Rattle.icap_chunks.proofs.Readings.{reading_as, collected}
 use Rattle.icap_chunks.proofs.pieces.read_in_pieces.Goals as goal

@@ -1,3 +1,4 @@
+-- The text is read up to the collector's offset, without an end or a fault; less of it is left at each turn.
 use Rattle.std.proofs.Common.{◌-◌, length}
 use Rattle.icap_chunks.specs.Collected.{HasReadTo}
 use Rattle.icap_chunks.proofs.pieces.read_in_pieces.Given as goal

@@ -1,3 +1,4 @@
+-- Whether a 100 is among the events is told by those that are left.
 use Rattle.std.proofs.Common.{◌≡◌, drop}
 use Rattle.std.specs.List.{list_any}
 use Rattle.trace_core.specs.History.{is_continue}

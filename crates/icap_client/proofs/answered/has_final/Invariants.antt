@@ -1,3 +1,4 @@
+-- Whether a final response is among the events is told by those that are left.
 use Rattle.std.proofs.Common.{◌≡◌, drop}
 use Rattle.std.specs.List.{list_any}
 use Rattle.icap_client.specs.Events.{is_final}

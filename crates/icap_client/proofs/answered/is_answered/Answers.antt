@@ -1,3 +1,4 @@
+-- Whether a preview is answered after events is told by what stood before and by what they bring.
 use Rattle.std.proofs.Common.{Bool, not, ◌||◌, ◌&&◌, ap, ◌∙◌}
 use Rattle.std.specs.List.{list_any}
 use Rattle.trace_core.specs.History.{is_continue, is_preview}

@@ -1,3 +1,4 @@
+-- A run's bytes come right after those of the runs before; a fault with no body byte before it breaks the bytes as a whole.
 use Rattle.std.proofs.Common.{◌-◌, length, ap, arith, length-drop}
 use Rattle.icap_client.proofs.Bodies.{reads_more_runs, reads_kept, reads_none, breaks_behind, not_ended}
 use Rattle.icap_client.proofs.body.read_body.Goals as goal

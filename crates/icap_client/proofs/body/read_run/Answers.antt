@@ -1,3 +1,4 @@
+-- A run or a fault of the first piece is one of all the bytes; a byte that finds no room is one of the body.
 use Rattle.std.proofs.Common.{◌≡◌, ℕ, ◌<◌, List, length, take, refl, ap, sym, subst, ◌∙◌, arith}
 use Rattle.icap_client.specs.Hearing.{ReadsOn}
 use Rattle.icap_client.proofs.Bodies.{breaks_whole, reads_whole, next_is_body}

@@ -1,3 +1,4 @@
+-- The count is the most bytes that may be sent and fit the turn, and at least one where any may be sent.
 use Rattle.std.proofs.Common.{arith}
 use Rattle.icap_client.proofs.due.bytes_due.Goals as goal
 

@@ -1,3 +1,4 @@
+-- Whether a line ends in the bytes is told by those that are left.
 use Rattle.std.proofs.Common.{◌≡◌, drop}
 use Rattle.adapt_bytes.specs.Text.{has_line}
 use Rattle.icap_client.proofs.kept.has_line.Given as goal

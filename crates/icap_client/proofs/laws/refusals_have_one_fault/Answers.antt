@@ -1,3 +1,4 @@
+-- Bytes are refused with one fault at most, want of memory excepted.
 use Rattle.icap_client.proofs.OneFault.{one_fault}
 use Rattle.icap_client.proofs.laws.refusals_have_one_fault.Goals as goal
 

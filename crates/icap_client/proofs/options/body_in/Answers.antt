@@ -1,3 +1,4 @@
+-- A list that can be read says whether there is a body; one that cannot is no list of an OPTIONS answer.
 use Rattle.std.proofs.Common.{◌≡◌, ◌∙◌, sym, Ok, Err}
 use Rattle.icap_client.proofs.options.body_in.Goals as goal
 

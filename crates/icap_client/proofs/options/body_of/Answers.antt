@@ -1,3 +1,4 @@
+-- Where the only Encapsulated value is no list of an OPTIONS answer, the fields are not those of one.
 use Rattle.std.proofs.Common.{rules, ◌≡◌, ℕ, Bool, List, [], ◌∷◌, codes, IfNone, sym, subst}
 use Rattle.adapt_bytes.specs.Fields.{values_of}
 use Rattle.icap_head.specs.Fields.{field_list}

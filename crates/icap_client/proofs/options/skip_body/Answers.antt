@@ -1,3 +1,4 @@
+-- Run after run of the body is skipped; what breaks a run breaks the body after the part that was skipped before it.
 use Rattle.std.proofs.Common.{[], ◌++◌, length, ap, arith, length-drop}
 use Rattle.icap_client.proofs.Bodies.{not_ended}
 use Rattle.icap_client.proofs.Skipping.{skip_none, skip_more, skip_breaks}

@@ -1,3 +1,4 @@
+-- The bytes so far are read, with some part of the body in them, and the body goes on.
 use Rattle.std.proofs.Common.{◌≡◌, ◌≤◌, ◌-◌, ℕ, List, None, length}
 use Rattle.icap_chunks.specs.Machine.{end_of, fault_of}
 use Rattle.icap_client.specs.Hearing.{ReadsOn}

@@ -1,3 +1,4 @@
+-- Whatever the wire answers, the turn is a write turn, notes whether the last Stop is fixed, and leaves the heads' text.
 use Rattle.std.proofs.Common.{◌≡◌, ◌+◌, ◌&&◌, ◌||◌, subst, ◌∙◌, refl, Some, None, Ok, Err, rules}
 use Rattle.trace_core.specs.declared.history.Seen.{Seen}
 use Rattle.icap_client.specs.Turns.{is_last_at}

@@ -1,3 +1,4 @@
+-- All fields are writable if and only if those from this one on are.
 use Rattle.std.proofs.Common.{◌↔◌, drop}
 use Rattle.std.specs.List.{AllByRecursion}
 use Rattle.icap_head.specs.Fields.{field_list}

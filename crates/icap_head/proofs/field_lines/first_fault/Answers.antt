@@ -1,3 +1,4 @@
+-- The fault of the first 101 lines is that of the whole text; where fewer lines end, the text's fault is the one that was given.
 use Rattle.std.proofs.Common.{◌≡◌, ℕ, ◌-◌, ◌<◌, ◌≤◌, List, length, get_or, take, drop, subst}
 use Rattle.std.proofs.lemmas.List.{take_rest}
 use Rattle.icap_head.specs.FieldLines.{line_count}

@@ -1,3 +1,4 @@
+-- A field is writable just if its name is a token and its value has value bytes only, with no blank at its ends.
 use Rattle.std.proofs.Common.{sym, ◌∙◌, refl}
 use Rattle.icap_head.proofs.Lacking.{false_true}
 use Rattle.icap_head.proofs.Trimmed.{name_token, token_name, trimmed_is, is_trimmed, compared}

@@ -1,3 +1,4 @@
+-- The lines that have ended so far and those still to end make the count, and some are still to end.
 use Rattle.std.proofs.Common.{◌≡◌, ◌+◌, ◌<◌, take}
 use Rattle.icap_head.specs.FieldLines.{line_count}
 use Rattle.icap_head.proofs.field_lines.lines_end.Given as goal

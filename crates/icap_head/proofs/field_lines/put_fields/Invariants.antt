@@ -1,3 +1,4 @@
+-- To what was there, the lines of the fields before this one are added.
 use Rattle.std.proofs.Common.{◌≡◌, ◌++◌, take}
 use Rattle.std.specs.List.{flat_map}
 use Rattle.icap_head.specs.Fields.{field_list}

@@ -1,3 +1,4 @@
+-- Where the list finds no memory, at most 100 fields and an empty line stand after the start.
 use Rattle.std.proofs.Common.{inl, refl, arith}
 use Rattle.icap_head.proofs.FieldFaults.{counted_fields}
 use Rattle.icap_head.proofs.field_lines.read_within.Goals as goal

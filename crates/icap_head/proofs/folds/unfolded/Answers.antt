@@ -1,3 +1,4 @@
+-- There is room for what is added; all of it, with a held line end once the text reaches the limit, is the unfolded text.
 use Rattle.std.proofs.Common.{◌≡◌, ◌++◌, get_or, sym, ap, ap₂, ◌∙◌, arith, length, take, length-take, length-take-le, take_all}
 use Rattle.icap_head.specs.declared.folds.HeadPlace.TheVariants.{StartLine}
 use Rattle.icap_head.specs.Folds.{head_byte, held, place_after, added, place_behind, all_added}

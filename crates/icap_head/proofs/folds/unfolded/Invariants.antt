@@ -1,3 +1,4 @@
+-- What is written, and the place in the head, are those of the bytes so far.
 use Rattle.std.proofs.Common.{◌≡◌, take}
 use Rattle.icap_head.specs.declared.folds.HeadPlace.TheVariants.{StartLine}
 use Rattle.icap_head.specs.Folds.{place_behind, all_added}

@@ -1,3 +1,4 @@
+-- Where a head of a request or a response is cut before its last byte, the fault is More.
 use Rattle.icap_head.specs.Heads.{StartsRequest, StartsResponse}
 use Rattle.icap_head.specs.StartLines.{RequestForm, StatusForm}
 use Rattle.icap_head.proofs.Follows.{front_is_more}

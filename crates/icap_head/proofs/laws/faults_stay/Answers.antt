@@ -1,3 +1,4 @@
+-- A fault other than More stays the same whatever bytes follow.
 use Rattle.icap_head.specs.StartLines.{RequestForm, StatusForm}
 use Rattle.icap_head.proofs.Follows.{fault_stays}
 use Rattle.icap_head.proofs.Folding.{folded_fault_stays}

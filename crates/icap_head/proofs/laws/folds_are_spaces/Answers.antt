@@ -1,3 +1,4 @@
+-- A response's head without folds is read as it is; one with folds reads the same without what follows it.
 use Rattle.std.proofs.Common.{◌∙◌, ap, length, length-take-le}
 use Rattle.icap_head.specs.Folds.{unfolded}
 use Rattle.icap_head.specs.Heads.{StartsResponse}

@@ -1,3 +1,4 @@
+-- A head at the start of a text stays there, of the same length, whatever bytes follow.
 use Rattle.icap_head.specs.Heads.{StartsRequest, StartsResponse}
 use Rattle.icap_head.proofs.Readings.{has_head-append}
 use Rattle.icap_head.proofs.Folding.{has_folded-append}

@@ -1,3 +1,4 @@
+-- Read as a request, or as a response, a text has at most one fault, and none if it begins with a head of that kind.
 use Rattle.icap_head.specs.StartLines.{RequestForm, StatusForm}
 use Rattle.icap_head.specs.Folds.{unfolded}
 use Rattle.icap_head.proofs.OneReading.{request_version, status_version, no_request_fault, no_response_fault}

@@ -1,3 +1,4 @@
+-- A text begins with at most one head of a request and at most one of a response, each of one length.
 use Rattle.icap_head.specs.Folds.{unfolded}
 use Rattle.icap_head.proofs.OneReading.{request_unique, response_unique}
 use Rattle.icap_head.proofs.laws.one_head.Goals as goal

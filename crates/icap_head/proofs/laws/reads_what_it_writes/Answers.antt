@@ -1,3 +1,4 @@
+-- The head written of a writable value, of at most 100 fields and 16,384 bytes, is found whole, whatever follows.
 use Rattle.std.proofs.Common.{◌++◌, length}
 use Rattle.icap_head.specs.Heads.{StartsRequest, StartsResponse}
 use Rattle.icap_head.specs.Written.{request_text, response_text}

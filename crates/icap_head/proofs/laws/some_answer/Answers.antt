@@ -1,3 +1,4 @@
+-- It can't be that a text has neither a head nor a fault, be it read as a request or as a response.
 use Rattle.std.proofs.Common.{inl, inr}
 use Rattle.icap_head.specs.Folds.{unfolded}
 use Rattle.icap_head.proofs.Totals.{some_request, some_response}

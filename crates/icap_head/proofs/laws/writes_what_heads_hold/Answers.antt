@@ -1,3 +1,4 @@
+-- A request or a response can be written if and only if some text is its head.
 use Rattle.icap_head.specs.Written.{request_text, response_text}
 use Rattle.icap_head.proofs.Back.{request_back, response_back}
 use Rattle.icap_head.proofs.Held.{request_held, response_held}

@@ -1,3 +1,4 @@
+-- A line that has come to its value is still there with one more value byte.
 use Rattle.std.proofs.Common.{sym, ◌∙◌}
 use Rattle.icap_head.proofs.LineFront.{more_value}
 use Rattle.icap_head.proofs.line_front.behind_value.Goals as goal

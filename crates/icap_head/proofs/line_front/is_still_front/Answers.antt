@@ -1,3 +1,4 @@
+-- More still applies after a piece that ends no line and that the last line can take, below the limit of a head.
 use Rattle.std.proofs.Common.{sym, ◌∙◌, arith}
 use Rattle.std.proofs.lemmas.List.{take_rest}
 use Rattle.icap_head.specs.StartLines.{RequestForm, StatusForm}

@@ -1,3 +1,4 @@
+-- The offset is within the text, and no LF stands from there to the end; it falls at each turn.
 use Rattle.std.proofs.Common.{◌≢◌, ℕ, ◌<◌, ◌≤◌, length, slice_index}
 use Rattle.icap_head.proofs.line_front.last_line.Given as goal
 

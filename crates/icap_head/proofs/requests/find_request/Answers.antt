@@ -1,3 +1,4 @@
+-- The first line and the fields give the head or a fault; NoMemory comes only where the fields are whole.
 use Rattle.std.proofs.Common.{◌≡◌, inl, drop, rules, subst, codes}
 use Rattle.std.proofs.lemmas.Result.{err_from_is_err_and}
 use Rattle.icap_head.specs.Methods.{request_method_name}

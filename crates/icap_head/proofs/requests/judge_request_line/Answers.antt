@@ -1,3 +1,4 @@
+-- The line that is read is the only first line of the text; where no line has ended, there is none.
 use Rattle.std.proofs.Common.{drop, rules, subst, codes, sym}
 use Rattle.icap_head.specs.StartLines.{HasNoLine, IsFirstLine, IsRequestLine, RequestForm}
 use Rattle.icap_head.proofs.Words.{first_unique}

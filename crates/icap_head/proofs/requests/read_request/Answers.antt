@@ -1,3 +1,4 @@
+-- A head or a fault that applies is answered, unless memory runs out; a request that is read can be written.
 use Rattle.std.proofs.Common.{take}
 use Rattle.icap_head.specs.Heads.{request_parts}
 use Rattle.icap_head.proofs.FieldFaults.{ok_map}

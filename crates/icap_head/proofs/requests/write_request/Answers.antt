@@ -1,3 +1,4 @@
+-- What is written is the request's text, and is a head of the same request.
 use Rattle.std.proofs.Common.{◌≡◌, [], ◌∷◌, ◌++◌, subst, sym, rules, ◌∙◌, codes}
 use Rattle.icap_head.specs.Fields.{field_list}
 use Rattle.icap_head.specs.Heads.{IsRequestHead, request_parts}

@@ -1,3 +1,4 @@
+-- A head found in the text as it came is its head with the folds read too, also where no memory is found to keep it.
 use Rattle.icap_head.specs.Fields.{field_list}
 use Rattle.icap_head.specs.Heads.{StartsResponse, response_parts}
 use Rattle.icap_head.proofs.Folding.{head_stays}

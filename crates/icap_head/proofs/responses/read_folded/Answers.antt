@@ -1,3 +1,4 @@
+-- The head or the fault of the copy, whose folds are written over, is that of the text.
 use Rattle.std.proofs.Common.{◌≡◌, ℕ, List, ◌⊎◌, IfOk, IfErr, ◌∙◌, subst}
 use Rattle.icap_head.specs.declared.reading.HeadFault.TheVariants.{NoMemory}
 use Rattle.icap_head.specs.StartLines.{StatusForm}

@@ -1,3 +1,4 @@
+-- The status line and the fields give the head or a fault; NoMemory comes only where there is a head.
 use Rattle.std.proofs.Common.{◌≡◌, inl, inr, drop, rules, subst, codes, refl}
 use Rattle.std.proofs.lemmas.Result.{err_from_is_err_and}
 use Rattle.icap_head.specs.StartLines.{HasNoLine, IsStatusLine}

@@ -1,3 +1,4 @@
+-- A head is read, unless memory runs out, and a fault answered; the head lies in the text and can be written.
 use Rattle.std.proofs.Common.{ℕ, arith, take}
 use Rattle.icap_head.specs.Folds.{unfolded}
 use Rattle.icap_head.specs.Heads.{Response, HasResponse, response_parts}

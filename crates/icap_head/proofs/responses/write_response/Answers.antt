@@ -1,3 +1,4 @@
+-- What is written is the response's text, and is a head of the same response.
 use Rattle.std.proofs.Common.{◌≡◌, [], ◌∷◌, ◌++◌, subst, sym, rules, ◌∙◌, codes}
 use Rattle.icap_head.specs.Fields.{field_list}
 use Rattle.icap_head.specs.Heads.{IsResponseHead, response_parts}

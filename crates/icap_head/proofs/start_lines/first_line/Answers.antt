@@ -1,3 +1,4 @@
+-- The bytes before the first LF, without one CR at their end, are the first line; without an LF there is none.
 use Rattle.std.proofs.Common.{take, rules}
 use Rattle.adapt_bytes.proofs.Cuts.{cut_here, Lacks-take}
 use Rattle.icap_head.proofs.Lacking.{lacks_cut}

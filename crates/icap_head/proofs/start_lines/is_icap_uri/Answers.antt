@@ -1,3 +1,4 @@
+-- A text that spells a URI and has no number sign is an ICAP URI just if the URI's scheme is `icap`, in any case of its letters.
 use Rattle.std.proofs.Common.{rules, ◌∙◌}
 use Rattle.adapt_bytes.specs.Text.{Lacks}
 use Rattle.http_uri.proofs.Theorems.{Spells_unique}

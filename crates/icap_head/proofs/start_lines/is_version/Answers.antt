@@ -1,3 +1,4 @@
+-- A text of the form of a version, with a first digit, is a version just if its last byte is a digit too.
 use Rattle.std.proofs.Common.{rules, ap, ◌∙◌, get_or, arith}
 use Rattle.std.specs.Char.{is_ascii_digit}
 use Rattle.icap_head.proofs.Words.{version_from}

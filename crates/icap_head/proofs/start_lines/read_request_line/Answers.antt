@@ -1,3 +1,4 @@
+-- A request line of version 1.0 is read, any other line refused; where no memory is found to judge the URI, the line may be one.
 use Rattle.std.proofs.Common.{◌≡◌, ◌≢◌, ℕ, List, rules, IsTrue, false, subst, sym, codes, refl, ◌∙◌, ◌++◌, ◌∷◌, inl, inr}
 use Rattle.adapt_bytes.specs.Text.{IsToken, Lacks}
 use Rattle.icap_head.specs.StartLines.{IsVersion, IsIcapUri, IsRequestLine, MayBeRequestLine, RequestForm, RefusesStartLine}

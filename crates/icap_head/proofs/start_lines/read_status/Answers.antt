@@ -1,3 +1,4 @@
+-- Three digits are a status without a phrase; with a space after them, what follows it is the phrase.
 use Rattle.std.proofs.Common.{rules, ◌≡◌, get_or, arith, subst, sym}
 use Rattle.std.proofs.lemmas.List.{take_rest}
 use Rattle.icap_head.specs.StartLines.{IsStatus}

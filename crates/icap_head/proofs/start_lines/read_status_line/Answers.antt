@@ -1,3 +1,4 @@
+-- A line without a space, without a version before it or a status after it is refused as a start line.
 use Rattle.std.proofs.Common.{ℕ, List, inl, IsTrue, false, subst, sym, refl}
 use Rattle.icap_head.specs.StartLines.{IsVersion, IsStatus, IsStatusLine, StatusForm, RefusesStartLine}
 use Rattle.icap_head.specs.declared.reading.HeadFault.TheVariants.{StartLine}

@@ -1,3 +1,4 @@
+-- At the end, at a close, or where the reader fails, what was read is answered; where memory ran out, a prefix of it.
 use Rattle.std.proofs.Common.{take, sym, ap, ◌∙◌}
 use Rattle.icap_services.specs.Texts.{shown}
 use Rattle.icap_server.proofs.Connections.{goes_on, read, read_kept, front_kept, ends_at, closes}

@@ -1,3 +1,4 @@
+-- What was written is what the side answered to what was read, and the side is open.
 use Rattle.icap_services.specs.Texts.{shown}
 use Rattle.icap_server.specs.Connection.{ServesOn}
 use Rattle.icap_server.proofs.connection.serve.Given as goal

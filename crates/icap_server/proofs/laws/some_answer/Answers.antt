@@ -1,3 +1,4 @@
+-- It can't be that no text answers a stream.
 use Rattle.icap_server.proofs.SomeAnswer.{answers_some}
 use Rattle.icap_server.proofs.laws.some_answer.Goals as goal
 

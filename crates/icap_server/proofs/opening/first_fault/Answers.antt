@@ -1,3 +1,4 @@
+-- The start line's fault stands; where that line is sound, the given fault does; or memory is wanting.
 use Rattle.std.proofs.Common.{inl, inr}
 use Rattle.icap_server.proofs.opening.first_fault.Goals as goal
 

@@ -1,3 +1,4 @@
+-- What is found at a key is the table's member there, so the integer is that member's.
 use Rattle.std.proofs.Common.{◌∙◌}
 use Rattle.toml.proofs.Views.{table_get}
 use Rattle.icapd_commands.proofs.config.integer_at.Goals as goal

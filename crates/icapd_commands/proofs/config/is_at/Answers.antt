@@ -1,3 +1,4 @@
+-- A value is found at a key exactly where the table has a member there.
 use Rattle.std.proofs.Common.{◌∙◌, ap, is_some}
 use Rattle.toml.specs.View.{view}
 use Rattle.toml.proofs.Views.{table_get}

@@ -1,3 +1,4 @@
+-- A text that writes no IPv4 address, or one with port 0, says no address to listen at.
 use Rattle.std.proofs.Common.{◌∙◌, sym}
 use Rattle.toml.specs.View.{table_view}
 use Rattle.icapd_commands.proofs.Forms.{no_address, no_port}

@@ -1,3 +1,4 @@
+-- Each piece on the tape is held on a page of its own: one more in each step, and as many after each round.
 use Rattle.std.proofs.Common.{◌≡◌, ◌+◌, ◌*◌, length}
 use Rattle.layer_bench.proofs.budget.time_tape.Given as goal
 

@@ -1,3 +1,4 @@
+-- Each turn leaves fewer bytes of the piece.
 use Rattle.std.proofs.Common.{length}
 use Rattle.layer_bench.proofs.chunks.feed_piece.Given as goal
 

@@ -1,3 +1,4 @@
+-- After a legal history the table's script for a held place is one for it; no script of the table is longer than the maximum.
 use Rattle.trace_core.specs.History.{seen}
 use Rattle.need_witness.proofs.Scripted.{is_script}
 use Rattle.need_witness.proofs.FewEvents.{few_events}

@@ -1,3 +1,4 @@
+-- A single Encapsulated field passes just if an OPTIONS response may have its list.
 use Rattle.std.proofs.Common.{◌≡◌, ℕ, List, [], ◌∷◌, codes, inl, inr, sym, ◌∙◌, subst, ap}
 use Rattle.adapt_bytes.specs.Fields.{values_of}
 use Rattle.icap_head.specs.Fields.{field_list}

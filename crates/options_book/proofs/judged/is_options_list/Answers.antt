@@ -1,3 +1,4 @@
+-- A list is read just if it has a layout of an OPTIONS response.
 use Rattle.std.proofs.Common.{sym, ◌∙◌, ap, is_ok}
 use Rattle.options_book.proofs.Oks.{ok_tells}
 use Rattle.options_book.proofs.judged.is_options_list.Goals as goal

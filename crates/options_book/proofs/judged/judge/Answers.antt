@@ -1,3 +1,4 @@
+-- Where status and methods are good, a response without a good tag is refused, and so is one with a good tag but no good numbers.
 use Rattle.std.proofs.Common.{rules}
 use Rattle.options_book.proofs.judged.judge.Goals as goal
 

@@ -1,3 +1,4 @@
+-- A response has at most one record at a moment, at most one fault, and never both.
 use Rattle.options_book.proofs.Exact.{not_both, one_fault}
 use Rattle.options_book.proofs.OneRecord.{one_record}
 use Rattle.options_book.proofs.laws.reads_one_way.Goals as goal

@@ -1,3 +1,4 @@
+-- What follows the byte that was found has no byte of this value: it is the text after the last one.
 use Rattle.options_book.proofs.LastCuts.{cut_behind}
 use Rattle.options_book.proofs.path.behind_last.Goals as goal
 

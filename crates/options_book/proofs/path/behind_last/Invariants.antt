@@ -1,3 +1,4 @@
+-- What is left is a prefix of the text, and no byte of this value stands after it; at each turn it is shorter.
 use Rattle.std.proofs.Common.{◌≡◌, ◌≢◌, ℕ, ◌<◌, ◌≤◌, length, take, get_or}
 use Rattle.options_book.proofs.path.behind_last.Given as goal
 

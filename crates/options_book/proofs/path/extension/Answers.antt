@@ -1,3 +1,4 @@
+-- A path whose last segment has no dot has no extension.
 use Rattle.std.proofs.Common.{ℕ, List, IfNone, None, Some}
 use Rattle.adapt_bytes.specs.Text.{Lacks}
 use Rattle.options_book.specs.Extension.{IsExtension}

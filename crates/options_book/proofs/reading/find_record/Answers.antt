@@ -1,3 +1,4 @@
+-- Where the record finds no memory, the response is good and says what the record would hold.
 use Rattle.std.proofs.Common.{inr, refl}
 use Rattle.icap_head.specs.Heads.{response_parts}
 use Rattle.options_book.specs.Verified.{judged_options}

@@ -1,3 +1,4 @@
+-- A fault that applies is the answer, since such a response has no record and no other fault.
 use Rattle.icap_head.specs.Heads.{response_parts}
 use Rattle.options_book.proofs.Exact.{only_fault}
 use Rattle.options_book.proofs.reading.read_record.Goals as goal

@@ -1,3 +1,4 @@
+-- The item is among all of them just if it is among those from this one on.
 use Rattle.std.proofs.Common.{◌≡◌, map, drop}
 use Rattle.adapt_bytes.specs.Text.{is_among}
 use Rattle.options_book.specs.Transfer.{vec_bytes}

@@ -1,3 +1,4 @@
+-- The copies so far, with the items of the values left, are the items of all values of the name.
 use Rattle.std.proofs.Common.{◌≡◌, ◌++◌, map}
 use Rattle.adapt_bytes.specs.Fields.{values_of}
 use Rattle.icap_head.specs.Fields.{field_list, values_left}

@@ -1,3 +1,4 @@
+-- The list has the item just if it is among the items left.
 use Rattle.std.proofs.Common.{◌≡◌}
 use Rattle.std.specs.Prelude.{bytes_eq}
 use Rattle.std.specs.List.{list_any}

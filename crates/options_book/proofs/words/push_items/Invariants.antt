@@ -1,3 +1,4 @@
+-- The copies so far, with the items left, are the copies of before with all items of the list.
 use Rattle.std.proofs.Common.{◌≡◌, ◌++◌, map}
 use Rattle.adapt_bytes.specs.Text.{comma_items, items_left}
 use Rattle.options_book.specs.Transfer.{vec_bytes}

@@ -1,3 +1,4 @@
+-- The fields name the point's method just if one of the Methods values left does.
 use Rattle.std.proofs.Common.{◌≡◌}
 use Rattle.std.specs.List.{list_any}
 use Rattle.icap_head.specs.Fields.{field_list, values_left}

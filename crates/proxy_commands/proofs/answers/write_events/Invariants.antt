@@ -1,3 +1,4 @@
+-- The text so far and that of the events left are what stood before and the text of all events.
 use Rattle.std.proofs.Common.{◌≡◌, ◌++◌, drop}
 use Rattle.proxy_commands.specs.Answers.{events_text}
 use Rattle.proxy_commands.proofs.answers.write_events.Given as goal

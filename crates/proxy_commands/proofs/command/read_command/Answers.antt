@@ -1,3 +1,4 @@
+-- The one word trace is a command, and so are chunks and a size; chunks and a text that is no size are none.
 use Rattle.std.proofs.Common.{◌∷◌, ◌∙◌, [], List, ℕ, codes, map, string_bytes, sym, ap, subst, arith}
 use Rattle.proxy_commands.specs.Command.{IsPieceSize}
 use Rattle.proxy_commands.proofs.LineForms.{text_is}

@@ -1,3 +1,4 @@
+-- A decimal from 1 to the largest piece is a size; another one isn't, nor is a text that is no decimal.
 use Rattle.std.proofs.Common.{◌∙◌, sym, arith}
 use Rattle.proxy_commands.proofs.ArgumentForms.{size_is, not_a_size, no_number}
 use Rattle.proxy_commands.proofs.command.read_piece_size.Goals.{else-size-ge1-via-then-size-ge1+else-size-le-MAX_PIECE}

@@ -1,3 +1,4 @@
+-- A history that is sent as a script is read again, its events follow once more, and it answers alike.
 use Rattle.std.proofs.Common.{refl}
 use Rattle.proxy_commands.proofs.Printed.{printed_read}
 use Rattle.proxy_commands.proofs.Rerun.{runs_again, answers_alike}

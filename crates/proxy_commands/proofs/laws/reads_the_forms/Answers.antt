@@ -1,3 +1,4 @@
+-- What is read of a number, a plan's line and a line after it is exactly what their forms say.
 use Rattle.proxy_commands.proofs.Decimals.{decimal_of-number, number-decimal_of}
 use Rattle.proxy_commands.proofs.LineForms.{line_of-says, says-line_of}
 use Rattle.proxy_commands.proofs.PlanForms.{parts_of-says, says-parts_of}

@@ -1,3 +1,4 @@
+-- The first line ends before the first LF, and the rest begins after it; with no LF all is one line.
 use Rattle.std.proofs.Common.{◌≡◌, ◌∷◌, ◌-◌, [], length, take, drop, rules, add-one, ap, ◌∙◌, sym}
 use Rattle.std.proofs.lemmas.List.{take_rest}
 use Rattle.proxy_commands.specs.Lines.{lines_of}

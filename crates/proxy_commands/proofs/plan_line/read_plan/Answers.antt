@@ -1,3 +1,4 @@
+-- A line says a plan exactly if it has the parts of one and their numbers are in range.
 use Rattle.std.proofs.Common.{◌≡◌, ◌∙◌, sym, None}
 use Rattle.trace_core.specs.declared.history.Plan.{Plan as AnyPlan}
 use Rattle.proxy_commands.specs.Script.{SaysPlan}

@@ -1,3 +1,4 @@
+-- A text is cut right before its first space; of one with no space the first part is all, and the second is empty.
 use Rattle.std.proofs.Common.{◌∙◌, sym, rules}
 use Rattle.std.proofs.Math.Seq.{take-length, drop-length}
 use Rattle.proxy_commands.proofs.Cuts.{up_to_space-at, up_to_space-all}

@@ -1,3 +1,4 @@
+-- The output or the refusal for the bytes that were read is that for all of the input.
 use Rattle.std.proofs.Common.{◌≡◌, ℕ, ◌+◌, List, IfSome, map, string_bytes, take, sym, subst}
 use Rattle.adapt_bytes.specs.declared.limits.TheConstants.{MAX_INPUT}
 use Rattle.proxy_commands.specs.Run.{IsCommandOutput}

@@ -1,3 +1,4 @@
+-- Where a reader's bytes are known, the first are read, up to one past the limit.
 use Rattle.std.proofs.Common.{◌≡◌, ℕ, ◌+◌, List, [], ◌++◌, Option, Some, None, IfSome, take, ap, ◌∙◌, subst}
 use Rattle.std.specs.Option.{option_map}
 use Rattle.adapt_bytes.specs.declared.limits.TheConstants.{MAX_INPUT}

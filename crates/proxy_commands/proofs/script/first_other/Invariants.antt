@@ -1,3 +1,4 @@
+-- A first line of another form in the rest is that of the text; if the rest is good, so is all.
 use Rattle.std.proofs.Common.{ℕ, ◌+◌, ◌≤◌, List, length}
 use Rattle.proxy_commands.specs.declared.script.Line.{Line as AnyLine}
 use Rattle.proxy_commands.specs.Lines.{lines_of, said}

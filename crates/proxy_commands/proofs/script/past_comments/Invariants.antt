@@ -1,3 +1,4 @@
+-- Only comments were passed: the rest says what the text says, and its first bad line is the text's.
 use Rattle.std.proofs.Common.{◌≡◌, ℕ, ◌+◌, ◌≤◌, length}
 use Rattle.proxy_commands.specs.Lines.{lines_of, said}
 use Rattle.proxy_commands.specs.Script.{IsBadFrom}

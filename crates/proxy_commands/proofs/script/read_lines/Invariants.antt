@@ -1,3 +1,4 @@
+-- The lines left are good ones, and the lines read so far with those left after them are what the text says.
 use Rattle.std.proofs.Common.{List, ◌++◌, length}
 use Rattle.proxy_commands.specs.declared.script.Line.{Line as AnyLine}
 use Rattle.proxy_commands.specs.Lines.{lines_of, said}

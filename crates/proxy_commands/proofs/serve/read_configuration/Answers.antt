@@ -1,3 +1,4 @@
+-- The configuration or the refusal that the bytes read give is that of all the reader's bytes.
 use Rattle.std.proofs.Common.{◌≡◌, ℕ, ◌+◌, List, IfSome, take, sym, subst}
 use Rattle.adapt_bytes.specs.declared.limits.TheConstants.{MAX_INPUT}
 use Rattle.proxy_commands.proofs.ServeForms.{configured, unconfigured}

@@ -1,3 +1,4 @@
+-- An event that is taken is answered with what is held after it, and the state then shows the history with that event.
 use Rattle.std.proofs.Common.{◌∙◌, sym, ap}
 use Rattle.trace_core.specs.History.{shows}
 use Rattle.trace_core.specs.View.{after}

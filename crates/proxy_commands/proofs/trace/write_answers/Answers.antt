@@ -1,3 +1,4 @@
+-- With no line left, what is written is all that is printed for the script.
 use Rattle.std.proofs.Common.{◌∙◌, ◌++◌, [], ap, sym, rules}
 use Rattle.std.proofs.lemmas.List.{append-nil, at_drop_all}
 use Rattle.trace_core.specs.History.{shows}

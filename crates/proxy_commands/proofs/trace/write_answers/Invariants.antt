@@ -1,3 +1,4 @@
+-- The text so far and the output for the lines that are left make the output of the script.
 use Rattle.std.proofs.Common.{◌≡◌, ◌++◌, [], drop}
 use Rattle.trace_core.specs.History.{seen, shows}
 use Rattle.proxy_commands.specs.Answers.{output_from}

@@ -1,3 +1,4 @@
+-- Each ledger of the budget has the name and the parts of its blank.
 use Rattle.proxy_program.proofs.probing.probe_from.Given as goal
 
 abbrev pub ghosts-probe_on-H-Ledger : goal.ghosts-probe_on-H-Ledger

@@ -1,3 +1,4 @@
+-- A decimal below the limit of counts has its value; a text that is no decimal has none.
 use Rattle.http_side.proofs.LengthLemmas.{length_some, length_none}
 use Rattle.proxy_rules.proofs.address.number.Goals as goal
 

@@ -1,3 +1,4 @@
+-- One Expect field with the item 100-continue is enough.
 use Rattle.std.proofs.Common.{sym, ◌∙◌, arith, ap, codes}
 use Rattle.adapt_bytes.specs.Text.{has_item}
 use Rattle.proxy_rules.proofs.UserLemmas.{expected_here}

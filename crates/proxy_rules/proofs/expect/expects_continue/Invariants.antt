@@ -1,3 +1,4 @@
+-- No Expect field so far names 100-continue.
 use Rattle.std.proofs.Common.{◌≡◌, take, false}
 use Rattle.proxy_rules.specs.Users.{expects_continue}
 use Rattle.proxy_rules.proofs.expect.expects_continue.Given as goal

@@ -1,3 +1,4 @@
+-- A message begins with the bytes kept before it, and what its wire takes beside is no part of it.
 use Rattle.proxy_rules.proofs.ArrivalLemmas.{came_first, came_beside}
 use Rattle.proxy_rules.proofs.laws.a_message_comes_over_its_wire.Goals as goal
 

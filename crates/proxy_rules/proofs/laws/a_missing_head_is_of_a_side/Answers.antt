@@ -1,3 +1,4 @@
+-- Each cause for which no head is made lies with a side or with memory: it is no deadline, and no stop.
 use Rattle.std.proofs.Common.{◌≡◌, inl, inr, Bool, true, false, List, ℕ, Option, Some, None, sym, subst}
 use Rattle.trace_core.specs.declared.history.Cause.{Cause}
 use Rattle.trace_core.specs.declared.history.Cause.TheVariants as causes

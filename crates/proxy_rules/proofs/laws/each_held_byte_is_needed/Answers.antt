@@ -1,3 +1,4 @@
+-- A byte that has come is held just if a legal continuation still sends it, and then the table's script of few events sends it.
 use Rattle.std.proofs.Common.{ℕ, sym, subst}
 use Rattle.std.specs.Prelude.{◌↔◌}
 use Rattle.trace_core.specs.declared.tape.Tape.TheVariants.{Original, Adapted}

@@ -1,3 +1,4 @@
+-- What is accounted for at the beginning is so after all turns: the wires gave and took the texts of one message.
 use Rattle.proxy_rules.proofs.SinceLemmas.{since_part}
 use Rattle.proxy_rules.proofs.laws.from_the_beginning_the_wires_take_one_message.Goals as goal
 

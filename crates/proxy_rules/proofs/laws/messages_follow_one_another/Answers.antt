@@ -1,3 +1,4 @@
+-- A connection gave no text at first, none changes by what it takes, and each message's text follows those before it.
 use Rattle.proxy_rules.proofs.FollowLemmas.{gave_none, gave_meanwhile, gave_message}
 use Rattle.proxy_rules.proofs.laws.messages_follow_one_another.Goals as goal
 

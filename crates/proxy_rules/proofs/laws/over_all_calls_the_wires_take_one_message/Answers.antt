@@ -1,3 +1,4 @@
+-- After all calls the wires gave and took the texts of one message, the service's since its request began on it.
 use Rattle.proxy_rules.proofs.SinceLemmas.{since_part}
 use Rattle.proxy_rules.proofs.laws.over_all_calls_the_wires_take_one_message.Goals as goal
 

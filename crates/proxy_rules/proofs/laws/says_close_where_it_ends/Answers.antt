@@ -1,3 +1,4 @@
+-- An answer's head says close just where the user's connection ends, a request's just where its connection is for it alone.
 use Rattle.proxy_rules.proofs.CloseLemmas.{answer_says, request_says}
 use Rattle.proxy_rules.proofs.laws.says_close_where_it_ends.Goals as goal
 

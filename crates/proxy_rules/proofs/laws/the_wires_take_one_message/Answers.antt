@@ -1,3 +1,4 @@
+-- By what stands, the wires gave the two bodies and took prefixes of one request and of one message, which is whole once Done.
 use Rattle.adapt_hold.specs.Holding.{shows}
 use Rattle.proxy_rules.specs.Running.{MadeOf}
 use Rattle.proxy_rules.proofs.WireLemmas.{service_one, whole_one, hops_one, other_one}

@@ -1,3 +1,4 @@
+-- A service's text goes on only if it is just a request's head; only if it isn't is the service blamed.
 use Rattle.std.proofs.Common.{refl, inl, inr, length}
 use Rattle.proxy_rules.specs.Onward.{IsRequest, IsAdaptedRequest, NoAdaptedRequest, part_of}
 use Rattle.proxy_rules.proofs.OnwardLemmas.{widened, unmade_of, adapted_request_is, blamed_request}

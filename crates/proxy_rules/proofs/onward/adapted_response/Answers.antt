@@ -1,3 +1,4 @@
+-- A service's text goes on only if it is just a head that may answer; only if it isn't is the service blamed.
 use Rattle.std.proofs.Common.{◌≡◌, true, false, rules, refl, sym, ◌∙◌, inl, inr, length, ap}
 use Rattle.proxy_rules.specs.Users.{is_head_request}
 use Rattle.proxy_rules.specs.Onward.{IsResponse, IsAdaptedResponse, NoAdaptedResponse, part_of, may_answer}

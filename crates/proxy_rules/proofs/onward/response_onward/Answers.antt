@@ -1,3 +1,4 @@
+-- A response may go on whatever the use of the origin's connection, and its head is that of this very response.
 use Rattle.std.proofs.Common.{refl}
 use Rattle.http_side.specs.declared.forward.Message.TheVariants.{Response}
 use Rattle.proxy_rules.specs.Onward.{IsResponse}

@@ -1,3 +1,4 @@
+-- The bytes counted so far, and those before the first of the three in the rest, make the number.
 use Rattle.std.proofs.Common.{◌≡◌, ◌+◌, length}
 use Rattle.http_side.specs.Targets.{count_before}
 use Rattle.proxy_rules.specs.Origins.{is_any}

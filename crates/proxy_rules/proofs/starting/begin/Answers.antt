@@ -1,3 +1,4 @@
+-- When a transaction begins, only the source's wire has given and taken, the service's side is unused, and no side has a fault.
 use Rattle.std.proofs.Common.{◌≡◌, ◌++◌, Option, Some, None, IfSome, [], false, refl, ap, sym, subst, ◌∙◌, is_some}
 use Rattle.trace_core.specs.History.{History, seen}
 use Rattle.adapt_hold.specs.Holding.{shows}

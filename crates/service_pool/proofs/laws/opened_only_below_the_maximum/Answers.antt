@@ -1,3 +1,4 @@
+-- Only a take with none idle opens more, below the maximum; one is replaced only where at most the maximum are open.
 use Rattle.service_pool.proofs.HistoryLemmas.{opened-by_take, opened-below, opened-sound, replaced-within}
 use Rattle.service_pool.proofs.laws.opened_only_below_the_maximum.Goals as goal
 

@@ -1,3 +1,4 @@
+-- The oldest connections, which were moved, stand at the end of the list, the queue has the others, and neither capacity changed.
 use Rattle.std.specs.Prelude.{◌≡◌, ◌++◌, take, drop, vec_capacity}
 use Rattle.std.specs.VecDeque.{deque_capacity}
 use Rattle.service_pool.proofs.state.move_oldest.Given as goal

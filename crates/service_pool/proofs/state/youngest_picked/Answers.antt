@@ -1,3 +1,4 @@
+-- With one more connection that the test doesn't pick, it still picks none of those passed.
 use Rattle.std.proofs.Common.{arith, ◌≡◌, ◌-◌, ◌+◌, false, length, slice_index_or, subst, ap, ◌∙◌}
 use Rattle.std.specs.VecDeque.{deque_len}
 use Rattle.std.specs.Fn.{FnReturnsAt}

@@ -1,3 +1,4 @@
+-- The test picks none of the youngest connections, which were passed.
 use Rattle.std.specs.Prelude.{◌-◌}
 use Rattle.std.specs.VecDeque.{deque_len}
 use Rattle.service_pool.specs.Pooled.{NonePicked}

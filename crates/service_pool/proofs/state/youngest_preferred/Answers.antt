@@ -1,3 +1,4 @@
+-- None that was passed is both picked and preferred; the one that is found is both.
 use Rattle.std.proofs.Common.{arith, rules, ◌≡◌, ◌-◌, ◌+◌, ◌⊎◌, inl, inr, false, length, slice_index_or, ap, ◌∙◌}
 use Rattle.std.specs.VecDeque.{deque_len}
 use Rattle.service_pool.specs.Pooled.{Tests}

@@ -1,3 +1,4 @@
+-- None of the youngest connections, which were passed, is both picked and preferred.
 use Rattle.std.specs.Prelude.{◌-◌}
 use Rattle.std.specs.VecDeque.{deque_len}
 use Rattle.service_pool.specs.Pooled.{NonePreferred}

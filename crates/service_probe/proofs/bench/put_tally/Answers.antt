@@ -1,3 +1,4 @@
+-- The line is the number of all answers with its words, and then that of those that broke a rule.
 use Rattle.service_probe.proofs.Texts.{two_parts}
 use Rattle.service_probe.proofs.bench.put_tally.Goals as goal
 

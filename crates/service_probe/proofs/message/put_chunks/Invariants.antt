@@ -1,3 +1,4 @@
+-- The text so far, and the chunks that are still to come of the body's rest, make the whole text.
 use Rattle.std.proofs.Common.{◌≡◌, ◌++◌, ◌-◌}
 use Rattle.service_probe.specs.Messages.{chunks_of}
 use Rattle.service_probe.proofs.message.put_chunks.Given as goal

@@ -1,3 +1,4 @@
+-- A line that is added is the first of those that were still left.
 use Rattle.std.proofs.Common.{◌∙◌}
 use Rattle.service_probe.proofs.Texts.{grown, lines_left}
 use Rattle.service_probe.proofs.message.put_lines.Goals as goal

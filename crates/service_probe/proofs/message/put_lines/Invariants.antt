@@ -1,3 +1,4 @@
+-- The body so far, and as many lines as are still left, make the whole body.
 use Rattle.std.proofs.Common.{◌≡◌, ◌++◌, ◌-◌}
 use Rattle.service_probe.specs.Messages.{lines}
 use Rattle.service_probe.proofs.message.put_lines.Given as goal

@@ -1,3 +1,4 @@
+-- An attempt's line is what was tried, and then what came of it.
 use Rattle.service_probe.proofs.Texts.{two_parts}
 use Rattle.service_probe.proofs.report.put_attempt.Goals as goal
 

@@ -1,3 +1,4 @@
+-- The text so far, and what is shown of the value's bytes that are left, make the whole text.
 use Rattle.std.proofs.Common.{◌≡◌, ◌++◌, drop}
 use Rattle.service_probe.specs.Text.{shown_text}
 use Rattle.service_probe.proofs.text.put_value.Given as goal

@@ -1,3 +1,4 @@
+-- What the point's service in the configuration said is kept; without such a service the book stays as it is.
 use Rattle.std.proofs.Common.{subst, refl}
 use Rattle.std.proofs.lemmas.Result.{IfOk-weaker}
 use Rattle.shard_desk.specs.Books.{Keeps}

@@ -1,3 +1,4 @@
+-- A fresh connection was opened last, and leads to where the configuration has the service of the lease's point.
 use Rattle.std.proofs.Common.{ap, sym, ◌∙◌}
 use Rattle.std.proofs.lemmas.Result.{IfOk-weaker}
 use Rattle.shard_desk.specs.Places.{place_at}

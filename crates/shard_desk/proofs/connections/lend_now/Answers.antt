@@ -1,3 +1,4 @@
+-- What is lent is of the point and leads to its service; the acts before tell how it was got, or what failed.
 use Rattle.std.proofs.Common.{◌∙◌}
 use Rattle.std.proofs.lemmas.Result.{IfOk-weaker}
 use Rattle.shard_desk.proofs.Asking.{lends_within}

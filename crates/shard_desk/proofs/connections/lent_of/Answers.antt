@@ -1,3 +1,4 @@
+-- If the connector began with no act, its last ones tell how the connection was got, or what failed.
 use Rattle.std.specs.Prelude.{IfOk, IfErr}
 use Rattle.std.proofs.Common.{subst}
 use Rattle.shard_desk.specs.Asked.{LendsBy, FailsBy}

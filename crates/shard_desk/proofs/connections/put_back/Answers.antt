@@ -1,3 +1,4 @@
+-- A connection is laid down where the configuration lets one lie idle and it was found quiet, and is closed else.
 use Rattle.shard_desk.proofs.Asking.{puts_by, puts_within}
 use Rattle.shard_desk.proofs.connections.put_back.Goals as goal
 

@@ -1,3 +1,4 @@
+-- For each cause the noted reason has the refusal's status, if the service's fault lies elsewhere and the user isn't gone.
 use Rattle.std.proofs.Common.{◌≡◌, Bool, true, false, if◌then◌else◌, refl, ap}
 use Rattle.adapt_turn.specs.Refusals.{refusal_status}
 use Rattle.exchange_core.specs.Dues as dues

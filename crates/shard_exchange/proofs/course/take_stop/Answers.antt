@@ -1,3 +1,4 @@
+-- A request of whose head a part came fails of the stop first, and then takes the stop: both may come.
 use Rattle.exchange_core.proofs.Stepping.{goes_on}
 use Rattle.shard_exchange.proofs.course.take_stop.Goals as goal
 

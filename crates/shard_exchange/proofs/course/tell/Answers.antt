@@ -1,3 +1,4 @@
+-- Where a message failed and no byte of an answer is out, its user is owed the refusal of that cause; a good end is told as one.
 use Rattle.std.proofs.Common.{◌≡◌, Bool, true, false, if◌then◌else◌, ap, refl, sym, ◌∙◌, subst}
 use Rattle.std.proofs.lemmas.Bool.{false≢true}
 use Rattle.exchange_core.specs.declared.state.CourseState.{CourseState}

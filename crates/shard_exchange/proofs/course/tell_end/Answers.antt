@@ -1,3 +1,4 @@
+-- A request sent without memory for its response is told as sent, and then fails; an answer is told as one.
 use Rattle.std.proofs.Common.{◌≡◌, Bool, true, false, ap, subst, sym, ◌∙◌}
 use Rattle.exchange_core.specs.declared.state.CourseState.{CourseState}
 use Rattle.exchange_core.specs.declared.event.Event.TheVariants.{Failed, Sent}

@@ -1,3 +1,4 @@
+-- The leases that are left become fewer with each turn.
 use Rattle.std.proofs.Common.{vec_len}
 use Rattle.shard_loop.proofs.left.end_leases.Given as goal
 

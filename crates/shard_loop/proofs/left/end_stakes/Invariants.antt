@@ -1,3 +1,4 @@
+-- The reservations that are left hold nothing and have no page, and become fewer with each turn.
 use Rattle.std.proofs.Common.{All, vec_len}
 use Rattle.shard_loop.specs.Left.{HoldsNothing}
 use Rattle.shard_loop.proofs.left.end_stakes.Given as goal

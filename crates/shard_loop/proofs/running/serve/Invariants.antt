@@ -1,3 +1,4 @@
+-- Each ledger of the budget and of the pools has the name and the number of parts of its blank.
 use Rattle.shard_loop.proofs.running.serve.Given as goal
 
 abbrev pub ghosts-serve_with-H-Ledger : goal.ghosts-serve_with-H-Ledger

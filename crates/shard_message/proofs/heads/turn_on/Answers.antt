@@ -1,3 +1,4 @@
+-- Where message and connection are both there, what the message has is what came over that connection.
 use Rattle.shard_message.proofs.heads.turn_on.Goals as goal
 use Rattle.shard_message.proofs.heads.turn_on.Goals.{in-Some-Some, in_default, in_default-2}
 

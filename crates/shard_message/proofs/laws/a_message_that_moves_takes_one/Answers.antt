@@ -1,3 +1,4 @@
+-- What a request's or a response's transaction says of its wires holds of the message's connections.
 use Rattle.std.proofs.Math.Logic.{∥∥₁_map}
 use Rattle.shard_message.specs.Outset.{of_request, of_response}
 use Rattle.shard_message.proofs.laws.a_message_that_moves_takes_one.Goals as goal

@@ -1,3 +1,4 @@
+-- What is to be sent asks for the options of the service that the configuration has at the point.
 use Rattle.std.proofs.Common.{rules, ◌≡◌, ℕ, IfOk, List, Result, Ok, Err, Some, string_bytes}
 use Rattle.std.specs.Net.Socket.{v4_port}
 use Rattle.icap_client.specs.Asking.{options_request}

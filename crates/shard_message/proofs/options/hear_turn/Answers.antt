@@ -1,3 +1,4 @@
+-- Where a turn brought no answer and moved no byte, the connection made it wait, or nothing was left to do.
 use Rattle.std.proofs.Common.{Ok, ◌∙◌, ap}
 use Rattle.shard_message.proofs.WaitLemmas.{hears_none}
 use Rattle.shard_message.proofs.options.hear_turn.Goals as goal

@@ -1,3 +1,4 @@
+-- A message is planned, or has no plan, by the configuration, limits, book, time and user's address of its surroundings.
 use Rattle.std.proofs.Common.{rules, ◌≡◌, Option, Some, IfSome, is_some, sym, ap, ◌∙◌, subst}
 use Rattle.std.specs.Prelude.{Box}
 use Rattle.std.specs.declared.alloc.Global.{Global}

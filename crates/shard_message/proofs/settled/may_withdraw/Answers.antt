@@ -1,3 +1,4 @@
+-- What bars a request from being withdrawn: its origin's connection by its counts gave another number of bytes than before.
 use Rattle.std.proofs.Common.{inl, inr, sym}
 use Rattle.std.proofs.lemmas.Bool.{eqb-false}
 use Rattle.shard_message.proofs.settled.may_withdraw.Goals as goal

@@ -1,3 +1,4 @@
+-- A request's end and the message after it are those of its transaction; a response carries the configured lines of its service's answer.
 use Rattle.std.proofs.Common.{◌≡◌, false, true, ap}
 use Rattle.std.specs.Bool.{⊤}
 use Rattle.adapt_sides.specs.Turns.Gift.{nothing}

@@ -1,3 +1,4 @@
+-- A response ends as its transaction did, and only the next request of its user comes after it.
 use Rattle.std.proofs.Common.{false, ap}
 use Rattle.std.specs.Bool.{⊤}
 use Rattle.adapt_hold.specs.Holding.{shows}

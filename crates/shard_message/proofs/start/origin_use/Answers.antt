@@ -1,3 +1,4 @@
+-- The origin's connection is used as the configuration and the course say.
 use Rattle.shard_message.proofs.start.origin_use.Goals as goal
 
 pub returns : goal.returns

@@ -1,3 +1,4 @@
+-- The pace begins now, has the configured deadline and a second more, and knows whether the service's connection was used before.
 use Rattle.std.proofs.Common.{refl, sym, subst, arith}
 use Rattle.plan_rules.specs.declared.pace.Pace.{Pace}
 use Rattle.shard_message.specs.Begun.{IsPaceOf}

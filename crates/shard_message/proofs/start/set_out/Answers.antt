@@ -1,3 +1,4 @@
+-- What begins is the planned message over these connections; without memory for it they come back as they were.
 use Rattle.std.proofs.Common.{◌≡◌, true, [], Option, Some, None, IfSome, refl, ap, sym, subst, ◌∙◌, is_some}
 use Rattle.std.specs.Prelude.{Box}
 use Rattle.std.specs.declared.alloc.Global.{Global}

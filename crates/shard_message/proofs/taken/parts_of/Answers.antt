@@ -1,3 +1,4 @@
+-- A transaction taken apart keeps its plan, and its outcome where it was closed; an open one fails for the stop.
 use Rattle.std.proofs.Common.{◌≡◌, ◌∙◌, ap, refl, Bool, true, false, []}
 use Rattle.trace_core.specs.declared.history.Cause.TheVariants.{Stopping}
 use Rattle.trace_core.specs.declared.history.Event.TheVariants as event

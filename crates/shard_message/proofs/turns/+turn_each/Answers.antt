@@ -1,3 +1,4 @@
+-- The turns are a round up to the first that ends it, and what was so since a beginning is so after them.
 use Rattle.std.proofs.Common.{sym, ◌∙◌}
 use Rattle.shard_message.proofs.RoundLemmas.{no_turn, last_turn, more_turns}
 use Rattle.shard_message.proofs.turns.+turn_each.Goals as goal

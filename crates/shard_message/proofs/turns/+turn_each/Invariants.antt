@@ -1,3 +1,4 @@
+-- Each call has fewer sides left to turn.
 use Rattle.std.proofs.Common.{length}
 use Rattle.shard_message.proofs.turns.+turn_each.Given as goal
 

@@ -1,3 +1,4 @@
+-- A request that begins anew does so on the fresh connection, and what was so since it set out stays so.
 use Rattle.std.proofs.Common.{◌≡◌, Option, Some, None, IfSome, refl, sym, subst}
 use Rattle.adapt_turn.specs.declared.ends.ServiceEnd.{ServiceEnd}
 use Rattle.adapt_turn.specs.ChosenHead.{wire_of}

@@ -1,3 +1,4 @@
+-- Where the service's connection broke, the request begins anew or fails; else that connection stays.
 use Rattle.std.proofs.Common.{◌≡◌, false, Option, None, refl, inl, inr}
 use Rattle.shard_exchange.specs.declared.answers.Round.{Round}
 use Rattle.shard_exchange.specs.declared.answers.Round.TheVariants as rounds

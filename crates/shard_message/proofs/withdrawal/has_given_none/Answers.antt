@@ -1,3 +1,4 @@
+-- A connection that by its counts gave another number of bytes than before has given some since.
 use Rattle.std.proofs.Common.{sym}
 use Rattle.std.proofs.lemmas.Bool.{eqb-false}
 use Rattle.shard_message.proofs.withdrawal.has_given_none.Goals as goal

@@ -1,3 +1,4 @@
+-- What is read again over a connection that gives nothing has just the bytes that were there.
 use Rattle.std.proofs.Common.{[]}
 use Rattle.adapt_turn.proofs.Together.{no_later}
 use Rattle.shard_message.proofs.AgainLemmas.{none_given, still_come, come_with_none}

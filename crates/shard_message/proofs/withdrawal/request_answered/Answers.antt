@@ -1,3 +1,4 @@
+-- The request that a response was to answer, read again, has the bytes of its head and those left over.
 use Rattle.shard_message.proofs.AgainLemmas.{answered_of}
 use Rattle.shard_message.proofs.withdrawal.request_answered.Goals as goal
 

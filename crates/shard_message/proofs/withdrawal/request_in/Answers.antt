@@ -1,3 +1,4 @@
+-- The request again, laid on the heap, is the one whose head was read once more.
 use Rattle.std.proofs.Common.{IfSome, subst}
 use Rattle.proxy_rules.specs.Arrivals.{Arrival}
 use Rattle.shard_message.specs.Told.{IsRequestAgain}

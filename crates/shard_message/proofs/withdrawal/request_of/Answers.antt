@@ -1,3 +1,4 @@
+-- A request that is read again has the bytes of its head and those left over.
 use Rattle.shard_message.proofs.AgainLemmas.{again_of}
 use Rattle.shard_message.proofs.withdrawal.request_of.Goals as goal
 

@@ -1,3 +1,4 @@
+-- The bytes passed, and those of empty lines with which the rest begins, make the number.
 use Rattle.std.proofs.Common.{◌≡◌, ◌+◌, drop}
 use Rattle.shard_report.specs.Heads.{empty_lines}
 use Rattle.shard_report.proofs.heads.empty_lines.Given as goal

@@ -1,3 +1,4 @@
+-- The bytes passed, and the place of the byte in the rest, make its place in the text.
 use Rattle.std.proofs.Common.{◌≡◌, ◌+◌, drop}
 use Rattle.shard_report.specs.Heads.{place_of}
 use Rattle.shard_report.proofs.heads.place_of.Given as goal

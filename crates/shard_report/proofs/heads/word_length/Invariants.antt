@@ -1,3 +1,4 @@
+-- The bytes passed, and the length of the word with which the rest begins, make the word's length.
 use Rattle.std.proofs.Common.{◌≡◌, ◌+◌, drop}
 use Rattle.shard_report.specs.Heads.{word_length}
 use Rattle.shard_report.proofs.heads.word_length.Given as goal

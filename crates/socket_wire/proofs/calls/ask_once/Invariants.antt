@@ -1,3 +1,4 @@
+-- The reads so far left no trace: each past that was possible before still is.
 use Rattle.wire_kit.specs.Past.{Past}
 use Rattle.socket_wire.proofs.calls.ask_once.Given as goal
 

@@ -1,3 +1,4 @@
+-- The offers so far left no trace: each past that was possible before still is.
 use Rattle.wire_kit.specs.Past.{Past}
 use Rattle.socket_wire.proofs.calls.offer_once.Given as goal
 

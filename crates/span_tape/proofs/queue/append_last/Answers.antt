@@ -1,3 +1,4 @@
+-- On one more page the next bytes stand right after those on full pages.
 use Rattle.std.proofs.Common.{◌≡◌, ◌+◌, ◌-◌, ◌≤◌, ◌++◌, length, take, drop, ap, ◌∙◌, arith}
 use Rattle.span_bank.specs.Chain.{down_of}
 use Rattle.span_tape.proofs.PageLemmas.{another_page, length_down}

@@ -1,3 +1,4 @@
+-- The bytes so far stand right after the old ones, on as many pages as they need; these are full where more are to come.
 use Rattle.std.specs.Prelude.{◌≡◌, ◌+◌, ◌-◌, ◌*◌, ◌≤◌, ◌<◌, ◌++◌, length, take}
 use Rattle.span_bank.specs.Chain.{down_of}
 use Rattle.span_tape.specs.Tape.{page_count}

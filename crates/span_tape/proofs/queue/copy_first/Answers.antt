@@ -1,3 +1,4 @@
+-- A part of a page is copied after what was copied before; where bytes are still missing, the text goes on at the next page.
 use Rattle.std.proofs.Common.{◌≡◌, ℕ, ◌+◌, ◌-◌, ◌≤◌, List, length, take, drop, ap, ◌∙◌, subst, arith}
 use Rattle.span_bank.specs.Chain.{text_of}
 use Rattle.span_tape.proofs.PageLemmas.{another_copied, next_text}

@@ -1,3 +1,4 @@
+-- The pages before the place are passed; then the bytes so far are copied, and the pages left go on right after them.
 use Rattle.std.specs.Prelude.{◌≡◌, ◌+◌, ◌-◌, ◌*◌, ◌≤◌, ◌<◌, length, take, drop}
 use Rattle.span_bank.specs.Chain.{text_of}
 use Rattle.span_tape.proofs.queue.copy_first.Given as goal

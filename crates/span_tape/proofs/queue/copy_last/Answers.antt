@@ -1,3 +1,4 @@
+-- The pages left are the first ones, and a part of the last of them is copied before what was copied already.
 use Rattle.std.proofs.Common.{◌≡◌, ◌+◌, ◌-◌, ◌*◌, ◌≤◌, ◌++◌, length, take, drop, ap, sym, ◌∙◌, arith}
 use Rattle.std.proofs.lemmas.List.{take_all}
 use Rattle.span_bank.specs.Chain.{down_of}

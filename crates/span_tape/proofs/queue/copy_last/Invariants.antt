@@ -1,3 +1,4 @@
+-- The pages left are the first ones, and the bytes after those still missing are copied already.
 use Rattle.std.specs.Prelude.{◌≡◌, ◌+◌, ◌-◌, ◌*◌, ◌≤◌, ◌<◌, length, take, drop}
 use Rattle.span_bank.specs.Chain.{down_of}
 use Rattle.span_tape.proofs.queue.copy_last.Given as goal

@@ -1,3 +1,4 @@
+-- On the last page, filled in part, the next bytes stand right after those that were there.
 use Rattle.std.proofs.Common.{◌≡◌, ◌+◌, ◌%◌, ◌≤◌, ◌++◌, length, take, drop, ap, append_assoc, sym, ◌∙◌, arith}
 use Rattle.std.proofs.lemmas.List.{length-take}
 use Rattle.span_bank.specs.Chain.{down_of}

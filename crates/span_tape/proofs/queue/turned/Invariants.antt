@@ -1,3 +1,4 @@
+-- The pages left and the turned ones have together the chain's text, in either order, and all of its pages.
 use Rattle.std.specs.Prelude.{◌≡◌, ◌+◌, ◌++◌, length}
 use Rattle.span_bank.specs.Chain.{text_of, down_of}
 use Rattle.span_tape.proofs.queue.turned.Given as goal

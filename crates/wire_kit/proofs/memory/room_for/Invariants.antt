@@ -1,3 +1,4 @@
+-- The room so far and that of the answers that are left are together the room of all.
 use Rattle.std.proofs.Common.{◌≡◌, ◌+◌, drop}
 use Rattle.wire_kit.specs.Memory.{total_room}
 use Rattle.wire_kit.proofs.memory.room_for.Given as goal

@@ -1,3 +1,4 @@
+-- What is held after a legal history is its book, and a history has one book alone.
 use Rattle.world_core.proofs.Booked.{is_book_of, book_once}
 use Rattle.world_core.specs.WorldSound.{held_in}
 use Rattle.world_ties.proofs.bank.bank_holds_the_book.Goals as goal

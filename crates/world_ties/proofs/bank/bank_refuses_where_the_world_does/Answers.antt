@@ -1,3 +1,4 @@
+-- The bank is full for a claim with room for its preview just where the world has no room; a capacity below the claims' sum is too low.
 use Rattle.world_ties.proofs.Stepping.{full_where, low_where, too_low_where}
 use Rattle.world_ties.proofs.bank.bank_refuses_where_the_world_does.Goals as goal
 

@@ -1,3 +1,4 @@
+-- A legal history's steps replay to the world's totals, as a journal shows, and are allowed if a bank takes the events' numbers.
 use Rattle.world_ties.proofs.Stepping.{replays, all_allowed, journal_shows}
 use Rattle.world_ties.proofs.bank.bank_replays_the_world.Goals as goal
 

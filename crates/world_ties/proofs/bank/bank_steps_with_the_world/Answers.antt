@@ -1,3 +1,4 @@
+-- By an event's step, or without one, the bank's totals stay those of the world, in both forms of its journal.
 use Rattle.world_ties.proofs.Stepping.{step_goes, none_stays, journals_go}
 use Rattle.world_ties.proofs.bank.bank_steps_with_the_world.Goals as goal
 

@@ -1,3 +1,4 @@
+-- Bytes that arrive and are kept are a Grow by their number; dropped ones and events that leave as much held are no step.
 use Rattle.world_ties.proofs.Moving.{grows, only_brought, quiet, dropped}
 use Rattle.world_ties.proofs.bank.events_are_their_steps.Goals as goal
 

@@ -1,3 +1,4 @@
+-- A pool is busy to a lease, or over its maximum at a retry, just where the world answers that it is full.
 use Rattle.world_ties.proofs.Pooled.{busy_where, over_where}
 use Rattle.world_ties.proofs.pool.pool_refuses_where_the_world_does.Goals as goal
 

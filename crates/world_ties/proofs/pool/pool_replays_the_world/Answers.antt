@@ -1,3 +1,4 @@
+-- A legal history's steps for a service replay to its numbers, as a journal shows, and are allowed if a pool takes the maxima.
 use Rattle.world_ties.proofs.Pooled.{replays, all_allowed, journal_shows}
 use Rattle.world_ties.proofs.pool.pool_replays_the_world.Goals as goal
 

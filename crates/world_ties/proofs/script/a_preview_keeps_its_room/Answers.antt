@@ -1,3 +1,4 @@
+-- A new holding has room for its preview, and each event that is taken leaves it that room.
 use Rattle.world_ties.proofs.Wide.{wide_first, wide_stays, reached}
 use Rattle.world_ties.proofs.script.a_preview_keeps_its_room.Goals as goal
 

@@ -1,3 +1,4 @@
+-- Fewer events of the script are left after each.
 use Rattle.std.proofs.Common.{length}
 use Rattle.world_ties.proofs.sending.+run_alone.Given as goal
 

@@ -1,3 +1,4 @@
+-- The script that was found is the table's: it can be taken alone, and its last event sends the byte.
 use Rattle.world_ties.proofs.Alone.{runs_slice, sends_byte}
 use Rattle.world_ties.proofs.sending.send_held.Goals as goal
 

@@ -1,3 +1,4 @@
+-- An event that may follow isn't refused.
 use Rattle.adapt_hold.proofs.Row.{never}
 use Rattle.world_ties.proofs.sending.take_one.Goals as goal
 

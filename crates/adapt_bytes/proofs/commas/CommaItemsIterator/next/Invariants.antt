@@ -1,3 +1,4 @@
+-- The parts passed over so far were empty, so all items are still to come; each turn takes off one part.
 use Rattle.std.proofs.Common.{◌≡◌, length}
 use Rattle.adapt_bytes.specs.Text.{items_left, parts_left}
 use Rattle.adapt_bytes.proofs.commas.CommaItemsIterator.next.Given as goal

@@ -1,3 +1,4 @@
+-- The part that is given ends at the first comma, and others follow; where no comma is left, it is the last one.
 use Rattle.std.proofs.Common.{◌≡◌, ◌+◌, ◌-◌, [], ◌∷◌, length, take, drop, rules, arith, sym, ap, ◌∙◌, add-one}
 use Rattle.std.proofs.lemmas.List.{take_rest}
 use Rattle.adapt_bytes.specs.Text.{comma_parts, left_of, parts_left}

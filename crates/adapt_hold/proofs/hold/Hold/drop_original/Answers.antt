@@ -1,3 +1,4 @@
+-- Nothing of an original that isn't kept is held; its tape moves on by the bytes that came, which is one step.
 use Rattle.std.proofs.Common.{◌≡◌, ℕ, sym, ◌∙◌, ap, subst, false}
 use Rattle.trace_core.specs.Held.{keeps_original}
 use Rattle.adapt_hold.specs.Holding.{Holding, shows}

@@ -1,3 +1,4 @@
+-- Adapted bytes that may come and fit the claim find room; put at the end of their tape they are one step.
 use Rattle.std.proofs.Common.{◌≤◌, sym, subst}
 use Rattle.trace_core.specs.Held.{held_places}
 use Rattle.trace_core.specs.Legal.{MayFollow}

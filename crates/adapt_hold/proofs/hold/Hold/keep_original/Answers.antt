@@ -1,3 +1,4 @@
+-- Bytes of a kept original that may come and fit the claim find room; put at its tape's end they are one step.
 use Rattle.std.proofs.Common.{◌≡◌, ◌≤◌, sym, subst, true}
 use Rattle.trace_core.specs.Held.{keeps_original, held_places}
 use Rattle.trace_core.specs.Legal.{MayFollow}

@@ -1,3 +1,4 @@
+-- An event without bytes cuts each tape at a place on it; what is left fits the claim after it, and all of that is one step.
 use Rattle.std.proofs.Common.{ℕ, [], ◌≤◌, arith, sym, ◌∙◌, ap, subst}
 use Rattle.trace_core.specs.declared.history.Seen.{Seen}
 use Rattle.plan_rules.specs.Room.{claim_then}

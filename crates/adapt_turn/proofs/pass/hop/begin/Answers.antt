@@ -1,3 +1,4 @@
+-- A writer with a message keeps it; else one begins on the user's writer if it answers the user, or on the next hop's.
 use Rattle.std.proofs.Common.{inl, inr, refl, sym, ◌∙◌, subst}
 use Rattle.adapt_hold.specs.Holding.{shows}
 use Rattle.adapt_turn.specs.ChosenHead.{MakesAt}

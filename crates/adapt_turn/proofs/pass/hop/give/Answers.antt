@@ -1,3 +1,4 @@
+-- The chosen tape begins with what is due; events of the hop may run, and its fault, old or new, is why it fails.
 use Rattle.std.proofs.Common.{List, [], Some, ap, ◌∙◌, sym, subst}
 use Rattle.trace_core.specs.declared.history.Cause.{Cause}
 use Rattle.adapt_turn.specs.declared.pass.PassAnswer.{PassAnswer}

@@ -1,3 +1,4 @@
+-- The writer back to the user gives where it has a message, else the next hop's; the other and its wire stay.
 use Rattle.std.proofs.Common.{inl, inr, refl}
 use Rattle.adapt_turn.proofs.pass.hop.give_pass.Goals as goal
 

@@ -1,3 +1,4 @@
+-- With no message chosen nothing is done; a chosen one is begun if need be and goes out, or gets no head and fails.
 use Rattle.adapt_turn.specs.Passes.{writers}
 use Rattle.adapt_turn.proofs.Writers.{unchosen_passes, failed_passes, giving_passes}
 use Rattle.std.proofs.Common.{refl}

@@ -1,3 +1,4 @@
+-- The service's side writes, and reads unless the write broke the connection or closed the transaction; it waits where both wait.
 use Rattle.std.proofs.Common.{inl, inr, refl, sym, ap, ◌∙◌}
 use Rattle.std.proofs.lemmas.Bool.{false≢true}
 use Rattle.adapt_hold.specs.Holding.{Holding, shows}

@@ -1,3 +1,4 @@
+-- The original's tape has what may still go; a fault in sending fails the transaction unless the request may begin anew.
 use Rattle.std.proofs.Common.{List, [], refl, sym, subst}
 use Rattle.trace_core.specs.declared.history.Event.{Event}
 use Rattle.trace_core.specs.History.{History}

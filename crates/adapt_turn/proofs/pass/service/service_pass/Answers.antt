@@ -1,3 +1,4 @@
+-- Over a connection that is held the side makes its pass; without a service or a connection nothing is done.
 use Rattle.std.proofs.Common.{inl, inr, refl, sym, ap, ◌∙◌}
 use Rattle.adapt_turn.specs.ChosenHead.{wire_of}
 use Rattle.adapt_turn.proofs.ServiceOver.{held_is}

@@ -1,3 +1,4 @@
+-- What was read is within the room, so its events may run; a fault fails the transaction unless the request may begin anew.
 use Rattle.std.proofs.Common.{◌≤◌, length, arith, refl, subst}
 use Rattle.trace_core.specs.History.{History}
 use Rattle.adapt_turn.specs.Reports.{HasFaultReason, lending, service_room}

@@ -1,3 +1,4 @@
+-- A source with the history's numbers is read; any other fails the transaction, and nothing of it is read.
 use Rattle.std.proofs.Common.{◌≡◌, Option, true, Some, None, inl, inr, refl, sym, ap, ◌∙◌, subst}
 use Rattle.std.proofs.lemmas.Bool.{false≢true}
 use Rattle.trace_core.specs.declared.history.Seen.{Seen}

@@ -1,3 +1,4 @@
+-- What was read is within the room, so its events may run; a fault of the source closes the transaction.
 use Rattle.std.proofs.Common.{◌≤◌, List, length, arith, sym, subst}
 use Rattle.trace_core.specs.declared.history.Event.{Event}
 use Rattle.adapt_hold.specs.Holding.{shows}

@@ -1,3 +1,4 @@
+-- A turn and the turns after it are those of the whole schedule; an empty one leaves all as it was.
 use Rattle.std.proofs.Common.{◌≡◌, inl, inr, true, arith, sym, ◌∙◌, subst, ap}
 use Rattle.trace_core.specs.declared.history.Cause.TheVariants.{Deadline}
 use Rattle.adapt_hold.specs.Holding.{Holding, shows}

@@ -1,3 +1,4 @@
+-- After a pass at most a refusal is put: what stands goes on, no wire is touched, and no message is begun.
 use Rattle.adapt_turn.proofs.tx.Tx.after_pass.Goals as goal
 
 pub returns-clause-goes : goal.returns-clause-goes

@@ -1,3 +1,4 @@
+-- Where no refusal is due a closed transaction stays as it is, and what stands goes on.
 use Rattle.adapt_turn.proofs.Together.{goes_none}
 use Rattle.adapt_turn.proofs.tx.Tx.closed_turn.Goals as goal
 

@@ -1,3 +1,4 @@
+-- A failure touches no wire, so what stands goes on; and it brings no more of a body than a turn may.
 use Rattle.adapt_turn.specs.Stands.{SideViews}
 use Rattle.adapt_turn.proofs.Together.{views_by, others_by, fail_goes, goes_then}
 use Rattle.std.proofs.Common.{◌∙◌}

@@ -1,3 +1,4 @@
+-- At its beginning a transaction stands with its wires: only the source's has given bytes, and none has taken any.
 use Rattle.adapt_turn.proofs.Together.{begins}
 use Rattle.adapt_turn.proofs.tx.Tx.new.Goals as goal
 

@@ -1,3 +1,4 @@
+-- The user's writer gets a refusal if no byte went out on it, else it stays; either way what stands goes on.
 use Rattle.std.proofs.Common.{sym, ◌∙◌}
 use Rattle.adapt_turn.proofs.Told.{failed_undone}
 use Rattle.adapt_turn.proofs.ChosenHead.{made_by}

@@ -1,3 +1,4 @@
+-- After a pass that didn't fail no refusal is put, and what stands goes on.
 use Rattle.adapt_turn.proofs.Together.{goes_none}
 use Rattle.adapt_turn.proofs.tx.Tx.refuse_failed.Goals as goal
 

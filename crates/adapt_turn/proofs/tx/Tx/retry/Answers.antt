@@ -1,3 +1,4 @@
+-- After a retry all stands that stood, but with no byte given or taken by the service's wire; also with no service.
 use Rattle.std.proofs.Common.{Some}
 use Rattle.adapt_hold.specs.Holding.{shows}
 use Rattle.adapt_turn.proofs.ChosenHead.{made_by, heads_then, line_heads, none_modified_before}

@@ -1,3 +1,4 @@
+-- What stands speaks of the service's side and not of its wire, so it still stands once the broken wire is taken out.
 use Rattle.adapt_turn.proofs.ServiceOver.{freed}
 use Rattle.adapt_turn.proofs.tx.Tx.take_broken.Goals as goal
 

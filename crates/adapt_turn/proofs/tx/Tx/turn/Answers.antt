@@ -1,3 +1,4 @@
+-- A turn answers what its pass did and moved; a closed or late transaction gets no pass, nor does a service whose connection broke.
 use Rattle.adapt_turn.proofs.Together.{goes_none, goes_then}
 use Rattle.std.proofs.Common.{inl, inr, sym, ◌∙◌, ap, ◌≡◌, refl, subst, true, false, [], Some, None, ℕ, arith, ◌+◌, ◌≤◌}
 use Rattle.trace_core.specs.declared.history.Cause.TheVariants.{Deadline, Stopping}

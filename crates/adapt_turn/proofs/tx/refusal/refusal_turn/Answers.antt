@@ -1,3 +1,4 @@
+-- A refusal that is out, or whose wire failed, writes nothing; else it moves a byte or waits, or its wire fails.
 use Rattle.adapt_turn.proofs.Passes as passes
 use Rattle.adapt_turn.proofs.Giving.{aside_still}
 use Rattle.std.proofs.Common.{◌≡◌, ◌∙◌, inr, true, false, Some, None, refl, ap, sym, rules}

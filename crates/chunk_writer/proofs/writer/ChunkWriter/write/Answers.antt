@@ -1,3 +1,4 @@
+-- Where nothing waits and nothing comes next there is no text to offer; a long head goes out by itself.
 use Rattle.std.proofs.Common.{◌≡◌, ◌-◌, ℕ, true, false, [], nat_lt, length, drop, rules, sym, subst}
 use Rattle.wire_kit.specs.Past.{part_taken}
 use Rattle.chunk_writer.specs.declared.draft.TheConstants.{LONG_HEAD}

@@ -1,3 +1,4 @@
+-- Each of the budget's four ledger types has the name and the number of parts of its new ledger.
 use Rattle.edge_rows.proofs.exchanges.banks.put_exchange.Given as goal
 
 abbrev pub ghosts-put_on_bank-H-Ledger : goal.ghosts-put_on_bank-H-Ledger

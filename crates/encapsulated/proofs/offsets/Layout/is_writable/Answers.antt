@@ -1,3 +1,4 @@
+-- Some message may have a layout just where its heads go with its body and its offsets rise from 0.
 use Rattle.std.proofs.Common.{sym, ◌∙◌}
 use Rattle.std.proofs.lemmas.Bool.{both_ways}
 use Rattle.encapsulated.proofs.Writable.{fits, writable}

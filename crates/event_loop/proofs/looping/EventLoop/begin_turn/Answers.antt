@@ -1,3 +1,4 @@
+-- That the poll was heard is the one deed; the read of the clock adds none.
 use Rattle.std.proofs.Common.{[], ◌∷◌}
 use Rattle.event_loop.specs.Deeds.Deed.{Heard}
 use Rattle.event_loop.proofs.Turning.{does_then}

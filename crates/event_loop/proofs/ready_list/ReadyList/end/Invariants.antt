@@ -1,3 +1,4 @@
+-- No key from the end found so far on is marked, and that end isn't above the old one.
 use Rattle.std.proofs.Common.{◌≡◌, ℕ, ◌-◌, ◌<◌, ◌≤◌, true}
 use Rattle.event_loop.specs.Marks.{is_marked}
 use Rattle.event_loop.proofs.ready_list.ReadyList.end.Given as goal

@@ -1,3 +1,4 @@
+-- No key before this one is marked.
 use Rattle.std.proofs.Common.{◌≡◌, ℕ, ◌≤◌, true}
 use Rattle.event_loop.specs.Marks.{is_marked}
 use Rattle.event_loop.proofs.ready_list.ReadyList.first.Given as goal

@@ -1,3 +1,4 @@
+-- If the first key found is before the end, it is marked, so there is a mark in the list.
 use Rattle.std.proofs.Common.{◌≡◌, ℕ, zero, suc, Bool, true, false, List, [], ◌∷◌, get_or, arith}
 use Rattle.std.specs.Prelude.{Contains}
 use Rattle.event_loop.proofs.ready_list.ReadyList.look.Goals as goal

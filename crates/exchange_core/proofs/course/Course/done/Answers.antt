@@ -1,3 +1,4 @@
+-- What comes of what is due, and fits what is there, may come: the course after it has a legal log too.
 use Rattle.std.proofs.Common.{◌≡◌, true, sym, subst}
 use Rattle.exchange_core.specs.declared.state.CourseState.{CourseState}
 use Rattle.exchange_core.specs.Dues.{due_of, comes_of, fits}

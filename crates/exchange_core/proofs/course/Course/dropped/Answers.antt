@@ -1,3 +1,4 @@
+-- While no request is under way the user may be dropped: the course after that has a legal log too.
 use Rattle.std.proofs.Common.{◌≡◌, true, sym, subst}
 use Rattle.exchange_core.specs.declared.state.CourseState.{CourseState}
 use Rattle.exchange_core.specs.declared.event.Event.TheVariants.{Dropped}

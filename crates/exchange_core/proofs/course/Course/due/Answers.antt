@@ -1,3 +1,4 @@
+-- While a user is served there is no stop; who queues has no lease or reservation; a turn has reservation and origin.
 use Rattle.std.proofs.Common.{◌≡◌, true, false, sym, ◌∙◌, ap, subst}
 use Rattle.exchange_core.specs.declared.state.CourseState.{CourseState}
 use Rattle.exchange_core.proofs.Doing.{serves_there, queues_there, starts_there, turns_there, hears_there}

@@ -1,3 +1,4 @@
+-- Where what is due may have to wait, a deadline may pass: the course after it has a legal log too.
 use Rattle.std.proofs.Common.{◌≡◌, true, sym, subst}
 use Rattle.exchange_core.specs.declared.state.CourseState.{CourseState}
 use Rattle.exchange_core.specs.declared.event.Event.TheVariants.{Late}

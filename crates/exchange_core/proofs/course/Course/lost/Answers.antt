@@ -1,3 +1,4 @@
+-- A user for which something is due may be lost: the course after that has a legal log too.
 use Rattle.std.proofs.Common.{◌≡◌, true, sym, subst}
 use Rattle.exchange_core.specs.declared.state.CourseState.{CourseState}
 use Rattle.exchange_core.specs.declared.event.Event.TheVariants.{UserLost}

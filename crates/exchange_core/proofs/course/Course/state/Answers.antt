@@ -1,3 +1,4 @@
+-- Once the proxy stops, a refusal is due or the user is gone.
 use Rattle.exchange_core.proofs.Doing.{stops_there}
 use Rattle.exchange_core.proofs.course.Course.state.Goals as goal
 

@@ -1,3 +1,4 @@
+-- An event that may come leads from a course with a legal log to another one with a legal log.
 use Rattle.std.proofs.Common.{◌≡◌, true, sym, subst}
 use Rattle.exchange_core.specs.declared.state.CourseState.{CourseState}
 use Rattle.exchange_core.specs.May.{may_come}

@@ -1,3 +1,4 @@
+-- A write turn does what a transaction asks of a next hop; a first fault is the wire's, or that the body breaks its length.
 use Rattle.std.proofs.Common.{◌≡◌, subst, Option, Some, None, Result, Err, IfSome, IfErr, OnOk}
 use Rattle.trace_core.specs.History.{shows}
 use Rattle.adapt_sides.specs.declared.turn.Turn.{Turn}

@@ -1,3 +1,4 @@
+-- A transaction may begin just where the head was read, no fault stands, and the body agrees with the plan.
 use Rattle.std.proofs.Common.{[], inl, inr, refl}
 use Rattle.std.proofs.lemmas.Bool.{cases_Bool}
 use Rattle.trace_core.specs.History.{seen}

@@ -1,3 +1,4 @@
+-- Nothing was taken before the message begins, and so what was taken is a prefix of the message, whatever its head.
 use Rattle.std.proofs.Common.{ap}
 use Rattle.http_relay.specs.Giving.{Hop}
 use Rattle.http_relay.specs.Keeping.{begun}

@@ -1,3 +1,4 @@
+-- A new next hop took nothing, neither of a message nor of a refusal.
 use Rattle.std.proofs.Common.{◌≡◌, [], rules}
 use Rattle.chunk_writer.specs.Writer.{fresh}
 use Rattle.http_relay.specs.Keeping.{hop_begins, hop_aside}

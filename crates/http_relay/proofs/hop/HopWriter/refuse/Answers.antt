@@ -1,3 +1,4 @@
+-- The whole refusal waits in the message's place, and no byte of it was taken.
 use Rattle.std.proofs.Common.{◌≡◌, ◌∙◌, ap, rules}
 use Rattle.chunk_writer.specs.Writer.{fresh}
 use Rattle.http_side.specs.Refusals.{refusal}

@@ -1,3 +1,4 @@
+-- A turn offers all that is due in one write at most, and tells what the wire took; after a fault it writes nothing.
 use Rattle.std.proofs.Common.{◌≡◌, ap, sym, subst, ◌∙◌, refl, true, false, Some, None, Ok, Err, rules, inl, inr}
 use Rattle.trace_core.specs.History.{shows}
 use Rattle.trace_core.proofs.Sound.{sound}

@@ -1,3 +1,4 @@
+-- A body of which something was told, or that has another length, doesn't agree with the plan's beginning.
 use Rattle.std.proofs.Common.{◌≡◌, true, false, sym, ◌∙◌}
 use Rattle.http_relay.proofs.side.SourceSide.begins.Goals as goal
 

@@ -1,3 +1,4 @@
+-- Kept bytes are framed or refused first; where none can be framed, the turn rests or is that of one read.
 use Rattle.std.proofs.Common.{◌≡◌, ◌⊎◌, inl, inr, true, false, List, ℕ, [], length, take, refl, sym, subst, ◌∙◌, rules}
 use Rattle.trace_core.specs.Turns.{in_sum}
 use Rattle.http_relay.specs.Reading.{SideReads, ReadTurn}

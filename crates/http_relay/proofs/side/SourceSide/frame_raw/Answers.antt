@@ -1,3 +1,4 @@
+-- What the body frames of the raw bytes, the side has read; no more raw bytes are left than before.
 use Rattle.std.proofs.Common.{false, List, ℕ, take, length, length-drop, refl, ap, subst, arith}
 use Rattle.trace_core.specs.Turns.{in_sum}
 use Rattle.http_relay.specs.Source.{BodyReads}

@@ -1,3 +1,4 @@
+-- A turn at the head that fails is still one once the side keeps its fault.
 use Rattle.std.proofs.Common.{refl}
 use Rattle.http_relay.proofs.Heads.{head_kept}
 use Rattle.http_relay.proofs.side.SourceSide.head_turn.Goals as goal

@@ -1,3 +1,4 @@
+-- What judging the kept bytes gives, or else each answer of the one read, is a turn at the head.
 use Rattle.std.proofs.Common.{◌≡◌, ◌⊎◌, IfErr, Result, Ok, Err, refl, subst, arith}
 use Rattle.adapt_sides.specs.declared.fault.RelayFault.{RelayFault}
 use Rattle.adapt_sides.specs.declared.fault.RelayFault.TheVariants.{Head, NoMemory}

@@ -1,3 +1,4 @@
+-- A request's head that was read ends within the raw bytes and begins its message; else the fault is theirs.
 use Rattle.std.proofs.Common.{ℕ, List, [], false, refl, sym, subst, ◌∙◌}
 use Rattle.http_side.specs.Body.{HasRead}
 use Rattle.http_side.specs.Requests.{IsRead, MayRefuseRequest}

@@ -1,3 +1,4 @@
+-- A response's head ends within the raw bytes; an interim one that is allowed is dropped, a final one begins the message.
 use Rattle.std.proofs.Common.{ℕ, List, [], ◌+◌, ◌<◌, ◌≤◌, ◌⊎◌, refl, sym, subst, ◌∙◌}
 use Rattle.http_side.specs.Body.{HasRead}
 use Rattle.http_side.specs.Responses.{IsResponseRead, MayRefuseResponse}

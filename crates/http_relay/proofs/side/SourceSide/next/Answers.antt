@@ -1,3 +1,4 @@
+-- The raw bytes that are left over are the first of the next message, whose head is to come.
 use Rattle.std.proofs.Common.{refl, None}
 use Rattle.http_relay.specs.declared.side.SourceSide.{SourceSide}
 use Rattle.http_relay.specs.declared.side.head.SourceHead.TheVariants as heads

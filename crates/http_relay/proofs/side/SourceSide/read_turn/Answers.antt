@@ -1,3 +1,4 @@
+-- A read turn is what a transaction asks of a source, also with the fault it keeps; an old fault comes again.
 use Rattle.std.proofs.Common.{◌≡◌, length, refl, sym, ap, ◌∙◌, Ok, Err, Some, None, rules}
 use Rattle.adapt_sides.specs.declared.fault.RelayFault.{RelayFault}
 use Rattle.http_relay.specs.declared.side.SourceSide.{SourceSide}

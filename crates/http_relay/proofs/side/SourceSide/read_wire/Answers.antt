@@ -1,3 +1,4 @@
+-- Each answer of the one read makes a read turn: bytes are framed, an end closes the body, a failure is the fault.
 use Rattle.std.proofs.Common.{◌≡◌, true, false, [], length, refl, sym, ◌∙◌}
 use Rattle.http_relay.specs.Events.{source_events}
 use Rattle.http_relay.specs.declared.side.SourceSide.{SourceSide}

@@ -1,3 +1,4 @@
+-- A turn at the head is still one where the room for raw bytes is given back.
 use Rattle.http_relay.proofs.Heads.{head_given_back}
 use Rattle.http_relay.proofs.side.SourceSide.try_head.Goals as goal
 

@@ -1,3 +1,4 @@
+-- A read turn is still one where the room for raw bytes is given back.
 use Rattle.std.proofs.Common.{length}
 use Rattle.http_relay.proofs.Turning.{turn_kept}
 use Rattle.http_relay.proofs.side.SourceSide.turn_once.Goals as goal

@@ -1,3 +1,4 @@
+-- The events tell the body's bytes that were read, and its end; more bytes than may be told are refused.
 use Rattle.std.proofs.Common.{◌≡◌, ◌∙◌, ℕ, ◌+◌, true, false, List, take, refl, sym, subst, arith}
 use Rattle.trace_core.specs.declared.history.Event.{Event}
 use Rattle.trace_core.specs.Turns.{in_sum}

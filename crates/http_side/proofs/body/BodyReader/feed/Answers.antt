@@ -1,3 +1,4 @@
+-- The bytes used of a counted or a chunked body are read as more of that body; only a chunked body can break.
 use Rattle.std.proofs.Common.{arith}
 use Rattle.http_side.proofs.Grows.{counted, chunks_read, chunks_fault}
 use Rattle.http_side.proofs.body.BodyReader.feed.Goals as goal

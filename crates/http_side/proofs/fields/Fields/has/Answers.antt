@@ -1,3 +1,4 @@
+-- A field that has the name gives the name a value.
 use Rattle.std.proofs.Common.{sym, ◌∙◌, arith}
 use Rattle.http_side.proofs.FieldLemmas.{has_value}
 use Rattle.http_side.proofs.fields.Fields.has.Goals as goal

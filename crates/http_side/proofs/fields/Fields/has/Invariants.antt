@@ -1,3 +1,4 @@
+-- No field so far has the name.
 use Rattle.std.proofs.Common.{◌≡◌, take, []}
 use Rattle.adapt_bytes.specs.Fields.{values_of}
 use Rattle.http_side.proofs.fields.Fields.has.Given as goal

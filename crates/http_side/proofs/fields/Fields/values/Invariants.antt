@@ -1,3 +1,4 @@
+-- The values found are those of the fields so far that have the name.
 use Rattle.std.proofs.Common.{take}
 use Rattle.adapt_bytes.specs.Fields.{values_of}
 use Rattle.http_side.specs.Fields.{IsValues}

@@ -1,3 +1,4 @@
+-- What is read of a piece adds to the text read before; an end or a fault in it is the reading of the text.
 use Rattle.std.proofs.Common.{◌≡◌, ℕ, ◌+◌, ◌-◌, ◌<◌, ◌≤◌, List, ◌++◌, length, take, drop, slice_range, sym, ap, ◌∙◌, subst, arith}
 use Rattle.std.proofs.Common.{take-take, length-take, length-drop}
 use Rattle.std.proofs.lemmas.List.{take-append-drop}

@@ -1,3 +1,4 @@
+-- The text is read up to an offset not past the piece's end, and neither the body's end nor a fault has come.
 use Rattle.std.proofs.Common.{◌-◌, ◌≤◌}
 use Rattle.icap_chunks.specs.Collected.{HasReadTo}
 use Rattle.icap_chunks.proofs.pieces.Collector.read_to.Given as goal

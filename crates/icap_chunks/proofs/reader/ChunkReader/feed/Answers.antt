@@ -1,3 +1,4 @@
+-- What is read of a piece adds to the text and the body read before; an earlier fault or end stays.
 use Rattle.std.proofs.Common.{refl}
 use Rattle.icap_chunks.proofs.Feeding.{fed_read, fed_fault, fed_faulted, fed_over}
 use Rattle.icap_chunks.proofs.reader.ChunkReader.feed.Goals as goal

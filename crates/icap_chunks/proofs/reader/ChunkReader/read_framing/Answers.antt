@@ -1,3 +1,4 @@
+-- A byte that is read where the reader doesn't pause is one more byte of framing.
 use Rattle.std.proofs.Common.{arith, sym, ◌∙◌, below_more}
 use Rattle.icap_chunks.proofs.Runs.{run_more}
 use Rattle.icap_chunks.proofs.reader.ChunkReader.read_framing.Goals as goal

@@ -1,3 +1,4 @@
+-- The reader has read just the bytes so far, and paused before none of them.
 use Rattle.std.proofs.Common.{◌≡◌, ℕ, ◌<◌, false, take}
 use Rattle.icap_chunks.specs.Machine.{run, pauses_at}
 use Rattle.icap_chunks.proofs.reader.ChunkReader.read_framing.Given as goal

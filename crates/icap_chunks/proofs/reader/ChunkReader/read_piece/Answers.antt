@@ -1,3 +1,4 @@
+-- After the framing that begins a piece comes a run of the body, the body's end, a fault with no body before it, or no byte.
 use Rattle.std.proofs.Common.{◌≡◌, rules, arith, sym, ◌∙◌, ap, Some, None, inl, inr}
 use Rattle.icap_chunks.specs.Machine.{run, end_at, faulted_at}
 use Rattle.icap_chunks.proofs.Runs.{Framing, framing_part, framing_end_first, fault_read, fault_part, run_at, data_part, data_end_first}

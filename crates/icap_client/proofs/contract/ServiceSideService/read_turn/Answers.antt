@@ -1,3 +1,4 @@
+-- A read leaves what was sent, even where it drops the heads' text, and its first fault has its cause.
 use Rattle.std.proofs.Common.{◌∙◌, Bool, length, subst, sym}
 use Rattle.trace_core.specs.History.{shows}
 use Rattle.icap_client.specs.Reading.{IsCause}

@@ -1,3 +1,4 @@
+-- After a Retry nothing is sent or heard yet, no preview is answered, and all of the heads' text waits again.
 use Rattle.std.proofs.Common.{◌∙◌, ap, sym}
 use Rattle.chunk_writer.specs.Writer.{fresh}
 use Rattle.icap_client.specs.OthersSent.{begins_again}

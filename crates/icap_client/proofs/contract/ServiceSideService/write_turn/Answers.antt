@@ -1,3 +1,4 @@
+-- The first fault of a write is that its wire failed.
 use Rattle.trace_core.specs.History.{shows}
 use Rattle.icap_client.proofs.Both.{offer_fails}
 use Rattle.icap_client.proofs.contract.ServiceSideService.write_turn.Goals as goal

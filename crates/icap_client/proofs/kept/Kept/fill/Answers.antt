@@ -1,3 +1,4 @@
+-- After a read the judged bytes are still there and judged, and all bytes keep their limit.
 use Rattle.std.proofs.Common.{arith}
 use Rattle.icap_client.proofs.Judged.{filled_judged}
 use Rattle.icap_client.proofs.kept.Kept.fill.Goals as goal

@@ -1,3 +1,4 @@
+-- Bytes shorter than a head may be, with no line ended since they were judged, are a prefix of a head.
 use Rattle.std.proofs.Common.{rules, ◌≡◌, ◌<◌, length, drop, false, ℕ, List, ap, sym, subst, ◌∙◌}
 use Rattle.adapt_bytes.specs.Text.{has_line}
 use Rattle.icap_client.specs.HeadFront.{Store, IsHeadFront}

@@ -1,3 +1,4 @@
+-- Where the rest is a prefix of a head all of it counts as judged, and it keeps the limit of the bytes.
 use Rattle.std.proofs.Common.{rules, ◌≡◌, ◌≤◌, length, drop, ℕ, List, ap, sym, subst, arith, length-drop}
 use Rattle.icap_head.specs.Heads.{RefusesResponse}
 use Rattle.icap_head.specs.declared.reading.HeadFault.TheVariants.{More}

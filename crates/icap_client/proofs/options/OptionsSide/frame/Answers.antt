@@ -1,3 +1,4 @@
+-- A side that stays as it is frames nothing more.
 use Rattle.std.proofs.Common.{refl}
 use Rattle.icap_client.proofs.Skipping.{frames_same}
 use Rattle.icap_client.proofs.options.OptionsSide.frame.Goals as goal

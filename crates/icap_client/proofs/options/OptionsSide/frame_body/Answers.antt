@@ -1,3 +1,4 @@
+-- The body is framed further, or to its end, where the kept head is answered; bytes that break the body are refused.
 use Rattle.std.proofs.Common.{rules, ◌≡◌, ◌∙◌, ap, sym, subst, refl, List, ℕ, is_some, true}
 use Rattle.icap_client.specs.Hearing.{ReadsOn}
 use Rattle.icap_client.specs.Asking.{Asker}

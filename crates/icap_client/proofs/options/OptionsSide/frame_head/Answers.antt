@@ -1,3 +1,4 @@
+-- A head is framed alone, or with what comes of its body; it is refused for its text, its list or its body.
 use Rattle.std.proofs.Common.{rules, arith, ◌≡◌, subst, refl, List, ℕ}
 use Rattle.icap_head.specs.Heads.{response_parts, HasResponse}
 use Rattle.icap_client.specs.declared.options.OptionsStage.TheVariants.{Head}

@@ -1,3 +1,4 @@
+-- A turn that reads frames the bytes that came, or tells that the wire waits, ended or failed, or that no memory was found.
 use Rattle.std.proofs.Common.{◌∙◌, ◌<◌, ap, sym, subst, refl, length}
 use Rattle.icap_client.specs.Asking.{Asker}
 use Rattle.adapt_sides.specs.Filling.{IsFilled}

@@ -1,3 +1,4 @@
+-- Bytes that are a prefix of a head want more; any other fault of a head refuses them.
 use Rattle.std.proofs.Common.{◌≡◌, ◌∙◌, ap, sym, subst}
 use Rattle.icap_head.specs.Heads.{RefusesResponse}
 use Rattle.icap_head.specs.declared.reading.HeadFault.TheVariants.{More}

@@ -1,3 +1,4 @@
+-- A turn that failed stays what it was once its fault is kept.
 use Rattle.std.proofs.Common.{ap, Err}
 use Rattle.icap_client.specs.Asking.{Asker}
 use Rattle.icap_client.proofs.Asked.{asks_kept}

@@ -1,3 +1,4 @@
+-- A turn stays what it was if empty room is given back after it.
 use Rattle.icap_client.proofs.Asked.{asks_drop_text}
 use Rattle.icap_client.proofs.options.OptionsSide.turn_once.Goals as goal
 

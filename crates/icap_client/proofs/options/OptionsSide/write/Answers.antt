@@ -1,3 +1,4 @@
+-- An offer of the waiting text leaves what the wire did not take; where the wire fails, the fault is Device.
 use Rattle.std.proofs.Common.{◌∙◌, ap, sym, refl, List, ℕ, drop}
 use Rattle.icap_client.proofs.Asked.{asks_took, asks_later, asks_broken}
 use Rattle.icap_client.proofs.options.OptionsSide.write.Goals as goal

@@ -1,3 +1,4 @@
+-- Where no text waits, the wire is read only before the answer's end, and if the kept bytes give no head and no fault.
 use Rattle.std.proofs.Common.{rules, ◌≡◌}
 use Rattle.icap_client.specs.declared.options.OptionsStage.TheVariants.{Over}
 use Rattle.icap_client.proofs.Asked.{asks_over, asks_told, asks_refused, asks_behind}

@@ -1,3 +1,4 @@
+-- Bytes of the adapted body, and its end, are heard if their events may come, and else refused as untimely.
 use Rattle.std.proofs.Common.{ℕ, List, take, ap, sym, subst, refl, arith}
 use Rattle.trace_core.specs.declared.history.Event.{Event}
 use Rattle.trace_core.specs.History.{shows}

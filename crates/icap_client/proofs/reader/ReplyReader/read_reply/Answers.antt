@@ -1,3 +1,4 @@
+-- Noting a response's fields leaves what was heard; a head that is no reply is refused, and a prefix waits.
 use Rattle.std.proofs.Common.{rules, take, [], ◌≡◌, None, Result, IfOk, sym, subst}
 use Rattle.adapt_sides.specs.declared.fault.ClientFault.{ClientFault}
 use Rattle.icap_client.specs.declared.events.FramedHead.{FramedHead}

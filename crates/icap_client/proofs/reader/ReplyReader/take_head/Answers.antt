@@ -1,3 +1,4 @@
+-- The adapted message's head is heard; after it a body begins, or the response is over.
 use Rattle.std.proofs.Common.{◌≡◌, List, ℕ, ap, ◌∙◌, rules}
 use Rattle.trace_core.specs.History.{shows}
 use Rattle.icap_client.specs.Heard.{Reader, with_head}

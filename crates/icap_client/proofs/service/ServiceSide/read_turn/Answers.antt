@@ -1,3 +1,4 @@
+-- What the replies' side hears or refuses, the whole side does, with its mark of an answered preview.
 use Rattle.std.proofs.Common.{◌≡◌, ◌∙◌, Bool, List, ap, sym, subst, length, Result, Ok, Err, rules}
 use Rattle.trace_core.specs.declared.history.Event.{Event}
 use Rattle.trace_core.specs.declared.history.Seen.{Seen}

@@ -1,3 +1,4 @@
+-- A turn refuses raw bytes, reads after they gave no event, or answers NotLegal where no reply may begin.
 use Rattle.std.proofs.Common.{◌≡◌, List, ℕ, [], length, take, subst, rules}
 use Rattle.trace_core.specs.declared.history.Event.{Event}
 use Rattle.trace_core.specs.History.{shows}

@@ -1,3 +1,4 @@
+-- The side hears, waits for and refuses what its reader does of the raw bytes; a judged rest is a head's prefix.
 use Rattle.std.proofs.Common.{rules, ◌≡◌, List, ℕ, length, take, drop, ap, sym, subst}
 use Rattle.trace_core.specs.History.{shows}
 use Rattle.icap_client.specs.Events.{ad_sum}

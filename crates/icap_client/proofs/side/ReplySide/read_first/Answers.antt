@@ -1,3 +1,4 @@
+-- The first bytes of a reply make Heard; else the turn tells that the wire waits, ended or failed, or that no memory was found.
 use Rattle.std.proofs.Common.{true, false, length, refl, ap, subst}
 use Rattle.trace_core.specs.History.{shows}
 use Rattle.icap_client.specs.Reading.{ReadSide, IsReadDue}

@@ -1,3 +1,4 @@
+-- A read turn stays what it was if empty room is given back after it.
 use Rattle.std.proofs.Common.{length}
 use Rattle.trace_core.specs.History.{shows}
 use Rattle.icap_client.proofs.ReadTurns.{turn_given_back}

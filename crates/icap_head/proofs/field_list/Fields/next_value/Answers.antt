@@ -1,3 +1,4 @@
+-- The first field of the name gives the first of the values left; a field of another name gives none.
 use Rattle.std.proofs.Common.{◌≡◌, ◌+◌, ◌<◌, true, ◌∷◌, length, drop, sym, ap, ◌∙◌, arith}
 use Rattle.std.specs.Str.{str_eq_ignore_ascii_case}
 use Rattle.adapt_bytes.specs.Fields.{field_at, is_named, values_of}

@@ -1,3 +1,4 @@
+-- The values of the name after the fields passed are those from this field on.
 use Rattle.std.proofs.Common.{◌≡◌, drop}
 use Rattle.adapt_bytes.specs.Fields.{values_of}
 use Rattle.icap_head.specs.Fields.{field_list}

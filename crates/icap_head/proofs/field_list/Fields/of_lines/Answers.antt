@@ -1,3 +1,4 @@
+-- Places within a text's first bytes lie within the copy of these bytes, and hold the same fields there.
 use Rattle.std.proofs.Common.{◌≡◌, ap, ◌∙◌, length, take, rules, length-take-le}
 use Rattle.icap_head.proofs.Fronts.{front_headers}
 use Rattle.icap_head.proofs.field_list.Fields.of_lines.Goals as goal

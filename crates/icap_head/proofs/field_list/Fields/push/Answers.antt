@@ -1,3 +1,4 @@
+-- Bytes added to the text leave the fields in it as they are; if its place is added too, a new field is the last.
 use Rattle.std.proofs.Common.{◌++◌, map, ap, ◌∙◌, append_assoc}
 use Rattle.std.proofs.lemmas.Result.{err_from_is_err_and}
 use Rattle.httparse.specs.Spans.{header_bytes}

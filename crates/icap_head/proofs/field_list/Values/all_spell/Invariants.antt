@@ -1,3 +1,4 @@
+-- All values spell the number if and only if all values left do.
 use Rattle.icap_head.specs.Fields.{AllSpell, values_left}
 use Rattle.icap_head.proofs.field_list.Values.all_spell.Given as goal
 

@@ -1,3 +1,4 @@
+-- The piece of an ICAP head is served, whether more is awaited, it is refused, or it asks for options or offers a message.
 use Rattle.std.proofs.Common.{◌++◌, List, ℕ, [], length, take, refl, sym, ap, ◌∙◌, subst, arith, append-nil}
 use Rattle.std.proofs.lemmas.List.{take_all}
 use Rattle.icap_services.specs.Texts.{shown, error_text, options_text}

@@ -1,3 +1,4 @@
+-- A part that is read into an answer of its own is served as well once that answer is put after those so far.
 use Rattle.std.proofs.Common.{◌≡◌, ◌++◌, List, ℕ, take, sym, ap, ◌∙◌, subst, append_assoc, append-nil}
 use Rattle.icap_services.specs.Texts.{shown}
 use Rattle.icap_server.specs.Served.{Serves}

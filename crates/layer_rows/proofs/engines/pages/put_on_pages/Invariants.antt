@@ -1,3 +1,4 @@
+-- The four ledgers of the bank whose two pages a row gets have the names and the parts of its blanks.
 use Rattle.layer_rows.proofs.engines.pages.put_on_pages.Given as goal
 
 abbrev pub ghosts-put_on_bank-H-Ledger : goal.ghosts-put_on_bank-H-Ledger

@@ -1,3 +1,4 @@
+-- The four ledgers of the bank of a call have the names and the parts of its blanks.
 use Rattle.layer_rows.proofs.resources.banks.put_bank.Given as goal
 
 abbrev pub ghosts-put_on_bank-H-Ledger : goal.ghosts-put_on_bank-H-Ledger

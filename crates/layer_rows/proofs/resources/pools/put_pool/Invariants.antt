@@ -1,3 +1,4 @@
+-- The ledger of the pool of a call has the name and the parts of its blank.
 use Rattle.layer_rows.proofs.resources.pools.put_pool.Given as goal
 
 abbrev pub ghosts-put_on_pool : goal.ghosts-put_on_pool

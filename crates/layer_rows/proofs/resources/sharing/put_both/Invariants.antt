@@ -1,3 +1,4 @@
+-- The ledger of the pool that four threads share beside a bank has the name and the parts of its blank.
 use Rattle.layer_rows.proofs.resources.sharing.put_both.Given as goal
 
 abbrev pub ghosts-share : goal.ghosts-share

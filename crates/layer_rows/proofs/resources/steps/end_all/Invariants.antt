@@ -1,3 +1,4 @@
+-- At each turn one fewer of the things lent is left.
 use Rattle.std.specs.Prelude.{vec_len}
 use Rattle.layer_rows.proofs.resources.steps.end_all.Given as goal
 

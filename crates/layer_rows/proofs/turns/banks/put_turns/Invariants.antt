@@ -1,3 +1,4 @@
+-- The four ledgers of the bank for a row's transaction have the names and the parts of its blanks.
 use Rattle.layer_rows.proofs.turns.banks.put_turns.Given as goal
 
 abbrev pub ghosts-put_on_bank-H-Ledger : goal.ghosts-put_on_bank-H-Ledger

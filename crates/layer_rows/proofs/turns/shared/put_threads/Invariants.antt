@@ -1,3 +1,4 @@
+-- The four ledgers of the bank that a run's threads share have the names and the parts of its blanks.
 use Rattle.layer_rows.proofs.turns.shared.put_threads.Given as goal
 
 abbrev pub ghosts-put_on_bank-H-Ledger : goal.ghosts-put_on_bank-H-Ledger

@@ -1,3 +1,4 @@
+-- The head is made for the user's request that was read, by what the history shows and whether the user's connection carries on.
 use Rattle.std.proofs.Common.{sym, ap}
 use Rattle.trace_core.specs.History.{shows}
 use Rattle.proxy_rules.proofs.HeadLemmas.{makes, was_read}

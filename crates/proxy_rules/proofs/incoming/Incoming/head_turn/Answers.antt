@@ -1,3 +1,4 @@
+-- After a turn at the head, what was read of the message is still what was kept before and what its wire gave since.
 use Rattle.std.proofs.Common.{ap}
 use Rattle.proxy_rules.specs.Arrivals.{Arrival}
 use Rattle.proxy_rules.proofs.ArrivalLemmas.{head_turned, came_turned}

@@ -1,3 +1,4 @@
+-- The next message begins with the bytes left over, and is a request as the one before it was.
 use Rattle.std.proofs.Common.{inl, ◌∙◌}
 use Rattle.proxy_rules.proofs.incoming.Incoming.next.Goals as goal
 

@@ -1,3 +1,4 @@
+-- An offer's side is unused and is of the plan, which isn't Plain and previews no body known to be empty.
 use Rattle.std.proofs.Common.{sym, ap, ◌∙◌}
 use Rattle.icap_client.specs.Heard.{Reader}
 use Rattle.proxy_rules.proofs.BeginLemmas.{fresh_reader}

@@ -1,3 +1,4 @@
+-- Where a response is offered, its service gets the head of the user's own request and that of the response.
 use Rattle.std.proofs.Common.{◌≡◌, ℕ, List, Option, Some, IfOk, ap, sym, subst, ◌∙◌}
 use Rattle.std.specs.Option.{option_copied}
 use Rattle.proxy_config.specs.declared.point.ServicePoint.{ServicePoint}

@@ -1,3 +1,4 @@
+-- The wires and the service's connection are accounted for over the first call, and then over those after it.
 use Rattle.std.proofs.Common.{subst}
 use Rattle.proxy_rules.specs.Calls.{IsLine}
 use Rattle.proxy_rules.proofs.CallLemmas.{lines_more}

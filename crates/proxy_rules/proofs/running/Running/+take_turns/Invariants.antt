@@ -1,3 +1,4 @@
+-- Fewer turns are left after each.
 use Rattle.std.proofs.Common.{length}
 use Rattle.proxy_rules.proofs.running.Running.+take_turns.Given as goal
 

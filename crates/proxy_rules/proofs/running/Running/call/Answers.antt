@@ -1,3 +1,4 @@
+-- At each call the wires stay accounted for, and only a retry may put another connection in place of the service's.
 use Rattle.std.proofs.Common.{inl, refl}
 use Rattle.proxy_rules.proofs.CallLemmas.{fresh_call}
 use Rattle.proxy_rules.proofs.running.Running.call.Goals as goal

@@ -1,3 +1,4 @@
+-- The wires stay accounted for where the service's connection is closed, with that connection as it was then.
 use Rattle.std.proofs.Common.{refl}
 use Rattle.proxy_rules.specs.Since.{held_or, freed_wire}
 use Rattle.proxy_rules.proofs.running.Running.close_freed.Goals as goal

@@ -1,3 +1,4 @@
+-- Over the turns of a schedule the wires stay accounted for, and a failure is refused or a byte is out to the user.
 use Rattle.std.proofs.Common.{ap, ◌∙◌}
 use Rattle.std.proofs.Math.Logic.{∥∥₁_map}
 use Rattle.adapt_hold.specs.Holding.{Holding, shows}

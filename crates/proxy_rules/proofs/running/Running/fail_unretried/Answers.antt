@@ -1,3 +1,4 @@
+-- What may retry is open, so it fails for this cause; the wires stay accounted for.
 use Rattle.std.proofs.Math.Logic.{∥∥₁_map}
 use Rattle.proxy_rules.proofs.RunLemmas.{runs_failed, not_both}
 use Rattle.proxy_rules.proofs.SinceLemmas.{since_goes}

@@ -1,3 +1,4 @@
+-- A halt fails what is open as Stopping and leaves what is closed as it ended; the wires stay accounted for.
 use Rattle.std.proofs.Math.Logic.{∥∥₁_map}
 use Rattle.trace_core.specs.declared.history.Cause.TheVariants.{Stopping}
 use Rattle.proxy_rules.proofs.RunLemmas.{runs_failed}

@@ -1,3 +1,4 @@
+-- Where a connection broke, the request begins anew on the one that was brought, and none was given up since.
 use Rattle.std.proofs.Common.{None, inr}
 use Rattle.adapt_turn.specs.ChosenHead.{wire_of}
 use Rattle.proxy_rules.proofs.CallLemmas.{fresh_line}

@@ -1,3 +1,4 @@
+-- A retry leaves the transaction open; nothing went over the fresh connection yet, and the other wires stay accounted for.
 use Rattle.std.proofs.Math.Logic.{∥∥₁_map}
 use Rattle.proxy_rules.specs.Since.{anew_on}
 use Rattle.adapt_turn.specs.ChosenHead.{wire_of}

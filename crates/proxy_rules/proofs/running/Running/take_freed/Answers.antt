@@ -1,3 +1,4 @@
+-- The wires stay accounted for, a freed connection as it was when given up, and a refusal stands as before.
 use Rattle.std.proofs.Common.{ap, sym, ◌∙◌}
 use Rattle.std.proofs.Math.Logic.{∥∥₁_map}
 use Rattle.adapt_hold.specs.Holding.{Holding, shows}

@@ -1,3 +1,4 @@
+-- After a turn the wires stay accounted for; a failure in it is the deadline's or that side's, and is refused, or a byte is out.
 use Rattle.std.proofs.Common.{ap, ◌∙◌}
 use Rattle.std.proofs.Math.Logic.{∥∥₁_map}
 use Rattle.adapt_hold.specs.Holding.{Holding, shows}

@@ -1,3 +1,4 @@
+-- What is lent is what was found after the idle connections that were looked at and weren't fit for use.
 use Rattle.service_lines.proofs.LendingLemmas.{lends_found}
 use Rattle.service_lines.proofs.pools.Pools.lend_now.Goals as goal
 

@@ -1,3 +1,4 @@
+-- In each turn so far one idle connection was looked at, and wasn't fit for use.
 use Rattle.std.proofs.Common.{List}
 use Rattle.service_lines.specs.declared.connector.Act.{Act}
 use Rattle.service_lines.specs.Lending.{after_dead}

@@ -1,3 +1,4 @@
+-- Each lease popped so far has brought one part, and one of the leased number.
 use Rattle.std.specs.Prelude.{◌≡◌, ◌+◌, vec_len}
 use Rattle.service_pool.proofs.locked.Locked.audit.Given as goal
 

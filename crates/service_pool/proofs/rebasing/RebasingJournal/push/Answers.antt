@@ -1,3 +1,4 @@
+-- A sound journal with room stays sound by an allowed step, and keeps its capacity.
 use Rattle.std.proofs.Common.{arith}
 use Rattle.service_pool.specs.Journal.{Journaled}
 use Rattle.service_pool.proofs.StepLemmas.{sound-fields}

@@ -1,3 +1,4 @@
+-- Of the idle connections the youngest that is picked and preferred is taken, else the youngest picked, else the youngest of all.
 use Rattle.std.proofs.Common.{◌≡◌, ap, sym, ◌∙◌}
 use Rattle.service_pool.specs.declared.step.PoolStep.TheVariants.{Take}
 use Rattle.service_pool.specs.Journal.{stepped}

@@ -1,3 +1,4 @@
+-- A sound window with room stays sound by an allowed step.
 use Rattle.service_pool.specs.Journal.{Journaled}
 use Rattle.service_pool.proofs.StepLemmas.{sound-ring}
 use Rattle.service_pool.proofs.window.Window.push.Goals as goal

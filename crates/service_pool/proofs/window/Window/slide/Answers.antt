@@ -1,3 +1,4 @@
+-- A sound window stays sound where its oldest step goes into the base.
 use Rattle.std.proofs.Common.{sym}
 use Rattle.service_pool.specs.Journal.{Journaled}
 use Rattle.service_pool.proofs.StepLemmas.{sound-slid_ring}

@@ -1,3 +1,4 @@
+-- A desk's limits, deadlines and number of kept origins are those of the configuration that its threads share.
 use Rattle.std.proofs.Common.{refl, ◌∙◌}
 use Rattle.shard_desk.proofs.desk.Desk.new.Goals as goal
 

@@ -1,3 +1,4 @@
+-- At each place of the walk the connection stays and is fit or not heard of yet, or it goes and is unfit.
 use Rattle.std.proofs.Common.{rules, ◌⊎◌, ℕ, ◌-◌, ◌<◌, sym, subst}
 use Rattle.shard_desk.specs.Kept.{IsFit, IsUnfit}
 use Rattle.shard_desk.proofs.Sifting.{Walked, sifts_on, one_less, below, index_after}

@@ -1,3 +1,4 @@
+-- Those not passed yet are as they were; a younger one that stayed is fit or not heard of yet, one that went is unfit.
 use Rattle.std.proofs.Common.{◌≡◌, ◌-◌, ◌⊎◌, length}
 use Rattle.std.specs.VecDeque.{deque_capacity}
 use Rattle.shard_desk.specs.Kept.{IsFit, IsUnfit}

@@ -1,3 +1,4 @@
+-- From the youngest on, the first fit one that leads to the address is taken; of those passed only unfit ones that lead to it went.
 use Rattle.std.proofs.Common.{rules, ◌≡◌, ◌⊎◌, ℕ, ◌-◌, ◌<◌, Some, sym, subst}
 use Rattle.shard_desk.specs.Kept.{IsFit, IsUnfit, IsUnsure}
 use Rattle.shard_desk.proofs.Sifting.{Walked, is_taken, walks_on, one_less, below, index_after}

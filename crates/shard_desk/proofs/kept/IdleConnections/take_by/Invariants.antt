@@ -1,3 +1,4 @@
+-- Those not passed are as they were; a younger one that stayed leads elsewhere or is unsure, one that went leads there and is unfit.
 use Rattle.std.proofs.Common.{◌≡◌, ◌-◌, ◌⊎◌, Some, length}
 use Rattle.std.specs.VecDeque.{deque_capacity}
 use Rattle.shard_desk.specs.Kept.{IsUnfit, IsUnsure}

@@ -1,3 +1,4 @@
+-- A text that says the page of what is noted is a refusal of this status with this page.
 use Rattle.std.proofs.lemmas.Option.{IfSome_then}
 use Rattle.shard_desk.proofs.Paging.{says_page}
 use Rattle.shard_desk.proofs.reporter.Reporter.refusal_with.Goals as goal

@@ -1,3 +1,4 @@
+-- A message that moves on after a step is the same: at the gate, in a round, or as a connection goes back.
 use Rattle.std.proofs.Common.{◌≡◌, ◌∙◌, inl, inr, Bool, true, false, Option, not, ◌&&◌, ◌||◌, if◌then◌else◌, sym}
 use Rattle.std.proofs.lemmas.Bool.{false≢true}
 use Rattle.exchange_core.specs.declared.state.CourseState.{CourseState}

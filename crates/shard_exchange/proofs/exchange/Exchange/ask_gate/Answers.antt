@@ -1,3 +1,4 @@
+-- A message that the gate doesn't let pass is over, so the gate is due no more.
 use Rattle.std.proofs.Common.{◌≡◌, ◌∙◌, true, sym, arith}
 use Rattle.std.proofs.lemmas.Bool.{false≢true}
 use Rattle.std.proofs.lemmas.Bool.Decides.{nat_tests}

@@ -1,3 +1,4 @@
+-- The service's connection goes back where that is due, and the user's connection closes where that is due.
 use Rattle.std.proofs.Common.{◌∙◌, sym}
 use Rattle.shard_exchange.proofs.exchange.Exchange.do_due.Goals as goal
 

@@ -1,3 +1,4 @@
+-- Where no drain may come there was one, or nothing but a refusal is due for the user.
 use Rattle.std.proofs.Common.{◌≡◌, ◌&&◌, ◌||◌, not, true, false, Bool, refl}
 use Rattle.exchange_core.specs.May.{is_gone}
 use Rattle.shard_exchange.proofs.exchange.Exchange.drain.Goals as goal

@@ -1,3 +1,4 @@
+-- Once the last refusal was tried, all that is held goes back, along events that may come.
 use Rattle.std.proofs.Common.{◌≡◌, subst}
 use Rattle.exchange_core.specs.declared.state.CourseState.{CourseState}
 use Rattle.exchange_core.proofs.Stepping.{goes_on}

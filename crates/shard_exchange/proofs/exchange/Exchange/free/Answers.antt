@@ -1,3 +1,4 @@
+-- The service's connection, then the reservation, then the origin's connection go back, each where it is due.
 use Rattle.exchange_core.proofs.Stepping.{goes_on}
 use Rattle.shard_exchange.proofs.exchange.Exchange.free.Goals as goal
 

@@ -1,3 +1,4 @@
+-- The exchange stops and leaves its queue; what goes back after that changes nothing of what its user is owed.
 use Rattle.std.proofs.Common.{◌≡◌, ◌∙◌, Bool, true, false, ◌||◌, sym, ap}
 use Rattle.exchange_core.specs.declared.phase.Phase.{Phase}
 use Rattle.exchange_core.specs.declared.state.CourseState.{CourseState}

@@ -1,3 +1,4 @@
+-- Past the deadline the course is told that the origin was heard, and then that the message fails: both may come.
 use Rattle.exchange_core.proofs.Stepping.{goes_on}
 use Rattle.shard_exchange.proofs.exchange.Exchange.has_dropped_interim.Goals as goal
 

@@ -1,3 +1,4 @@
+-- Where nothing was heard of the service, the message waits on, or fails once the deadline has passed.
 use Rattle.std.proofs.Common.{◌≡◌, inl, inr, Bool, true, false, if◌then◌else◌, refl}
 use Rattle.trace_core.specs.declared.history.Point.{Point}
 use Rattle.exchange_core.specs.declared.state.CourseState.{CourseState}

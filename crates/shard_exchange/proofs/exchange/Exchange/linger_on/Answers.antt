@@ -1,3 +1,4 @@
+-- Once a user that is gone sends no more, all that is held goes back as for a lost user whose message doesn't move.
 use Rattle.std.proofs.Common.{◌≡◌, ◌∙◌, inr, true, false, ◌||◌, ap, subst, refl}
 use Rattle.exchange_core.specs.declared.phase.Phase.{Phase}
 use Rattle.exchange_core.specs.declared.phase.Phase.TheVariants.{Gone}

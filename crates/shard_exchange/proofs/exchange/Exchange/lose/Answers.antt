@@ -1,3 +1,4 @@
+-- The message of a lost user ends, and leaves its queue, before all that is held goes back.
 use Rattle.exchange_core.proofs.Stepping.{goes_on}
 use Rattle.shard_exchange.proofs.exchange.Exchange.lose.Goals as goal
 

@@ -1,3 +1,4 @@
+-- A message that waits in the queue leaves it before its user is taken for gone.
 use Rattle.shard_exchange.proofs.exchange.Exchange.lose_message.Goals as goal
 
 -- the message left the queue before its user is taken for gone

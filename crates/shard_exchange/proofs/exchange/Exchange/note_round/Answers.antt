@@ -1,3 +1,4 @@
+-- The course may be told that an answer began, and then that the service has said all.
 use Rattle.exchange_core.proofs.Stepping.{goes_on}
 use Rattle.shard_exchange.proofs.exchange.Exchange.note_round.Goals as goal
 

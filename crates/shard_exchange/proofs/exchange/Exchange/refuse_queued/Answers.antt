@@ -1,3 +1,4 @@
+-- A message that waits in the queue leaves it before its user is refused.
 use Rattle.shard_exchange.proofs.exchange.Exchange.refuse_queued.Goals as goal
 
 -- the message left the queue before its user is refused

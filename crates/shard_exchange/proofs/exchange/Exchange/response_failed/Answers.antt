@@ -1,3 +1,4 @@
+-- Unless the request goes back to its plan, the message fails of what the turn at the response's head found.
 use Rattle.std.proofs.Common.{◌≡◌, inr, Bool, true, false, ◌&&◌, Option, refl, ap, sym, subst, ◌∙◌}
 use Rattle.std.proofs.lemmas.Bool.{false≢true}
 use Rattle.adapt_sides.specs.declared.fault.RelayFault.{RelayFault}

@@ -1,3 +1,4 @@
+-- The message's connections and reservation are back, its end is told, and a withdrawn request is there to be sent again.
 use Rattle.std.proofs.Common.{◌≡◌, ◌∙◌, Bool, true, false, Option, None, Some, ◌||◌, if◌then◌else◌, sym, subst, refl, ap}
 use Rattle.std.proofs.Math.Bool.{or-true}
 use Rattle.exchange_core.specs.declared.connection.Connection.{Connection}

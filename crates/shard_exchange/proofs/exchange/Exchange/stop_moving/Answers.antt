@@ -1,3 +1,4 @@
+-- A message that moves ends as one that the stop ends, and then its origin's connection closes.
 use Rattle.exchange_core.proofs.Stepping.{goes_on}
 use Rattle.shard_exchange.proofs.exchange.Exchange.stop_moving.Goals as goal
 

@@ -1,3 +1,4 @@
+-- A message in the queue leaves it; the course may take the stop, and after that the close of the origin's connection.
 use Rattle.exchange_core.proofs.Stepping.{goes_on}
 use Rattle.shard_exchange.proofs.exchange.Exchange.stop_unmoved.Goals as goal
 

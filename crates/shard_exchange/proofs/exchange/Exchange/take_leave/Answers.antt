@@ -1,3 +1,4 @@
+-- A user whose refusal came to its end is gone, also after what it still sends was dropped.
 use Rattle.std.proofs.Common.{◌≡◌, ◌∙◌, ℕ, Bool, true, false, if◌then◌else◌, ap, sym}
 use Rattle.adapt_sides.specs.declared.saying.Said.{Said}
 use Rattle.adapt_sides.specs.declared.saying.Said.TheVariants.{Whole, Part, Nothing, Broken}

@@ -1,3 +1,4 @@
+-- By a fault at the response's head the request goes back to its plan or fails; where it may not go back, what is held stays.
 use Rattle.std.proofs.Common.{Option, Some, sym, subst}
 use Rattle.shard_exchange.specs.declared.answers.HeadTurn.{HeadTurn}
 use Rattle.shard_exchange.specs.Outcomes.{KeepsTurned, TurnLeads}

@@ -1,3 +1,4 @@
+-- After a round the message moves on, or is over as its transaction ended, or as the deadline passed with nothing moved.
 use Rattle.std.proofs.Common.{◌≡◌, ◌⊎◌, inl, inr, Bool, Option, true, false, ◌&&◌, ◌||◌, subst, sym, ap, ◌∙◌, refl, rules}
 use Rattle.std.proofs.lemmas.Bool.{false≢true}
 use Rattle.exchange_core.specs.declared.connection.Connection.{Connection}

@@ -1,3 +1,4 @@
+-- The course may be told of a request's first byte, where one came, and then that the deadline has passed.
 use Rattle.exchange_core.proofs.Stepping.{goes_on}
 use Rattle.shard_exchange.proofs.exchange.Exchange.wait_for_request.Goals as goal
 

@@ -1,3 +1,4 @@
+-- What begins to move is the message that was held, by its plan, over the connections that were held.
 use Rattle.std.proofs.Common.{rules}
 use Rattle.shard_holdings.proofs.doing.HoldingsEffects.start.Goals as goal
 

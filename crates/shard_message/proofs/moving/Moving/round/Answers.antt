@@ -1,3 +1,4 @@
+-- A round of a message is one of its transaction, and carries on what was so since it set out.
 use Rattle.shard_message.specs.Outset.{of_request, of_response}
 use Rattle.shard_message.proofs.moving.Moving.round.Goals as goal
 

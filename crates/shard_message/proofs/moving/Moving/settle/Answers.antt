@@ -1,3 +1,4 @@
+-- What a request's transaction came to is so of the message; of a response that is to come no byte was read yet.
 use Rattle.std.proofs.Common.{ap}
 use Rattle.shard_message.proofs.CleanLemmas.{clean_next}
 use Rattle.shard_message.proofs.moving.Moving.settle.Goals as goal

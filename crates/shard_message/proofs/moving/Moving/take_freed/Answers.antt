@@ -1,3 +1,4 @@
+-- What was so since a message set out is so once the service's connection is given up.
 use Rattle.shard_message.specs.Outset.{of_request, of_response}
 use Rattle.shard_message.proofs.moving.Moving.take_freed.Goals as goal
 

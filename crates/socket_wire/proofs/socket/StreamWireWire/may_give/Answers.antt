@@ -1,3 +1,4 @@
+-- An answer that nothing is there to read counts as a read that waits, and the stream stays as it was.
 use Rattle.std.proofs.Common.{[]}
 use Rattle.socket_wire.proofs.socket.StreamWireWire.may_give.Goals as goal
 

@@ -1,3 +1,4 @@
+-- The parts and amounts merged so far, with those of the stakes left, are those of the beginning.
 use Rattle.std.specs.Prelude.{◌≡◌, ◌+◌, vec_len}
 use Rattle.span_bank.specs.Stakes.{held_sum, claim_sum, page_sum}
 use Rattle.span_bank.proofs.locked.Locked.audit.Given as goal

@@ -1,3 +1,4 @@
+-- As many pages are cut off as turns were made, and with those left they are the pages of the beginning.
 use Rattle.std.specs.Prelude.{◌≡◌, ◌+◌}
 use Rattle.span_bank.proofs.pages.Pages.cut.Given as goal
 

@@ -1,3 +1,4 @@
+-- The pages of both chains stay as many as they were together.
 use Rattle.std.specs.Prelude.{◌≡◌, ◌+◌}
 use Rattle.span_bank.proofs.pages.Pages.join.Given as goal
 

@@ -1,3 +1,4 @@
+-- There are as many pages as turns were made.
 use Rattle.std.specs.Prelude.{◌≡◌}
 use Rattle.span_bank.proofs.pages.Pages.make.Given as goal
 

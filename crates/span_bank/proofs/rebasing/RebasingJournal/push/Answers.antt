@@ -1,3 +1,4 @@
+-- An allowed step for which there is room leaves the journal sound, and its room within the reserved one.
 use Rattle.std.proofs.Common.{arith}
 use Rattle.span_bank.specs.Journal.{Journaled}
 use Rattle.span_bank.proofs.StepLemmas.{sound-fields}

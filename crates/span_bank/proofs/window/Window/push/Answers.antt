@@ -1,3 +1,4 @@
+-- An allowed step for which there is room leaves the window sound.
 use Rattle.span_bank.specs.Journal.{Journaled}
 use Rattle.span_bank.proofs.StepLemmas.{sound-ring}
 use Rattle.span_bank.proofs.window.Window.push.Goals as goal

@@ -1,3 +1,4 @@
+-- A full window that applies its oldest step to its base stays sound.
 use Rattle.std.proofs.Common.{sym}
 use Rattle.span_bank.specs.Journal.{Journaled}
 use Rattle.span_bank.proofs.StepLemmas.{sound-slid_ring}

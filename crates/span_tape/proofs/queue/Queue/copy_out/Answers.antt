@@ -1,3 +1,4 @@
+-- Bytes are copied from the first pages as far as they reach, and then from the pages after them.
 use Rattle.std.proofs.Common.{◌≡◌, ◌+◌, ◌-◌, ◌*◌, ◌≤◌, ◌++◌, min, length, take, drop, ap, sym, ◌∙◌, subst, arith}
 use Rattle.std.proofs.Math.Seq.{drop-append-add}
 use Rattle.span_bank.specs.Chain.{text_of, down_of}

@@ -1,3 +1,4 @@
+-- The text has a page's bytes for each page, of those kept first to last and of those kept last to first.
 use Rattle.std.proofs.Common.{◌≡◌, ◌*◌, length, subst, arith, length-append}
 use Rattle.span_bank.specs.Chain.{text_of, down_of}
 use Rattle.span_tape.specs.Queue.{Paged}

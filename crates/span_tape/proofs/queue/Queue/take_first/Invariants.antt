@@ -1,3 +1,4 @@
+-- As many pages are given as turns were made; the queue has the others, with the text after the given ones.
 use Rattle.std.specs.Prelude.{◌≡◌, ◌+◌, ◌*◌, drop}
 use Rattle.span_tape.proofs.queue.Queue.take_first.Given as goal
 

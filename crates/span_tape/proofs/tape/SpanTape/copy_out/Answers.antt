@@ -1,3 +1,4 @@
+-- What is copied are the tape's bytes from the place on, and the buffer after them stays as it was.
 use Rattle.std.proofs.Common.{◌≡◌, ◌≤◌, ◌+◌, ◌-◌, ◌++◌, take, drop, length, ap, ◌∙◌, arith}
 use Rattle.std.proofs.lemmas.List.{length-take}
 use Rattle.span_tape.proofs.PageLemmas.{copied_of}

@@ -1,3 +1,4 @@
+-- Where the place is before the end, the tape has just its bytes from there on.
 use Rattle.std.proofs.Common.{◌≤◌, ◌+◌, arith, length}
 use Rattle.span_tape.proofs.PageLemmas.{dropped_of, before_end}
 use Rattle.span_tape.proofs.tape.SpanTape.drop_to.Goals as goal

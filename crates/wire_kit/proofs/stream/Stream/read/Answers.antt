@@ -1,3 +1,4 @@
+-- A read that gives bytes gives the next ones of the input, right after those that were read before.
 use Rattle.std.proofs.Common.{arith, ◌≡◌, ◌++◌, ap, sym, ◌∙◌, take, drop, List, ℕ}
 use Rattle.std.proofs.lemmas.List.{take_rest}
 use Rattle.wire_kit.proofs.Pieces.{one_more_piece}

@@ -1,3 +1,4 @@
+-- The ledgers of the row's two pools, for requests and responses, have the names and the parts of their blanks.
 use Rattle.layer_rows.proofs.resources.lines.play.put_play.Given as goal
 
 abbrev pub ghosts-put_on_pools-Q-Ledger : goal.ghosts-put_on_pools-Q-Ledger

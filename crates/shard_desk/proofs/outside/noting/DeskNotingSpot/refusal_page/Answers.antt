@@ -1,3 +1,4 @@
+-- The refusal has the page that the exchange's configuration has for its status.
 use Rattle.std.proofs.Common.{sym}
 use Rattle.std.proofs.lemmas.Option.{IfSome_then}
 use Rattle.shard_desk.proofs.outside.noting.DeskNotingSpot.refusal_page.Goals as goal

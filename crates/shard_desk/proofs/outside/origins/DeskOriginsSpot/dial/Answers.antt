@@ -1,3 +1,4 @@
+-- A connection is opened only where no idle one was taken, and the idle ones stay as they were left then.
 use Rattle.std.proofs.Common.{sym, ◌∙◌}
 use Rattle.shard_desk.proofs.outside.origins.DeskOriginsSpot.dial.Goals as goal
 

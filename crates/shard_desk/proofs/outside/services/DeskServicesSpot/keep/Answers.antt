@@ -1,3 +1,4 @@
+-- What a service said is kept in the book of its own point, and the other point's book stays.
 use Rattle.std.proofs.lemmas.Result.{IfOk-weaker}
 use Rattle.shard_desk.proofs.Keeping.{keeps_request, keeps_response}
 use Rattle.shard_desk.proofs.outside.services.DeskServicesSpot.keep.Goals as goal

@@ -1,3 +1,4 @@
+-- A connection that is lent leads to the service of its lease's point, which is the point asked for.
 use Rattle.service_lines.specs.Lending.{point_of}
 use Rattle.shard_desk.specs.Places.{place_at}
 use Rattle.shard_desk.proofs.Serving.{serves_lease}

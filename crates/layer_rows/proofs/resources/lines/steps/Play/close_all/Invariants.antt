@@ -1,3 +1,4 @@
+-- At each turn one lent connection fewer is left.
 use Rattle.std.specs.Prelude.{length}
 use Rattle.layer_rows.proofs.resources.lines.steps.Play.close_all.Given as goal
 
