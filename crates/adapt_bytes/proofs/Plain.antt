@@ -93,7 +93,7 @@ split_some (x ∷ xs) = by_test (eqb x 44) refl (split_some xs)
     by_test true e h = ([], slice_split (λ b. eqb b 44) xs, rw e refl)
     by_test false e h = (x ∷ h.0, h.1, rw e (ap (onto_first x) h.2))
 
--- a space behind a comma is dropped
+-- a space after a comma is dropped
 pub comma_parts_space : (xs : List ℕ) → comma_parts (32 ∷ xs) ≡ comma_parts xs
 unfolding comma_parts
 comma_parts_space xs =

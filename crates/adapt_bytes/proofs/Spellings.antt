@@ -16,13 +16,13 @@ use Rattle.adapt_bytes.proofs.Written.{numeral_zero, numeral_more, zero_value}
 pub spells_one : (base m n : ℕ) (text : List ℕ) → Writes base text m → Writes base text n → m ≡ n
 spells_one base m n text v w = sym v.value ∙ w.value
 
--- one digit behind a number
+-- one digit after a number
 one_behind : (base n d : ℕ) → 2 ≤ base → d < base → 0 < n * base + d → digits_of base (n * base + d) ≡ digits_of base n ++ (d ∷ [])
 one_behind base n d two below pos =
     digits_of_step base (n * base + d) two pos ∙ ap (λ q. digits_of base q ++ ((n * base + d) % base ∷ [])) (div-mul-add n base d below)
     ∙ ap (λ m. digits_of base n ++ (m ∷ [])) (mod-mul-add n base d below)
 
--- digits behind a number that isn't 0
+-- digits after a number that isn't 0
 digits_behind : (base n : ℕ) (ds : List ℕ) → 2 ≤ base → 0 < n → AllBelowBase base ds
     → digits_of base (number_from_digits_after base n ds) ≡ digits_of base n ++ ds
 digits_behind base n [] two pos below = sym (append-nil (digits_of base n))

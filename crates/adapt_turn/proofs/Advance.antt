@@ -100,7 +100,7 @@ assemble h k events out original adapted sides request t r is fo fa w rf wd =
           (sym r.seen) (wd n);
     })
 
--- a relation of the source, or of what the service read, behind events that bring its body nothing
+-- a relation of the source, or of what the service read, after events that bring its body nothing
 
 -- what the source read stands after events that aren't the source's, and they bring none of the original
 read_kept : (read : Seen → List ℕ → Given → Type 0) (x : Seen) (events : List Event) (out body : List ℕ) (text : Given)

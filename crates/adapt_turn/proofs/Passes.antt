@@ -537,7 +537,7 @@ hear_runs v w old new history turn events n out t r he e l b =
     (replies_run old.hold turn.events.items out t r (subst (λ (y : History). MayAllFollow (shows y) turn.events.items) he b.legal) b.only
     b.count l)
 
--- a pass behind a fault doesn't wait
+-- a pass after a fault doesn't wait
 not_waiting : (passed : PassAnswer) {A B : Type 0} {cause : Cause} (b : Bool) → passed.broken ≡ b
     → (passed.broken ≡ true → A × IsBroken passed) → (passed.broken ≡ false → B × Closed cause passed) → passed.waiting ≡ true → ⊥
 not_waiting passed true e broke shut w = false≢true (sym (ap (λ (y : PassAnswer). y.waiting) (broke e).1) ∙ w)

@@ -115,7 +115,7 @@ pub reported_fails : {F : Type 0} {v : View F} {h k : Holding} {r : Report} {pas
     → (cause : Cause) → passed.failed ≡ Some cause → k ≡ moved h (Fail cause) []
 reported_fails {F} {v} {h} {k} {r} {passed} p cause e = p.is ∙ ap (λ (f : Option Cause). moved_all h (stepped f r.events) r.out) e
 
--- behind a pass that left no new fault
+-- a cause that is blamed after a pass that left no new fault is blamed from before the pass
 pub blamed_then : {V W : Type 0} (v : Service V) (w : Wire W) (old mid new : Lent V W) (cause : Cause) (given taken : List ℕ)
     → (v.fault old.side ≡ None → v.fault mid.side ≡ None)
     → ((p : Past) → w.past old.wire p → (q : Past) × w.past mid.wire q × IsLater p given taken q)
@@ -216,7 +216,7 @@ giving_weaker this breaks f (inr l) = inr (l.0, l.1.1)
 pub cause_none : {F : Type 0} (old new : Option F) (reason : F → Type 0) → new ≡ old → HasFaultReason old new reason
 cause_none {F} old new reason e = λ none f n. let odd : Some f ≡ None = sym n ∙ (e ∙ none) in cc
 
--- the fault behind it, and what has its reason, by other names
+-- the later fault, and what has its reason, by other names
 pub cause_kept : {F G : Type 0} (reason : G → F → Type 0) (f0 f1 f2 : Option F) (g g' : G) → f2 ≡ f1 → g' ≡ g
     → HasFaultReason f0 f1 (reason g) → HasFaultReason f0 f2 (reason g')
 cause_kept {F} {G} reason f0 f1 f2 g g' e same w = λ none f n. subst (λ (z : G). reason z f) (sym same) (w none f (sym e ∙ n))
@@ -256,9 +256,9 @@ both_waited h m before mid after_ w0 w1 r e k s t = λ p b. let u = s p b in let
     reads a b c l (inl x) = inl (subst r e x)
     reads a b c l (inr n) = inr (omega (arith, l, n))
 
--- the writer's pass, behind a beginning that changed neither what is held nor a wire
+-- the writer's pass, after a beginning that changed neither what is held nor a wire
 
--- the service's line behind a refusal
+-- the service's line after a refusal
 
 -- a line that waited in both ways waited so by another name of it
 pub both_kept : {L : Type 0} (w r : L → Type 0) (past : L → Past → Type 0) (before : Past → Type 0) (l l' : Option L) → l' ≡ l

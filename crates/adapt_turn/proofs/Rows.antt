@@ -197,7 +197,7 @@ acts_then test h m k before mid after_ given taken act goes later = λ p b.
     let vo = v.3 in
     (u.0, u.1, omega (arith, gr, vr), omega (arith, go, vo), λ z. advances_then test h m k (v.4 (omega (arith, gr, go, vr, vo, z))) later)
 
--- The writer's pass, behind a beginning that changed neither what is held nor a wire.
+-- The writer's pass, after a beginning that changed neither what is held nor a wire.
 
 -- Which side a turn is for.
 

@@ -1,4 +1,4 @@
--- What waits behind the last byte of a body, as it goes out.
+-- What waits after the last byte of a body, as it goes out.
 use Rattle.std.proofs.Common.{◌≡◌, ℕ, Bool, List, [], ◌++◌, refl, ap, sym, subst, ◌∙◌, append_assoc, append-nil}
 use Rattle.icap_chunks.specs.Grammar.{chunk_head, last_chunk, crlf}
 use Rattle.chunk_writer.specs.Behind.{IsBehind, WaitsBehind}

@@ -47,7 +47,7 @@ token_known name =
     (from_test (All (λ b. IsTrue (is_token_byte b)) name) (list_all is_token_byte name) (AllPass-from_list_all is_token_byte name)
     (list_all-from_AllPass is_token_byte name))
 
--- what is before and behind the first c
+-- what is before and after the first c
 abbrev CutAt : ℕ → List ℕ → Type 0
 CutAt c text = (front : List ℕ) × (behind : List ℕ) × Lacks c front × (text ≡ front ++ c ∷ behind)
 

@@ -197,7 +197,7 @@ no_body parts none body h =
     let some = list_there is_body parts (Body body) h.0 h.1 h.2 refl in
     let wrong : true ≡ false = sym some ∙ none in absurd (cc)
 
--- an allowed front that is a layout's parts is whole
+-- a prefix of an allowed list that is a layout's parts is whole
 pub whole_layout : (m : Method) (d : Direction) (l : Layout) → IsFront (allowed m d) (names (parts_of l))
     → Contains (allowed m d) (names (parts_of l))
 whole_layout m d l h =

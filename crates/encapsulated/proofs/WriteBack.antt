@@ -67,7 +67,7 @@ reads_item part offset fits = record {
   named = refl;
 }
 
--- an item in front of other parts
+-- an item before other parts
 item_first : (part : Part) (offset : ℕ) (rest : List ℕ) (parts : List (Part × ℕ)) → offset < 2 ^ 64 → AreParts rest parts
     → AreParts ((item_text (part, offset) ++ codes ", ") ++ rest) ((part, offset) ∷ parts)
 item_first part offset rest parts fits are =

@@ -1,4 +1,4 @@
--- From a head to the body behind it.
+-- From a head to the body after it.
 use Rattle.std.proofs.Common.{◌≡◌, ℕ, ◌+◌, ◌<◌, ◌≤◌, Bool, true, false, List, [], ◌∷◌, ◌++◌, length, take, drop, refl, ap, sym, subst, ◌∙◌}
 use Rattle.std.proofs.Common.{append_assoc, append-nil, arith, length-append}
 use Rattle.std.proofs.lemmas.List.{take-append-drop, take-append-le, take_all, drop_all, length-take}
@@ -20,7 +20,7 @@ use Rattle.http_relay.specs.declared.side.head.SourceHead.TheVariants as heads
 use Rattle.http_relay.specs.declared.side.head.Asks.{Asks}
 use Rattle.http_relay.specs.declared.side.head.Asks.TheVariants as asks
 
--- a text that stands at the front of the raw bytes is all of itself
+-- the first raw bytes, as many as a prefix of them has, are that prefix
 pub at_front : (raw text rest : List ℕ) (n : ℕ) → take 16384 raw ≡ text ++ rest → n ≡ length text → take n raw ≡ text
 at_front raw text rest n e l =
     let all : length (take 16384 raw) ≡ length text + length rest = ap (λ (t : List ℕ). length t) e ∙ length-append text rest in
@@ -66,7 +66,7 @@ response_alone raw r n to_head h =
       no_fault = h.no_fault;
     }
 
--- the head was taken from the front of the raw bytes
+-- the head was taken from the beginning of the raw bytes
 begins : (old new : SourceSide) (n : ℕ) → new.asks ≡ old.asks → new.raw.items ≡ drop n old.raw.items
     → IsHeadText old.asks new.head (take n old.raw.items)
     → new.body.framing ≡ framing_of new.head → HasRead new.body.framing [] [] new.body.reader → new.body.ended ≡ false

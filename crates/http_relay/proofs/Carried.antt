@@ -263,7 +263,7 @@ done_by : (x : Seen) (n : ℕ) (b : Bool) → MayAllFollow x (if b then [] else 
 done_by x n true l o a = (o, a, tt)
 done_by x n false l o a = (l.0, l.1, (o, a, tt))
 
--- Done may stand behind the turn's bytes: the end was fixed in this turn, or Done may follow at once
+-- Done may come after the turn's bytes: the end was fixed in this turn, or Done may follow at once
 pub record MayEnd (x : Seen) (next : Next) (k : ℕ) (e : Bool) : Type 0 where
   pub now : (e ≡ true) ⊎ ((x.closed ≡ false) × Allows x Done × (k ≡ 0))
 

@@ -18,7 +18,7 @@ use Rattle.http_relay.specs.Giving.{Front, GivesMessage, Waits, body_end}
 use Rattle.http_relay.specs.Giving.Front.{plain, run, over}
 use Rattle.http_relay.proofs.Chosen.{Moved}
 
--- The front of the body's text.
+-- What is fixed of the body's text.
 front_begun : (f : Framing) (body text : List ℕ) (n : ℕ) → is_chunks f ≡ true → 0 < n → Front f false body text 0
     → Front f false body (text ++ chunk_head n) n
 front_begun f body text n c some (plain p z t) = cc

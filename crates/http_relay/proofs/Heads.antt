@@ -60,7 +60,7 @@ judged_looks (Err Device) s h = absurd h
 judged_looks (Err Chunk) s h = absurd h
 judged_looks (Err Length) s h = absurd h
 
--- the bytes that were judged stay in front
+-- the bytes that were judged stay the first ones
 looks_on : (old new : SourceSide) (delta : List ℕ) → new.asks ≡ old.asks → SameLook old new → new.raw.items ≡ old.raw.items ++ delta
     → IsLooking old → IsLooking new
 looks_on old new delta a m r l =

@@ -55,7 +55,7 @@ or_true : (b : Bool) → (b || true) ≡ true
 or_true true = refl
 or_true false = refl
 
--- a line that ends behind so many bytes is seen there
+-- a line that ends after so many bytes is seen there
 seen_behind : (front rest : List ℕ) (j : ℕ) → j ≤ length front → has_line (drop j (front ++ 10 ∷ rest)) ≡ true
 seen_behind front rest j l =
     ap has_line (drop-append-le j front (10 ∷ rest) l) ∙ (list_any-append (λ byte. byte == 10) (drop j front) (10 ∷ rest)
@@ -72,7 +72,7 @@ judged_behind raw text rest j e ends unseen = elim (cases_lt j (length text)) [
   | inr h ↦ h
 ]
 
--- and so it stands at the front of what was judged
+-- and so it stands at the beginning of what was judged
 at_judged : (raw text rest : List ℕ) (j : ℕ) → take 16384 raw ≡ text ++ rest → length text ≤ j
     → take 16384 (take j raw) ≡ text ++ drop (length text) (take 16384 (take j raw))
 at_judged raw text rest j e l =

@@ -86,7 +86,7 @@ filled_more old new delta ended a h b r = record {
       (ended_more x body s.framed closed ended old.body s.body_read)));
 }
 
--- one behind the other, the first without an event
+-- one after the other, the first without an event
 pub side_then : (a b c : SourceSide) (events : List Event) (d e part : List ℕ) (ended : Bool) → SideReads a b [] d [] false
     → SideReads b c events e part ended → SideReads a c events (d ++ e) part ended
 side_then a b c events d e part ended f g = record {

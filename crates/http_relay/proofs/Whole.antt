@@ -1,4 +1,4 @@
--- What was taken is a front of one message.
+-- What was taken is a prefix of one message.
 use Rattle.std.proofs.Common.{◌≡◌, ℕ, ◌+◌, ◌-◌, ◌≤◌, true, false, List, [], ◌∷◌, ◌++◌, length, take, drop, refl, ap, sym, subst, ◌∙◌}
 use Rattle.std.proofs.Common.{append_assoc, append-nil, arith, length-append, length-drop, IfSome, Option, suc, zero}
 use Rattle.std.proofs.lemmas.List.{length-take-le, take-append-drop}
@@ -32,7 +32,7 @@ nil_of : (xs : List ℕ) → length xs ≤ 0 → xs ≡ []
 nil_of [] l = refl
 nil_of (x ∷ xs) l = absurd (omega arith)
 
--- a text of a body that begins with what came, with a front
+-- a body that begins with what came, of whose text this is a prefix
 record Continues (f : Framing) (body text : List ℕ) : Type 0 where
   more : List ℕ
   behind : List ℕ
@@ -179,7 +179,7 @@ whole_at at.Message x f head body taken w e l o g = cc
 whole_at at.Whole x f head body taken w e l o g = whole_of x f head body taken w l o g
 whole_at (at.Refusal status) x f head body taken w e l o g = cc
 
--- the whole text is fixed: what was taken is a front of it
+-- the whole text is fixed: what was taken is a prefix of it
 whole_front_of : (x : Seen) (f : Framing) (head body taken : List ℕ) (w : Writer) → length body ≡ chosen_received x
     → GivesMessage x f true head body taken w → IsFrontOfMessage f head body taken
 whole_front_of x f head body taken w l g =
@@ -208,7 +208,7 @@ whole_front_at at.Message x f head body taken w e l g = cc
 whole_front_at at.Whole x f head body taken w e l g = whole_front_of x f head body taken w l g
 whole_front_at (at.Refusal status) x f head body taken w e l g = cc
 
--- Whatever comes behind what went out, some body that begins with that goes on.
+-- Whatever comes after what went out, some body that begins with that goes on.
 fills_run : (f : Framing) (body text : List ℕ) (left : ℕ) → is_chunks f ≡ true → Run body text left → Continues f body text
 fills_run by.None body text left c r = cc
 fills_run (by.Length k) body text left c r = cc

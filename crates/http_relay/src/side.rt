@@ -46,7 +46,7 @@ pub struct SourceSide {
     fault: Option<RelayFault>,
 }
 
-/// These bytes, one text behind the other.
+/// These bytes, one text after the other.
 fn joined(alloc: Global, first: &[u8], second: &[u8]) -> Result<RawBytes, AllocError>
     ensures { IfOk result (λ raw. raw.items ≡ first.now ++ second.now) }
 {
@@ -132,7 +132,7 @@ impl SourceSide {
     }
 
     /// The same request again, of which no byte was read yet: the head's own bytes are the first ones that are kept, and what is left over
-    /// comes behind them. `None` where no request was read, it has a body, or no memory was found.
+    /// comes after them. `None` where no request was read, it has a body, or no memory was found.
     pub fn again(self) -> Option<SourceSide>
         ensures begins { IfSome result (λ side. AtHead side.raw.items side) }
         ensures same { IfSome result (λ side. ComesAgain self.head self.raw.items side.raw.items) }

@@ -16,7 +16,7 @@ pub values-more : (name : List ℕ) (fields : List (List ℕ × List ℕ)) (i : 
 values-more name fields i l e =
     ap (map (λ f. f.1)) (filter_more (λ f. str_eq_ignore_ascii_case f.0 name) fields i ([], []) l) ∙ rw e (map-append (λ f. f.1) _ _)
 
--- the values of a front come first
+-- the values of the first fields come first
 pub values-front : (name : List ℕ) (fields : List (List ℕ × List ℕ)) (i : ℕ)
     → values_of name fields ≡ values_of name (take i fields) ++ values_of name (drop i fields)
 values-front name fields i =
@@ -44,7 +44,7 @@ has_value name fields i l e =
     ) in
     sym (lt-ltb 0 (length (values_of name fields)) some)
 
--- a value behind another
+-- a value after another makes more than one
 pub second_value : (name : List ℕ) (fields : List (List ℕ × List ℕ)) (i : ℕ) (v : Values) → i < length fields
     → str_eq_ignore_ascii_case (name_at fields i) name ≡ true
     → IsValues (values_of name (take i fields)) v → (v ≡ NoValue → ⊥) → 1 < length (values_of name fields)

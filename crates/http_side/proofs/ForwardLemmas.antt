@@ -50,7 +50,7 @@ named_here fields name i l e n =
     (any-append (names name) (values_of (codes "connection") (take i fields)) (value_at fields i ∷ [])
     ∙ ap (λ b. list_any (names name) (values_of (codes "connection") (take i fields)) || (b || false)) n ∙ or_true _)
 
--- one field behind those that go on
+-- one field after those that go on
 pub once-more : (seen : Bool) (xs : List (List ℕ × List ℕ)) (f : List ℕ × List ℕ)
     → once seen (xs ++ f ∷ []) ≡ once seen xs ++ (if is_length f && (seen || list_any is_length xs) then [] else f ∷ [])
 once-more seen [] f = rw (or_false seen) refl
@@ -128,7 +128,7 @@ no_length n old new e g = (rw e refl, rw (e, g) (or_false old))
 pub lines-append : (xs ys : List (List ℕ × List ℕ)) → field_lines (xs ++ ys) ≡ field_lines xs ++ field_lines ys
 lines-append xs ys = flat_map-append field_line xs ys
 
--- the parts of a head, one behind the other
+-- the parts of a head, one after the other
 pub head_parts : (first : List ℕ) (a b c : List (List ℕ × List ℕ)) (last : List ℕ)
     → (((([] ++ (first ++ last)) ++ field_lines a) ++ field_lines b) ++ field_lines c) ++ last
     ≡ ((first ++ last) ++ field_lines ((a ++ b) ++ c)) ++ last

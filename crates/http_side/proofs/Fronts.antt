@@ -1,4 +1,4 @@
--- What lies in a front of a text is the same in the front.
+-- What lies in a prefix of a text is the same in the prefix.
 use Rattle.std.proofs.Common.{◌≡◌, ℕ, ◌+◌, ◌-◌, ◌≤◌, List, [], ◌∷◌, map, take, drop, zero, suc, refl, ap, ap₂, arith}
 use Rattle.std.specs.Prelude.{All, slice_range}
 use Rattle.std.proofs.lemmas.List.Elements.{All-tail}
@@ -39,6 +39,6 @@ front_headers n buf [] all = refl
 front_headers n buf (h ∷ lines) all = ap₂ ◌∷◌ (front_header n buf h (all 0 h (omega arith)))
     (front_headers n buf lines (All-tail (IsHeaderWithin n) h lines all))
 
--- spans in a front lie in the whole
+-- spans in a prefix lie in the whole
 pub wider : (n m : ℕ) (lines : List HeaderSpan) → n ≤ m → All (IsHeaderWithin n) lines → All (IsHeaderWithin m) lines
 wider n m lines l all = λ k d lt. let h = all k d lt in ((h.0.0, omega (arith, h.0.1)), (h.1.0, omega (arith, h.1.1)))

@@ -73,7 +73,7 @@ fold_refused : (fault : HttpFault) (values : List (List ℕ)) → fold agreed (E
 fold_refused fault [] = refl
 fold_refused fault (value ∷ values) = fold_refused fault values
 
--- what a front of the fields refuses stays refused
+-- a fault of a prefix of the fields is one of all of them
 pub length_refused : (fields : List (List ℕ × List ℕ)) (i : ℕ) (fault : HttpFault) → content_length (take i fields) ≡ Err fault
     → content_length fields ≡ Err fault
 length_refused fields i fault e =

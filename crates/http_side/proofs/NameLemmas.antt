@@ -76,7 +76,7 @@ equal_below Greater Less l n e = e
 equal_below Greater Equal l n e = absurd (omega arith)
 equal_below Greater Greater l n e = e
 
--- what passes of a parted list stands in front
+-- what passes of a parted list comes first
 pub front_parts : {X : Type 0} (p : X → Bool) (xs : List X) → IsPartitionedBy p xs
     → IsPartitionPoint (λ x. p x ≡ true) (λ x. p x ≡ false) xs (prefix_len p xs)
 front_parts p xs parts = (
@@ -183,7 +183,7 @@ alike_marked fields named name p alike l same marked = record {
   ];
 }
 
--- where the first of these names is marked and the fields of the name are in front, all are marked that it is
+-- where the first of these names is marked and a name's fields are those that come first, all of its fields are marked
 pub front_marked : (fields : List (List ℕ × List ℕ)) (named : List Bool) (names : List PlacedName) (name : List ℕ) (d : PlacedName)
     → AreAlike fields named
     → All (λ n. n.place < length fields) names → ((i : ℕ) → i < length fields
@@ -210,7 +210,7 @@ front_marked fields named (n ∷ names) name d alike within front some marked =
       }
     ]
 
--- which names are in front, by how many there are
+-- which names come first, by how many there are
 pub run_is : (names : List PlacedName) (name : List ℕ) (k : ℕ) (d : PlacedName) → k ≤ length names
     → ((j : ℕ) (e : PlacedName) → j < k → str_eq_ignore_ascii_case name (slice_index_or names j e).name.now ≡ true)
     → (k < length names → str_eq_ignore_ascii_case name (slice_index_or names k d).name.now ≡ false) → run_of name names ≡ take k names
@@ -234,7 +234,7 @@ have_sorted fields xs ys p h = record {
   all = λ i l. let one = h.all i l in (one.0, Contains-permutation xs ys one.0 p one.1, one.2);
 }
 
--- what a slice's owner holds behind a write of as many
+-- what a slice's owner holds after a write of as many
 pub refilled : (xs ys : List PlacedName) → length ys ≡ length xs → refill (length xs) xs ys ≡ ys
 refilled xs ys e = rw (drop_of_length-le xs {i = length ys} (omega arith), append-nil ys) (take_all (length xs) ys (omega arith))
 

@@ -25,7 +25,7 @@ judged-append text more = elim (cases_lt (length text) 16384) [
   | inr long ↦ ([], take-append-le 16384 text more (omega (arith, long)) ∙ sym (append-nil (judged text)))
 ]
 
--- the rest behind a head is what lies behind its bytes
+-- the rest after a head is what comes after its bytes
 behind : (text p rest : List ℕ) (n : ℕ) → text ≡ p ++ rest → n ≡ length p → drop n text ≡ rest
 behind text p rest n e l = ap (drop n) e ∙ ap (λ k. drop k (p ++ rest)) l ∙ drop-append_seam p rest
 

@@ -21,7 +21,7 @@ pub is_exact : (a b c d size left : ℕ) → size ≡ min (a + b + c + d + 2) (2
     → left ≡ a + (b + (c + (d + 2)))
 is_exact a b c d size left e f l = omega arith
 
--- behind a part there is room for the others
+-- after a part there is room for the others
 pub behind : (part others left new : ℕ) → left ≡ part + others → new + part ≡ left → new ≡ others
 behind part others left new e f = omega arith
 

@@ -40,7 +40,7 @@ count_stop test b t e = rw e refl
 count_on : (test : ℕ → Bool) (b : ℕ) (t : List ℕ) → test b ≡ false → count_before test (b ∷ t) ≡ suc (count_before test t)
 count_on test b t e = rw e refl
 
--- a front without such a byte, and then one or the end
+-- a prefix without such a byte, and then one or the end
 count_front : (test : ℕ → Bool) (a tail : List ℕ) → ((k : ℕ) → k < length a → test (get_or a k 0) ≡ false) → count_before test tail ≡ 0
     → count_before test (a ++ tail) ≡ length a
 count_front test [] tail none stops = stops

@@ -37,7 +37,7 @@ skip_front (b ∷ xs) = elim (cases_Bool (is_ows b)) [
   | inr is ↦ ([], sym (skip_off b xs is))
 ]
 
--- what stands at the front of a text with no blank before it has none before it
+-- where a text begins with no blank, a prefix of it doesn't either
 front_trimmed : (xs ys : List ℕ) → skip_ows (xs ++ ys) ≡ xs ++ ys → skip_ows xs ≡ xs
 front_trimmed [] ys e = refl
 front_trimmed (b ∷ xs) ys e = elim (cases_Bool (is_ows b)) [
@@ -66,7 +66,7 @@ trimmed_back raw =
 not_blank : (b : ℕ) → is_uri_byte b ≡ true → is_ows b ≡ false
 not_blank b h = search rules
 
--- a text without blanks has none at its front, nor at its end
+-- a text of only target bytes has no blank at its beginning
 pub visible_front : (t : List ℕ) → AllPass is_uri_byte t → skip_ows t ≡ t
 visible_front [] h = refl
 visible_front (b ∷ t) h = skip_off b t (not_blank b (h 0 b (omega arith)))

@@ -1,10 +1,10 @@
--- Texts that are put into their room one behind the other.
+-- Texts that are put into their room one after the other.
 use Rattle.std.proofs.Common.{ℕ, List, ◌++◌, sym, ap, ◌∙◌, subst, arith, append_assoc, length-append}
 use Rattle.adapt_bytes.specs.Room.{Written, Puts}
 use Rattle.http_side.specs.Forward.{field_lines}
 use Rattle.http_side.proofs.ForwardLemmas.{lines-append}
 
--- one text behind another
+-- one text after another
 pub puts_both : {a b c : Written} {x y : List ℕ} → Puts a b x → Puts b c y → Puts a c (x ++ y)
 puts_both {a} {b} {c} {x} {y} p q = record {
   text = q.text ∙ ap (λ t. t ++ y) p.text ∙ append_assoc a.text x y;

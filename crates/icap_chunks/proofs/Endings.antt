@@ -50,7 +50,7 @@ no_end_last sum count ieof x e = cc
 take-append-length : (xs ys : List ℕ) → take (length xs) (xs ++ ys) ≡ xs
 take-append-length xs ys = rw (take-append-le (length xs) xs ys (omega arith)) (take-length xs)
 
--- a front of a list, shorter than all but the last
+-- a prefix that is shorter than its list is a prefix of all but the last
 front_of : (xs : List ℕ) (b k : ℕ) → k < length (xs ++ b ∷ []) → take k (xs ++ b ∷ []) ++ drop k xs ≡ xs
 front_of xs b k l = rw (take-append-le k xs (b ∷ []) (omega (arith, length-append xs (b ∷ [])))) (take-append-drop k xs)
 

@@ -31,7 +31,7 @@ front_walk : (text body part : List ℕ) (sum : ℕ) (f : Front text body part s
     → Walk (at (length body) (Digits 0 0)) part [] r → Walk start text body r
 front_walk text body part sum f r w = finding (of (on (chunks_walk f.chunks) w) (sym f.text_is)) (append-nil body)
 
--- the same for a place whose sum is that of the chunks in front
+-- the same for a place whose sum is that of the chunks before it
 place_walk : (text body part : List ℕ) (sum : ℕ) (f : Front text body part sum) (p : Position)
     → Walk (at (length body) (Digits 0 0)) part [] (at (length body) p) → Walk start text body (at sum p)
 place_walk text body part sum f p w = to (front_walk text body part sum f (at (length body) p) w) (ap (λ n. at n p) (sym f.sum_is))
@@ -212,7 +212,7 @@ unfolding faulted_at
 data_place true n fault e = none_some e
 data_place false n fault e = none_some e
 
--- a byte of the body, and one behind the end, breaks nothing
+-- a byte of the body, and one after the end, breaks nothing
 no_body_breaks : (sum : ℕ) (p : Position) (b : ℕ) (fault : ChunkFault) → fault_of (step (at sum p) b) ≡ Some fault → faulted_at p ≡ None
     → (is_data p ≡ false) × (end_at p ≡ None)
 unfolding step Rattle.icap_chunks.specs.Machine.in_data is_data end_at faulted_at

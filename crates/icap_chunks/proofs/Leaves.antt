@@ -1,4 +1,4 @@
--- Where in a body a reader stands behind the bytes that it has read.
+-- Where in a body a reader stands after the bytes that it has read.
 use Rattle.std.proofs.Common.{◌≡◌, ℕ, ◌+◌, ◌-◌, ◌<◌, Bool, true, false, true≢false, ◌||◌, ◌&&◌, List, [], ◌∷◌, ◌++◌, length, refl, sym, ap}
 use Rattle.std.proofs.Common.{subst, ◌∙◌, arith, append_assoc, nat_lt, nat_le, if◌then◌else◌, ◌==◌, length-append, lit<, lit≤}
 use Rattle.std.proofs.lemmas.List.{append-nil}

@@ -1,4 +1,4 @@
--- Where a reader stands behind one byte more of a size line.
+-- Where a reader stands after one byte more of a size line.
 use Rattle.std.proofs.Common.{◌≡◌, ℕ, ◌+◌, ◌-◌, ◌*◌, ◌<◌, Bool, true, false, true≢false, ◌||◌, List, [], ◌∷◌, ◌++◌, Some, None, refl, sym}
 use Rattle.std.proofs.Common.{ap, ◌∙◌, arith, append_assoc, nat_lt, nat_le, if◌then◌else◌, ◌==◌, length-append, lit<, lit≤}
 use Rattle.std.proofs.lemmas.List.{append-nil}

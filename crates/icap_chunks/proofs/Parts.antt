@@ -70,7 +70,7 @@ digits_part text body sum count size s =
           (λ b. digits_table (length body) count size b s.digits count_is (sym s.size_is));
     }
 
--- blanks behind digits
+-- blanks after digits
 pad_same : (body : List ℕ) (sum count size : ℕ) (digits pad : List ℕ) → 0 < length digits → 0 < length pad
     → count ≡ length (digits ++ (pad ++ []))
     → SameFaults body sum (Pad count size) (in_line digits pad None)

@@ -24,7 +24,7 @@ use Rattle.icap_chunks.proofs.Written.{one_reading}
 
 -- ---- what a reader says
 
--- the front of a body leaves a reader in the midst of it
+-- a prefix of a body leaves a reader in the midst of it
 record Open (text body : List ℕ) : Type 0 where
   no_end : end_of (run start text) ≡ None
   no_fault : fault_of (run start text) ≡ None
@@ -99,7 +99,7 @@ one_outcome text a b More (Faulted g) x y = absurd (some_none (sym (breaks_fault
 
 -- ---- what a reader has read
 
--- a reader that has read a text, and is at no end and no fault, has read the front of a body
+-- a reader that has read a text, and is at no end and no fault, has read a prefix of a body
 pub reads_more : (text body : List ℕ) (r : ChunkReader) → HasRead text body r → end_of r ≡ None → fault_of r ≡ None
     → IsReading text body More
 reads_more text body r h no_end no_fault =

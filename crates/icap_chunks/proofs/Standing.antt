@@ -1,4 +1,4 @@
--- Which part of the grammar a text is the front of, where the reader stands at a place.
+-- Which part of the grammar a text is a prefix of, where the reader stands at a place.
 use Rattle.std.specs.Prelude.{◌≡◌, ℕ, suc, ◌+◌, ◌<◌, ◌≤◌, Bool, false, ◌||◌, List, [], ◌∷◌, ◌++◌, length, if◌then◌else◌, ◌==◌}
 use Rattle.std.specs.Str.Parse.{AllDigits, digits_value}
 use Rattle.adapt_bytes.specs.Numeral.{Writes}
@@ -19,7 +19,7 @@ abbrev pub extension_behind : Item × Bool → List ℕ → Item × Bool
 extension_behind s [] = s
 extension_behind s (b ∷ text) = extension_behind (extension_with s b) text
 
--- whole chunks, and a part of what comes behind them
+-- whole chunks, and a part of what comes after them
 pub record Front (text body part : List ℕ) (sum : ℕ) : Type 0 where
   pub front : List ℕ
   pub chunks : Chunks front body
@@ -65,7 +65,7 @@ pub record InLineEnd (text body : List ℕ) (sum size : ℕ) (ieof : Bool) : Typ
   pub is : IsSizeLine l size
   pub ieof_is : has_ieof l.extension ≡ ieof
 
--- in the data of a chunk, or behind it, where the tail of its bytes follows
+-- in the data of a chunk, or after it, where the tail of its bytes follows
 pub record InChunk (text body : List ℕ) (sum left : ℕ) (tail : List ℕ) : Type 0 where
   pub done : List ℕ
   pub bytes : List ℕ

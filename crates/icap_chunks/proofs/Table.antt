@@ -17,7 +17,7 @@ use Rattle.icap_chunks.proofs.Walks.{at}
 
 -- ---- a size line
 
--- Line, at this byte behind so many of a size line
+-- whether a byte after so many of a size line is a fault of the line
 abbrev past_line : ℕ → ℕ → Bool
 past_line count b = b == 10 || (nat_le 256 count && not (b == 13))
 

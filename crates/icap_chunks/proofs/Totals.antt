@@ -11,7 +11,7 @@ use Rattle.icap_chunks.proofs.Endings.{reads_chunked}
 use Rattle.icap_chunks.proofs.Faults.{answers_faults}
 use Rattle.icap_chunks.proofs.Readings.{reads_more}
 
--- no front of fewer bytes ends a body
+-- no prefix of fewer bytes ends a body
 abbrev NoneEnds : List ℕ → ℕ → Type 0
 NoneEnds text n = (k : ℕ) → k < n → end_of (run start (take k text)) ≡ None
 
@@ -38,7 +38,7 @@ last_or P n k l before at = elim (below n k l) [
     below : (n k : ℕ) → k < suc n → (k < n) ⊎ (k ≡ n)
     below n k l = elim (cases_lt k n) [ inl less ↦ inl less | inr more ↦ inr (omega arith) ]
 
--- the first front that ends a body, if one does
+-- the shortest prefix that ends a body, if one does
 first_end : (text : List ℕ) (n : ℕ) → FirstEnds text n ⊎ NoneEnds text n
 first_end text zero = inr (λ k l. absurd (omega arith))
 first_end text (suc n) = elim (first_end text n) [
@@ -49,7 +49,7 @@ first_end text (suc n) = elim (first_end text n) [
   ]
 ]
 
--- a body and what is left over, a fault, or the front of a body
+-- a body and what is left over, a fault, or a prefix of a body
 pub some_reading : (text : List ℕ) → (body : List ℕ) × (outcome : Outcome) × IsReading text body outcome
 some_reading text = elim (first_end text (length text + 1)) [
   | inl found ↦ ended found.0 found.1 (let l = found.2 in omega arith) found.3 found.4

@@ -229,7 +229,7 @@ pub digits_extension : (sum count size : ℕ) → 0 < count → count < 256
 unfolding is_data step in_digits
 digits_extension sum count size pos short = byte _ 59 _ refl (rw (nle 256 count short, ne count 0 (λ e. omega arith)) refl)
 
--- what may stand behind the digits and the blanks, up to the CR
+-- what may stand after the digits and the blanks, up to the CR
 pub behind_blanks : (sum count size : ℕ) (r : ChunkReader) (ends : Walk r (13 ∷ []) [] (at sum (LineCr size false)))
     (goes : count < 256 → Walk r (59 ∷ []) [] (extends sum (count + 1) size (Blank, false))) (e : Option (List ℕ)) → IsExtension e
     → count + length (print_extension e) ≤ 256 → Walk r (print_extension e ++ 13 ∷ []) [] (at sum (LineCr size (has_ieof e)))
@@ -267,7 +267,7 @@ line_walk sum l size is =
     (omega arith)))
     (simp append_assoc)
 
--- ---- behind a size line
+-- ---- after a size line
 
 -- an LF after a size line of one or more bytes leads into the data, with the size in the sum, where that fits
 pub size_end : (sum size : ℕ) (ieof : Bool) → 0 < size → sum + size < 4611686018427387904

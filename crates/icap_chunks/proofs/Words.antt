@@ -12,7 +12,7 @@ use Rattle.icap_chunks.specs.Grammar.{items, is_ieof}
 use Rattle.icap_chunks.proofs.Standing.{extension_with, extension_behind}
 use Rattle.icap_chunks.specs.Machine as machine
 
--- the item behind these bytes
+-- the item after these bytes
 abbrev pub item_behind : Item → List ℕ → Item
 item_behind i [] = i
 item_behind i (b ∷ bytes) = item_behind (machine.item_with i b) bytes
@@ -98,7 +98,7 @@ no_blank letter space tab b h = by_test (b == 32) refl h
     by_test true e k = ap (λ x. to_ascii_lowercase x == letter) (eqb-true b 32 e) ∙ space
     by_test false e k = ap (λ x. to_ascii_lowercase x == letter) (eqb-true b 9 k) ∙ tab
 
--- one letter of the word, and what is behind it
+-- one letter of the word, and what comes after it
 letter_then : (letter : ℕ) (word : List ℕ) (next : Item) (b : ℕ) (bytes : List ℕ) → IsNoBlank letter → tells next bytes ≡ spells word bytes
     → tells (if to_ascii_lowercase b == letter then next else Other) bytes ≡ spells (letter ∷ word) (b ∷ bytes)
 letter_then letter word next b bytes apart behind = by_rest (is_blank b) (trimmed_end bytes) (apart b) behind

@@ -78,7 +78,7 @@ answers_same old new s r e = record {
   tells = tells_still old.stage new.stage s;
 }
 
--- one behind the other, the first without an answer
+-- one after the other, the first without an answer
 answers_then : (a b c : Asker) (d e : List ℕ) (found : Option Response) → AnswersOptions a b d None → AnswersOptions b c e found
     → AnswersOptions a c (d ++ e) found
 answers_then a b c d e found f g = record {
@@ -281,7 +281,7 @@ asks_refused old new P fault out w g = record {
   answers = tt;
 }
 
--- ---- a turn behind bytes that were framed
+-- ---- a turn after bytes that were framed
 
 -- a call that was due after more was framed was due before it, if the answer wasn't at its end
 call_behind : (call : Call) (P Q : Past → Type 0) (old at : Asker) (given taken : List ℕ) → at.waiting ≡ old.waiting

@@ -54,14 +54,14 @@ reads_then a b c raw m n p q f g text body h =
     subst (λ (t : List ℕ). HasRead t (body ++ (p ++ q)) c) texts
     (subst (λ (t : List ℕ). HasRead ((text ++ take m raw) ++ take n (drop m raw)) t c) (append_assoc body p q) both)
 
--- bytes that were put behind others
+-- bytes that were put after others
 taken_behind : (a k m : ℕ) (xs ys : List ℕ) → a ≤ length xs → m ≤ length ys → take (a + m) (put_mid a k xs ys) ≡ take a xs ++ take m ys
 taken_behind a k m xs ys h l =
     let e : length (take a xs) ≡ a = length-take-le a xs h in
     ap (λ (n : ℕ). take (n + m) (put_mid a k xs ys)) (sym e)
     ∙ (take-append-add (take a xs) (ys ++ post_of a k xs) m ∙ ap (λ (t : List ℕ). take a xs ++ t) (take-append-le m ys (post_of a k xs) l))
 
--- one more run, whose bytes go behind those before
+-- one more run, whose bytes go after those before
 pub reads_more_runs : (a b c : ChunkReader) (raw rest : List ℕ) (used n : ℕ) (out ys : List ℕ) (count k m : ℕ)
     → ReadsOn a raw used (take count out) b → rest ≡ drop used raw → ReadsOn b rest n (take m ys) c
     → count ≤ length out → m ≤ length ys → ReadsOn a raw (used + n) (take (count + m) (put_mid count k out ys)) c
@@ -83,7 +83,7 @@ pub reads_none : (a : ChunkReader) (raw : List ℕ) → ReadsOn a raw 0 [] a
 reads_none a raw text body h = subst (λ (t : List ℕ). HasRead t (body ++ []) a) (sym (append-nil text))
     (subst (λ (t : List ℕ). HasRead text t a) (sym (append-nil body)) h)
 
--- a fault behind bytes without any of the body
+-- a fault after bytes without any of the body
 pub breaks_behind : (a b : ChunkReader) (raw rest : List ℕ) (used count : ℕ) (out : List ℕ) (fault : ChunkFault) → count ≡ 0
     → ReadsOn a raw used (take count out) b → rest ≡ drop used raw
     → ((text body : List ℕ) → HasRead text body b → Breaks (text ++ rest) body fault) → (text body : List ℕ) → HasRead text body a

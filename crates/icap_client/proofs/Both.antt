@@ -159,7 +159,7 @@ sends_by x tape old new fault kept P Q result none k t sound stays =
       fault = record { sound = sound; again = λ g e. cc; stays = stays };
     }
 
--- behind a fault nothing is done
+-- after a fault nothing is done
 pub sends_none : (x : Seen) (tape : Tape) (w : Writer) (fault : Option ClientFault) (g : ClientFault) (P : Past → Type 0) → fault ≡ Some g
     → Sends x tape (λ head x came taken. HasSent head x came taken w) (λ head x came taken. HasSent head x came taken w) fault fault
     (NothingDue x w) P P (Err g)

@@ -36,7 +36,7 @@ true_false e = cc
 none_some : {A : Type 0} {a : A} → None ≡ Some a → ⊥
 none_some e = cc
 
--- ---- the front of a head is no whole head
+-- ---- a prefix of a head is no whole head
 
 -- one or the other is true if the other is
 or_true : (a b : Bool) → b ≡ true → (a || b) ≡ true
@@ -98,7 +98,7 @@ order a b (inr l) = inl l
 no_head : (raw : List ℕ) (status : ℕ) → IsHeadFront raw → First raw status → ⊥
 no_head raw status f h = no_head_by raw f h.value h.size (order f.judged h.size (cases_lt f.judged h.size)) f.more h.has
 
--- ---- what stands behind a 100, or at the front
+-- ---- what stands after a 100, or at the beginning
 
 data Told (x : Seen) (xs raw : List ℕ) (r : Reader) (point : Point) (rest : List ℕ) : Type 0 where
   nothing : r.stage ≡ Replies → IsHeadFront rest → raw ≡ rest → xs ≡ [] → Marks x false false false false → Told x xs raw r point rest
@@ -170,9 +170,9 @@ parsed (Body chunks) x xs framed raw r read room s some e h w =
     }
 parsed Over x xs framed raw r read room s some e h w = parsed_final x xs framed raw r read s e h
 
--- ---- the head at the front
+-- ---- the head at the beginning
 
--- the rest begins with the ICAP head of a 200 with this layout, and this stands behind it
+-- the rest begins with the ICAP head of a 200 with this layout, and this comes after it
 record Begins (point : Point) (layout : Layout) (rest tail : List ℕ) : Type 0 where
   icap : List ℕ
   text_is : rest ≡ icap ++ tail
@@ -259,7 +259,7 @@ interim_one point false true before rest first other e h i n m =
 interim_one point false false before rest first other e h i n m =
     (refl, ap (λ (t : List ℕ). t ++ rest) (sym h) ∙ (e ∙ ap (λ (t : List ℕ). t ++ other) i))
 
--- ---- what stands behind the heads
+-- ---- what comes after the heads
 
 -- bytes fewer than a layout's offset don't begin with a head of that length
 head_short : (head text raw : List ℕ) (l k : Layout) → l ≡ k → raw ≡ head ++ text → length raw < l.offset → length head ≡ k.offset → ⊥
@@ -275,7 +275,7 @@ tails_one head a other b l k e t x y = split_one head a other b t (x ∙ (ap (λ
 read_one : (text xs ys : List ℕ) (c d : ChunkReader) → HasRead text xs c → HasRead text ys d → (c ≡ d) × (xs ≡ ys)
 read_one text xs ys c d h i = (sym h.read ∙ i.read, sym h.found ∙ i.found)
 
--- a body that goes on has no whole body at its front
+-- a body that goes on has no whole body at its beginning
 no_whole : (rest raw xs ys : List ℕ) (b : Bool) (chunks : ChunkReader) → b ≡ true → IsBody b rest ys → HasRead (rest ++ raw) xs chunks
     → end_of chunks ≡ None → ⊥
 no_whole rest raw xs ys false chunks e h r n = true_false (sym e)
@@ -285,7 +285,7 @@ no_whole rest raw xs ys true chunks e h r n =
     ap end_of (run-append start rest raw) ∙ end_stays (run start rest) h.0 raw ends.ended in
     none_some (sym n ∙ (ap end_of (sym r.read) ∙ more))
 
--- of two whole bodies at the front of a text none is shorter
+-- of two whole bodies at the beginning of a text none is shorter
 not_shorter : (a raw b other xs ys : List ℕ) (i j : Bool) → a ++ raw ≡ b ++ other → length a < length b → IsChunked a xs i
     → IsChunked b ys j → ⊥
 not_shorter a raw b other xs ys i j e l h k =

@@ -99,7 +99,7 @@ sound_starts : fault_of start ≡ None
 unfolding faulted_at
 sound_starts = refl
 
--- an adapted message's head with a body behind it
+-- an adapted message's head with a body after it
 pub hears_body : (x : Seen) (r : Reader) (layout : Layout) (head : List ℕ) → MayCome x (Mod payloads.Body) → has_body layout.body ≡ true
     → r.stage ≡ Head layout
     → IsEncapsulatedHead head → length head ≡ layout.offset
@@ -169,7 +169,7 @@ hears_null x r layout head may b stage ended size = record {
       changed whole;
 }
 
--- a head at the front of the text, as a text of its own
+-- a head at the beginning of the text, as a text of its own
 pub is_head : (raw : List ℕ) (value : Response) (size : ℕ) → HasResponse raw value size → IsHead (take size raw) value
 is_head raw value size h =
     let e : length (take size raw) ≡ size = length-take-le size raw (omega (arith, h.inside, unfolded_length raw)) in
@@ -305,7 +305,7 @@ pub passes_noted : (r new : Reader) (remarks : FieldList) (closes : Bool) (used 
 passes_noted r new remarks closes used raw (waits z e p s) = waits z e p s
 passes_noted r new remarks closes used raw (goes_on layout e p h) = goes_on layout e p h
 
--- the adapted message's head, with a body behind it or with none
+-- the adapted message's head, with a body after it or with none
 pub hears_mod : (x : Seen) (r new : Reader) (layout : Layout) (head : List ℕ) (b : Bool) (p : Payload) (stage : Stage) → p ≡ payload_if b
     → b ≡ has_body layout.body → ((b ≡ true) → stage ≡ Body start) → ((b ≡ false) → stage ≡ Over)
     → new ≡ with_head r layout head stage → MayCome x (Mod p) → r.stage ≡ Head layout → IsEncapsulatedHead head
@@ -341,7 +341,7 @@ untimely t replies.Continue x point raw value size e m h s = untimely_continue t
 untimely t replies.NoMod x point raw value size e m h s = untimely_no_mod t x point raw value size e m h s
 untimely t (replies.Mod layout) x point raw value size e m h s = absurd (false_is_not_true (sym e ∙ m tt))
 
--- the limits of the stages behind an adapted message's head
+-- the limits of the stages after an adapted message's head
 pub keeps_start : (s : Stage) (chunks : ChunkReader) → s ≡ Body chunks → chunks ≡ start → KeepsLimits s
 keeps_start s chunks e f = subst KeepsLimits (sym (e ∙ ap Body f)) (none_starts, sound_starts)
 

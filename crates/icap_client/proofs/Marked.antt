@@ -1,4 +1,4 @@
--- The side's marks behind a turn's events.
+-- The side's marks after a turn's events.
 use Rattle.std.proofs.Common.{◌≡◌, ℕ, ◌+◌, Bool, true, false, not, ◌||◌, ◌&&◌, List, [], ◌∷◌, refl, ap, sym, ◌∙◌, arith, Option, Result}
 use Rattle.std.proofs.Common.{◌==◌, ◌⊎◌, inl, inr}
 use Rattle.std.specs.List.{list_any}
@@ -94,7 +94,7 @@ unheard_marks : (x : Seen) (adapted read : List ℕ) → HasBegun x read ⊎ Not
 unheard_marks x adapted read (inl h) f = let odd : true ≡ false = sym h.0 ∙ f in cc
 unheard_marks x adapted read (inr b) f = (b.marks.no_mod_is, b.marks.modified_is)
 
--- before the first byte of a reply nothing is answered, and nothing is so behind a Retry
+-- before the first byte of a reply nothing is answered, and so nothing is after a Retry
 pub none_answered : (x : Seen) (adapted read : List ℕ) (s : ReadSide) → x.heard ≡ false → SideHeard x adapted read s
     → is_answered (after x Retry) ≡ false
 none_answered x adapted read s f h =
@@ -137,7 +137,7 @@ last_still : (x : Seen) (n : ℕ) (b : Bool) → (n == 0) ≡ b → (after_all x
 last_still x n true e = rw e refl
 last_still x n false e = rw e refl
 
--- `all` says that a Stop stands only behind all bytes that were to come next
+-- `all` says that a Stop stands only after all bytes that were to come next
 pub last_after : (x : Seen) (n count from : ℕ) (e : Bool) (events : List Event) → events ≡ sending_events n e → from ≡ x.sent
     → (e ≡ true → n ≡ count)
     → ((e && is_last_at x (from + count)) || x.last_stop) ≡ (after_all x events).last_stop

@@ -160,7 +160,7 @@ other_of : (point : Point) (layout : Layout) (v : Response) → IsOtherStatus v 
 unfolding IsOf
 other_of point layout v n o = n.not_ok o.0
 
--- two heads of a 200 at the front of the same bytes
+-- two heads of a 200 at the beginning of the same bytes
 behind_one : (f g : ClientFault) (x : Seen) (point : Point) (raw : List ℕ) → f ≢ faults.NoMemory → g ≢ faults.NoMemory
     → RefusesBehind f x point raw → RefusesBehind g x point raw → f ≡ g
 unfolding IsOf behind_is
@@ -260,7 +260,7 @@ no_bytes text body raw part used fault new some h b =
     ∙ ap (λ (n : ℕ). n + length more) (length-append body part)) in
     omega (arith, some, long)
 
--- behind its end nothing breaks
+-- after a body's end nothing breaks
 no_end : (text body raw rest : List ℕ) (used : ℕ) (fault : ChunkFault) (new : ChunkReader) (ieof : Bool) → end_of new ≡ Some ieof
     → HasRead (text ++ take used raw) rest new → Breaks (text ++ raw) body fault → ⊥
 no_end text body raw rest used fault new ieof e h b =

@@ -257,7 +257,7 @@ filled_first x old new delta out may some e r =
       };
     })
 
--- one behind the other, the first without an event
+-- one after the other, the first without an event
 pub side_then : (x : Seen) (a b c : ReadSide) (events : List Event) (d e part : List ℕ) → SideHears x a b [] d []
     → SideHears x b c events e part → SideHears x a c events (d ++ e) part
 side_then x a b c events d e part f g = record {

@@ -32,7 +32,7 @@ pub skip_none : (a : ChunkReader) (raw : List ℕ) → ReadsOn a raw 0 [] a
 skip_none a raw text body h = subst (λ (t : List ℕ). HasRead t (body ++ []) a) (sym (append-nil text))
     (subst (λ (b : List ℕ). HasRead text b a) (sym (append-nil body)) h)
 
--- a fault behind a part of the body that was skipped
+-- a fault after a part of the body that was skipped
 pub skip_breaks : (a b : ChunkReader) (raw rest : List ℕ) (used : ℕ) (p : List ℕ) (fault : ChunkFault) → ReadsOn a raw used p b
     → rest ≡ drop used raw
     → ((text body : List ℕ) → HasRead text body b → Breaks (text ++ rest) body fault) → (text body : List ℕ) → HasRead text body a
@@ -120,7 +120,7 @@ tells_then a b c found f g = record {
 
 -- ---- framing
 
--- a head with no body behind it
+-- a head with no body after it
 pub frames_bare : (old new : Asker) (value : Response) (size : ℕ) → old.stage ≡ Head → HasResponse old.raw value size
     → HasOptionsBody (lists_of value) false → new.stage ≡ Over → new.raw ≡ drop size old.raw → new.waiting ≡ old.waiting
     → Frames old new (Some value)
@@ -145,7 +145,7 @@ frames_bare old new value size s h l o r w =
       tells = tells_end old.stage new.stage (Some value) (no_head_over old.stage s) o refl;
     }
 
--- a head with a body behind it
+-- a head with a body after it
 pub begins_body : (old : Asker) (value : Response) (size : ℕ) (framed : List ℕ) → old.stage ≡ Head → HasResponse old.raw value size
     → HasOptionsBody (lists_of value) true → AnsweredTo old.stage old.response framed
     → IsOptionsFront value start (framed ++ take size old.raw)
@@ -163,7 +163,7 @@ begins_body old value size framed s h l a =
       no_fault = sound_starts;
     }
 
--- one behind the other
+-- one after the other
 pub frames_then : (a b c : Asker) (value : Response) (chunks : ChunkReader) (size : ℕ) (found : Option Response) → chunks ≡ start
     → a.stage ≡ Head → HasResponse a.raw value size → HasOptionsBody (lists_of value) true
     → b.stage ≡ Body chunks → b.response ≡ Some value → b.raw ≡ drop size a.raw → b.waiting ≡ a.waiting → Frames b c found
@@ -190,7 +190,7 @@ frames_then a b c value chunks size found st s h l t r e w g =
           g.tells;
     }
 
--- more of the body is read, behind the head
+-- more of the body is read, after the head
 rest_more : (value : Response) (chunks : ChunkReader) (framed more : List ℕ) → (f : IsOptionsFront value chunks framed)
     → framed ++ more ≡ f.head ++ (f.rest ++ more)
 rest_more value chunks framed more f = ap (λ (t : List ℕ). t ++ more) f.text_is ∙ append_assoc f.head f.rest more
@@ -317,7 +317,7 @@ refuses_here old stage fault s r = record {
   refuses = subst (λ (t : OptionsStage). RefusesOptions fault t old.raw) (sym s) r;
 }
 
--- a body's bytes are, behind its head
+-- a body's bytes are refused after its head too
 pub refuses_then : (a b : Asker) (value : Response) (chunks : ChunkReader) (size : ℕ) (fault : ClientFault) → chunks ≡ start
     → a.stage ≡ Head → HasResponse a.raw value size → HasOptionsBody (lists_of value) true
     → b.stage ≡ Body chunks → b.response ≡ Some value → b.raw ≡ drop size a.raw → b.waiting ≡ a.waiting → RefusesRaw fault b

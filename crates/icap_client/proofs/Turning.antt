@@ -38,7 +38,7 @@ less (Some p) s m n l h = omega arith
 fewer : (x : Seen) (m n : ℕ) → 1 ≤ m → m ≤ n → Allows x (Svc n) → Allows x (Svc m)
 fewer x m n some l a = (a.0, (some, omega (arith, a.1.1)), omega (arith, a.2), less (open_preview x) x.sent m n l a.3)
 
--- The last chunk behind the bytes of the turn.
+-- The last chunk after the bytes of the turn.
 
 -- the sum of a number and 0 is that number
 add_zero : (n : ℕ) → n + 0 ≡ n
@@ -270,7 +270,7 @@ append_none (x ∷ xs) ys e = cc
 no_events : (n : ℕ) → n ≡ 0 → sending_events n false ≡ []
 no_events n e = rw e refl
 
--- where nothing waits and nothing comes next, nothing waits behind the moves
+-- where nothing waits and nothing comes next, nothing waits after the moves
 pub still_out : (tape : Tape) (next : Next) (v w : Writer) (k : ℕ) (d : List ℕ) → waiting v ≡ [] → next.count ≡ 0
     → Moves tape next v k false d w → waiting w ≡ []
 still_out tape next v w k d o c start = o

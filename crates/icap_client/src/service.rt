@@ -232,7 +232,7 @@ impl ServiceSide {
         self.replies.found()
     }
 
-    /// The lines of the last answer's head that have one of these names, ASCII case ignored, in their order, with CRLF behind each.
+    /// The lines of the last answer's head that have one of these names, ASCII case ignored, in their order, with CRLF after each.
     pub fn carried(&self, alloc: Global, names: &[String]) -> Result<Vec<u8>, AllocError>
         ensures { IfOk result (λ text. text.items ≡ carried_text (map string_bytes names.now) self.now.replies.reader.remarks) }
     {

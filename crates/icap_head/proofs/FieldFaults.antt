@@ -1,4 +1,4 @@
--- From the lines that `httparse` is shown to the whole text behind the start line.
+-- From the lines that `httparse` is shown to the whole text after the start line.
 use Rattle.std.proofs.Common.{◌≡◌, ℕ, zero, suc, get_or, length-drop, length-append, ◌-◌, ◌+◌, ◌<◌, ◌≤◌, inl, inr, List, [], ◌∷◌, ◌++◌}
 use Rattle.std.proofs.Common.{length, take, drop, refl, sym, ap, ◌∙◌, subst, arith, append_assoc, take-append-drop, length-take-le, Result}
 use Rattle.std.proofs.Common.{Ok, Err, IfOk, IfErr, map, length-take}
@@ -61,7 +61,7 @@ cut_fault fault len text more init ends count (inr (inl h)) = inr (inl (h.0, too
 cut_fault fault len text more init ends count (inr (inr h)) =
     inr (inl (h.0, too_many-append text more (open_too_many text h.1 (omega (arith, count)))))
 
--- the same of the text behind an offset, cut at an offset behind that
+-- the text after an offset is cut at a later one
 split : (seen : List ℕ) (start end : ℕ) → end ≤ length (drop start seen) → start ≤ length seen
     → drop start seen ≡ drop start (take (start + end) seen) ++ drop (start + end) seen
 split seen start end fits in_seen =

@@ -647,7 +647,7 @@ has_folded-append S text more fields n h =
     let P : List ℕ → Type 0 = λ t. HasHead S t fields n in
     subst P (sym rest.1) (has_head-append S (unfolded text) rest.0 fields n h)
 
--- and any longer front of the text begins with it
+-- and any longer prefix of the text begins with it
 pub in_front : (S : List ℕ → Type 0) (text : List ℕ) (fields : FieldList) (n k : ℕ) → n ≤ k → HasHead S (unfolded text) fields n
     → HasHead S (unfolded (take k text)) fields n
 in_front S text fields n k less h =

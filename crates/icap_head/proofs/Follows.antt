@@ -99,7 +99,7 @@ lacks_front : (c : ℕ) (front text : List ℕ) → Lacks c (front ++ text) → 
 lacks_front c front text lacks k inside is = lacks k (omega (arith, inside, length-append front text))
     (get_or_append_left front text 0 k inside ∙ is)
 
--- of a head's lines, a proper front is unfinished
+-- of a head's lines, a proper prefix is unfinished
 front_of_fields : (behind tail : List ℕ) (fields : FieldList) → ReadsFields (behind ++ tail) fields [] → length fields ≤ 100
     → 0 < length tail → IsOpen behind × ¬ (HasTooMany behind)
 front_of_fields behind tail fields r few pos = (

@@ -1,4 +1,4 @@
--- What lies in a front of a text is the same in the front.
+-- What lies in a prefix of a text is the same in the prefix.
 use Rattle.std.proofs.Common.{◌≡◌, ℕ, ◌+◌, ◌-◌, ◌≤◌, List, [], ◌∷◌, ◌++◌, length, map, take, drop, zero, suc, refl, sym, ap, ap₂, ◌∙◌}
 use Rattle.std.proofs.Common.{subst, arith, append_assoc, append-nil, length-append}
 use Rattle.std.specs.Prelude.{All, slice_range, Bool, true, false, if◌then◌else◌}
@@ -55,7 +55,7 @@ piece : (before bytes behind : List ℕ) (start end : ℕ) → start ≡ length 
 piece before bytes behind start end s e =
     ap (take (end - start)) (drop_at before (bytes ++ behind) start (sym s)) ∙ take_at bytes behind (end - start) (omega (arith, s, e))
 
--- a field behind the others, its name and its value added to the text
+-- a field after the others, its name and its value added to the text
 pub record IsAdded (text name value longer : List ℕ) (line : HeaderSpan) : Type 0 where
   pub longer_is : longer ≡ text ++ (name ++ value)
   pub name_start : line.name.start ≡ length text

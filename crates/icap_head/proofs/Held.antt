@@ -51,7 +51,7 @@ skip_front (b ∷ xs) = elim (cases_Bool (is_ows b)) [
   | inr is ↦ ([], sym (skip_off b xs is))
 ]
 
--- what stands at the front of a text with no blank before it has none before it
+-- where a text begins with no blank, a prefix of it doesn't either
 front_trimmed : (xs ys : List ℕ) → skip_ows (xs ++ ys) ≡ xs ++ ys → skip_ows xs ≡ xs
 front_trimmed [] ys e = refl
 front_trimmed (b ∷ xs) ys e = elim (cases_Bool (is_ows b)) [
@@ -59,7 +59,7 @@ front_trimmed (b ∷ xs) ys e = elim (cases_Bool (is_ows b)) [
   | inr is ↦ skip_off b xs is
 ]
 
--- a trimmed value has no blank at its front
+-- a trimmed value has no blank at its beginning
 pub trimmed_front : (raw : List ℕ) → skip_ows (trim_ows raw) ≡ trim_ows raw
 unfolding trim_ows
 trimmed_front raw =

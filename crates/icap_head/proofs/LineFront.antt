@@ -27,7 +27,7 @@ use Rattle.icap_head.specs.declared.line_front.LinePart.{LinePart}
 use Rattle.icap_head.specs.declared.line_front.LinePart.TheVariants.{Start, Name, Value, Return}
 use Rattle.icap_head.specs.LineFront.{IsAt, IsInValue, IsLineFront, IsLastLine}
 
--- ---- whole lines, and the front of one more
+-- ---- whole lines, and a prefix of one more
 
 -- a text that some bytes more complete has no section yet
 not_yet : (text more : List ℕ) (fields : List Line) (last : LineEnd) → ReadsSection (text ++ more) fields last [] → 0 < length more
@@ -116,7 +116,7 @@ ends_so front ends (f ∷ fields) all =
     let found = ends_so (front ++ print_field f) (front ++ one.0, longer) fields (λ k d inside. all (suc k) d (omega arith)) in
     (found.0, sym (append_assoc front (print_field f) (flat_map print_field fields)) ∙ found.1)
 
--- what stands behind the last LF is the last line
+-- what stands after the last LF is the last line
 last_is : (text init line : List ℕ) (start : ℕ) → text ≡ (init ++ 10 ∷ []) ++ line → Lacks 10 line → IsLastLine text start
     → drop start text ≡ line
 last_is text init line start cut lacks last =
@@ -200,7 +200,7 @@ lacks_both a b x y k inside is = elim (cases_lt k (length a)) [
 regroup : (raw lines part : List ℕ) → raw ++ 10 ∷ (lines ++ part) ≡ ((raw ++ 10 ∷ []) ++ lines) ++ part
 regroup raw lines part = simp append_assoc
 
--- what is told of a head is told with more behind its last line
+-- what is told of a head is told with more at the end of its last line
 pub still_more : (Form : List ℕ → List ℕ → Type 0) (head new : List ℕ) (start : ℕ) → length (head ++ new) < 16384 → Lacks 10 new
     → IsLastLine head start → (0 < start → IsLineFront (drop start head ++ new)) → RefusesIcapHead Form More head
     → RefusesIcapHead Form More (head ++ new)
@@ -292,7 +292,7 @@ more_value line byte (name, raw, token, all, e) good = (
   ap (λ t. t ++ byte ∷ []) e ∙ append_assoc name (58 ∷ raw) (byte ∷ []),
 )
 
--- ---- a piece behind the front of a head
+-- ---- a piece after a prefix of a head
 
 -- the piece ends no line, and the last line goes on with it
 pub goes_on : (Form : List ℕ → List ℕ → Type 0) (head piece rest : List ℕ) (start : ℕ) (place next : LinePart)

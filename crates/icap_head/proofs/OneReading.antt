@@ -74,7 +74,7 @@ fields_alone : (g fault : HeadFault) (len : ℕ) (behind : List ℕ) → ((g ≡
 fields_alone g fault len behind (inl m) s = absurd (no_fields_fault fault len behind m.1.1 m.1.0 m.1.2 m.1.3 s)
 fields_alone g fault len behind (inr t) s = one_fields_fault g fault len behind t s
 
--- of a text that has a fault behind its start line only that
+-- of a text that has a fault after its start line only that
 same_later : (g fault : HeadFault) (text : List ℕ) → fault ≢ StartLine → fault ≢ Version → RefusesIcapHead RequestForm fault text
     → ForWantOfMemory g text → g ≡ fault
 same_later g fault text a b (inl none) w = absurd (none.1 w.0 w.1 w.2)

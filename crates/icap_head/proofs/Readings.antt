@@ -20,7 +20,7 @@ fields_unique text p q a b x y =
     let same = section_unique text x.0 y.0 x.1 y.1 a b x.2 y.2 in
     (sym x.3 ∙ ap (map name_and_value) same.0 ∙ y.3, same.2)
 
--- ---- a head at the front, and in longer texts
+-- ---- a head at the beginning, and in longer texts
 
 -- the first line of a text is that of a longer one, and what is added comes after the rest
 pub first-append : (text more line rest : List ℕ) → IsFirstLine text line rest → IsFirstLine (text ++ more) line (rest ++ more)
@@ -42,7 +42,7 @@ head-append S text more fields rest h = record {
   section = fields-append h.behind more fields rest h.section;
 }
 
--- the front that a head takes is a head with nothing behind
+-- the prefix that a head takes is a head with nothing after it
 head_front : (S : List ℕ → Type 0) (text : List ℕ) (fields : FieldList) (n : ℕ) → ReadsHead S text fields (drop n text)
     → ReadsHead S (take n text) fields []
 head_front S text fields n h =
@@ -118,7 +118,7 @@ same_length text n m a b e = let l = ap length e in omega (arith, l, length-drop
 judged_length : (text : List ℕ) (n : ℕ) → n ≤ length text → n ≤ 16384 → n ≤ length (take 16384 text)
 judged_length text n a b = let len = length-take 16384 text in omega (arith, len)
 
--- two heads at the front of a text are of one line, one list of fields and one length
+-- two heads at the beginning of a text are of one line, one list of fields and one length
 pub head_unique : (S T : List ℕ → Type 0) (text : List ℕ) (p q : FieldList) (n m : ℕ) → HasHead S text p n → HasHead T text q m
     → ((line : List ℕ) × S line × T line) × (p ≡ q) × (n ≡ m)
 head_unique S T text p q n m h g =

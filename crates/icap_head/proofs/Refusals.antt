@@ -23,7 +23,7 @@ pub request_line_refused : (fault : HeadFault) (text seen line behind : List ℕ
     → RefusesStartLine RequestForm fault line → RequestRefused fault text
 request_line_refused fault text seen line behind e first h = inl (inr (line, behind, subst (λ t. IsFirstLine t line behind) e first, inl h))
 
--- behind a line that may be a request's
+-- the same of a fault of what comes after a line that may be a request's
 pub request_fields_refused : (fault : HeadFault) (text seen line behind : List ℕ) → seen ≡ take 16384 text → IsFirstLine seen line behind
     → MayBeRequestLine line → ((fault ≡ NoMemory) × HasFields behind) ⊎ RefusesFields fault (length text) behind → RequestRefused fault text
 request_fields_refused fault text seen line behind e first may h =

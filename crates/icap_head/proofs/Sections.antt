@@ -46,7 +46,7 @@ count_at (b ∷ text) (suc k) inside is =
     let rest = count_at text k (omega arith) is in
     omega (arith, e, rest)
 
--- what is left behind a front of a text that ends in LF has a line
+-- what is left after a proper prefix of a text that ends in LF has a line
 count_behind : (front w init : List ℕ) → front ++ w ≡ init ++ 10 ∷ [] → 0 < length w → 0 < line_count w
 count_behind front w init e pos =
     let n = ap length e in
@@ -211,7 +211,7 @@ open_too_many text unfinished enough =
       omega (arith, n),
     )
 
--- the front of a text with too many lines
+-- a prefix that an empty line makes a section has a line for each of its fields
 front_count : (front : List ℕ) (fields : List Line) → ReadsSection (front ++ print_end lf) fields lf [] → line_count front ≡ length fields
 front_count front fields r =
     let e = ap line_count (r.1 ∙ append-nil (print_section fields lf)) in
@@ -235,7 +235,7 @@ pub too_many-append : (text more : List ℕ) → HasTooMany text → HasTooMany 
 too_many-append text more many =
     (many.0, many.1 ++ more, ap (λ t. t ++ more) many.2 ∙ append_assoc many.0 many.1 more, many.3, many.4, many.5)
 
--- of two fronts of a text, the longer begins with the shorter
+-- of two prefixes of a text, the longer begins with the shorter
 pub longer_front : (a x b y : List ℕ) → a ++ x ≡ b ++ y → length b ≤ length a → (c : List ℕ) × (a ≡ b ++ c)
 longer_front a x b y e le = (
   drop (length b) a,

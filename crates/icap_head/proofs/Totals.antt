@@ -57,7 +57,7 @@ first_line text = elim (first_feed text) [
 
 -- ---- field lines
 
--- of two texts that are as long with what follows, one is the front of the other
+-- of two prefixes of a text, one is a prefix of the other
 front_of : (a b x y : List ℕ) → a ++ x ≡ b ++ y → ((more : List ℕ) × (b ≡ a ++ more)) ⊎ ((more : List ℕ) × (a ≡ b ++ more))
 front_of [] b x y e = inl (b, refl)
 front_of (c ∷ a) [] x y e = inr (c ∷ a, refl)
@@ -78,7 +78,7 @@ never_section text none unable more fields last rest reads =
       | inr shorter ↦ none fields last shorter.0 (reads.0, shorter.1)
     ]
 
--- more than 100 lines with an empty one behind them are too many
+-- more than 100 lines with an empty one after them are too many
 many_lines : (text : List ℕ) (fields : List Line) (last : LineEnd) (rest : List ℕ) → ReadsSection text fields last rest
     → 100 < length fields → HasTooMany text
 many_lines text fields last rest reads many =

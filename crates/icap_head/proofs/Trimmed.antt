@@ -56,7 +56,7 @@ is_trimmed value e =
 pub compared : (a b : List ℕ) (same : Bool) → same ≡ bytes_eq a b → (same ≡ true → a ≡ b) × (a ≡ b → same ≡ true)
 compared a b same e = (λ is. (bytes_eq-Decides a b).0 (sym e ∙ is), λ is. e ∙ (bytes_eq-Decides a b).1 is)
 
--- the fields from one on are writable where that one is and those behind it are
+-- the fields from one on are writable where that one is and those after it are
 pub all_from : (fields : FieldList) (at : ℕ) → at < length fields
     → AllByRecursion IsFieldPair (drop at fields) ↔ (IsFieldPair (field_at fields at) × AllByRecursion IsFieldPair (drop (at + 1) fields))
 all_from fields at inside =

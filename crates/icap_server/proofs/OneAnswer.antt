@@ -78,7 +78,7 @@ reading_body text body Begun h =
     let p = part_place text body h.0 h.1 in
     (leaves_walk text body p.sum p.place p.quiet p.sound p.stands).finds
 
--- a text whose body fits has no front whose body doesn't
+-- a text whose body fits has no prefix whose body doesn't
 not_over : (room : ℕ) (text body : List ℕ) (outcome : Outcome) → IsReading text body outcome → length body ≤ room → IsOver room text → ⊥
 not_over room text body outcome reading fits over =
     let more = body_of (run start over.front) over.rest in
@@ -279,7 +279,7 @@ judged_point m point service fields v w (inr (served, h)) (inr (served', h')) = 
 letter : (a b : List ℕ) (k : ℕ) → a ≡ b → slice_index a k ≡ slice_index b k
 letter a b k e = ap (λ t. slice_index t k) e
 
--- the service of the letter behind the second stroke
+-- the service of the letter after the second slash
 service_of : ℕ → Service
 service_of b = if b == 112 then Pass else (if b == 115 then Stamp else (if b == 117 then Upper else Block))
 
@@ -338,7 +338,7 @@ judged_path m path fields v w (inr (p, x, is, h)) (inr (q, y, is', h')) =
     let R : Service → Type 0 = λ z. JudgesPoint m p z fields w in
     judged_point m p x fields v w h (subst R (sym services) (subst Q (sym points) h'))
 
--- the path, by the scheme and what is behind the authority
+-- the path, by the scheme and what comes after the authority
 path_by : Option (List ℕ) → List ℕ → List ℕ
 path_by scheme behind_it = if not (length behind_it == 0) || is_some scheme then path_of behind_it else []
 

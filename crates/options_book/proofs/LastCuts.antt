@@ -44,7 +44,7 @@ pub no_extension : (path segment : List ℕ) → IsLastSegment path segment → 
 no_extension path segment is_last lacks found e =
     not_cut 46 e.front found (subst (λ x. Lacks 46 x) (one_segment path segment e.segment is_last e.is_last ∙ e.cut) lacks)
 
--- the text behind the last byte of its front, where no such byte comes later
+-- the text after the last byte of a prefix, where no such byte comes later
 pub cut_behind : (text front : List ℕ) (byte : ℕ) → length front ≤ length text → front ≡ take (length front) text → 1 ≤ length front
     → get_or front (length front - 1) 0 ≡ byte → ((k : ℕ) → length front ≤ k → k < length text → get_or text k 0 ≢ byte)
     → (x : List ℕ) × (text ≡ x ++ byte ∷ take (length text - length front) (drop (length front) text))

@@ -63,7 +63,7 @@ line_of-says text (Need Adapted n) h = ap line_of h.1 ∙ counted (λ n. Some (N
 pub text_is : (text word : List ℕ) → bytes_eq text word ≡ true → text ≡ word
 text_is text word e = (bytes_eq-Decides text word).0 e
 
--- the text is the front and what stands behind it
+-- the text is the prefix and what comes after it
 pub behind-is : (front text rest : List ℕ) → behind front text ≡ Some rest → text ≡ front ++ rest
 behind-is front text rest e = by_test (bytes_eq (take (length front) text) front) refl e
   where

@@ -28,7 +28,7 @@ cut_tail : (tail : List ℕ) → OpensWithSpace tail → (up_to_space tail ≡ [
 cut_tail tail (inl e) = (ap up_to_space e, ap from_space e ∙ sym e)
 cut_tail tail (inr h) = (ap up_to_space h.1, ap from_space h.1 ∙ sym h.1)
 
--- digits end at the space behind them
+-- digits end at the space after them
 cut_digits : (digits tail : List ℕ) → AllDigits 10 digits → OpensWithSpace tail
     → (up_to_space (digits ++ tail) ≡ digits) × (from_space (digits ++ tail) ≡ tail)
 cut_digits [] tail h o = cut_tail tail o
@@ -135,7 +135,7 @@ digits_front : (text : List ℕ) → text ≡ up_to_space text ++ from_space tex
 digits_front [] = refl
 digits_front (b ∷ text) = one_more b text (digits_front text) (eqb b 32)
 
--- a kind's text at the front, and what stands behind it
+-- a kind's text at the beginning, and what comes after it
 record FoundKind (text : List ℕ) (kind : Kind) (rest : List ℕ) : Type 0 where
   kind_text : List ℕ
   text_is : text ≡ kind_text ++ rest

@@ -57,7 +57,7 @@ pub some_comment : (text : List ℕ) → is_comment text ≡ true → 0 < length
 some_comment [] e = absurd (false≢true e)
 some_comment (b ∷ text) e = omega arith
 
--- a text that is a first line and what stands behind it
+-- a text that is a first line and what comes after it
 module _ (rest text behind : List ℕ) (cut : lines_of rest ≡ text ∷ lines_of behind) where
   -- a first line that is no comment, and that is read as no line of a script, is of another form
   pub other_here : (from : ℕ) → is_comment text ≡ false → line_of text ≡ None → IsFirstOther from (lines_of rest) from

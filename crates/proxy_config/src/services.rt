@@ -51,7 +51,7 @@ pub(crate) fn host(table: &Table) -> Option<(Ipv4Addr, &str)>
     }
 }
 
-/// Whether a path has at most 1,024 bytes, begins with `/`, and has no fragment behind it.
+/// Whether a path has at most 1,024 bytes, begins with `/`, and has no fragment after it.
 fn is_path_text(path: &str) -> bool
     ensures { result ≡ is_path_text path.now }
 {

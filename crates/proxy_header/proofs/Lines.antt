@@ -12,7 +12,7 @@ use Rattle.proxy_header.specs.declared.reading.Said.TheVariants.{From, Unknown, 
 use Rattle.proxy_header.specs.Headers.{Answers, Begins, IsRawLine, IsSaid, is_reading}
 use Rattle.proxy_header.specs.Lines.{IsConnection, IsCutLine, IsLine, Says}
 
--- nothing is said where neither front fits
+-- nothing is said where neither beginning fits
 pub says_not : (line : List ℕ) → ((rest : List ℕ) → line ≡ codes "PROXY UNKNOWN" ++ rest → ⊥)
     → ((text : List ℕ) (ip : Ipv4Addr) → line ≡ codes "PROXY TCP4 " ++ text → IsConnection text ip → ⊥)
     → (from : Option Ipv4Addr) → Says line from → ⊥

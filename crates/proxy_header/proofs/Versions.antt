@@ -54,7 +54,7 @@ none_behind front (b ∷ rest) more e =
     let l = ap length e in
     absurd (omega (arith, l, length-append (front ++ b ∷ rest) more, length-append front (b ∷ rest)))
 
--- a part of the front that has the whole signature lacks the rest of the block
+-- a part of a header's first bytes that has the whole signature lacks the rest of the block
 front_block : (bytes rest : List ℕ) → bytes ≡ signature ++ rest → IsCutFront bytes → IsCutBlock bytes
 front_block bytes rest front cut = ⊎_elim
     (λ h. let all : codes "PROXY " ≡ signature ++ (rest ++ h.0) = h.1 ∙ ap (λ b. b ++ h.0) front in

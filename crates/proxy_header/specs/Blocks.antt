@@ -7,7 +7,7 @@ abbrev pub signature : List ℕ
 signature = 13 ∷ 10 ∷ 13 ∷ 10 ∷ 0 ∷ 13 ∷ 10 ∷ 81 ∷ 85 ∷ 73 ∷ 84 ∷ 10 ∷ []
 
 -- What is said: nothing by LOCAL (0x20), whatever follows, nor by PROXY (0x21) of an unspecified family; by PROXY of TCP over IPv4 (0x11)
--- the source's address, before the target's and both ports. Whatever stands behind these is skipped.
+-- the source's address, before the target's and both ports. Whatever stands after these is skipped.
 abbrev pub Tells : ℕ → ℕ → List ℕ → Option Ipv4Addr → Type 0
 Tells command family block None = (command ≡ 32) ⊎ ((command ≡ 33) × (family ≡ 0))
 Tells command family block (Some from) = (command ≡ 33) × (family ≡ 17) × (12 ≤ length block) × (ipv4_octets from ≡ take 4 block)

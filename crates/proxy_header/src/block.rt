@@ -56,7 +56,7 @@ fn told_by(command: u8, family: u8, block: &[u8]) -> Said
     }
 }
 
-/// What stands between the signature and the addresses, and behind it.
+/// What stands between the signature and the addresses, and after it.
 struct Fixed<'a> {
     command: u8,
     family: u8,

@@ -27,7 +27,7 @@ fn said_by(line: &[u8]) -> Said
     }
 }
 
-/// What stands before a text's first line feed, and behind it. `None` where it has none.
+/// What stands before a text's first line feed, and after it. `None` where it has none.
 fn cut_at_feed(text: &[u8]) -> Option<(&[u8], &[u8])>
     ensures found { IfSome result (λ cut. (text.now ≡ cut.0.now ++ 10 ∷ cut.1.now) × Lacks 10 cut.0.now) }
     ensures none { IfNone result (Lacks 10 text.now) }

@@ -23,7 +23,7 @@ pub struct Header {
 /// What the first bytes of a connection are.
 #[derive(Clone, Copy, PartialEq, Eq)]
 pub enum Reading {
-    /// A header, and what stands behind it.
+    /// A header, and what comes after it.
     Whole(Header),
     /// A part of a header, as far as is known: more bytes have to come.
     Partial,

@@ -69,7 +69,7 @@ fn is_port(text: &[u8]) -> bool
     }
 }
 
-/// What stands before a text's first space, and behind it. `None` where it has none.
+/// What stands before a text's first space, and after it. `None` where it has none.
 fn cut_at_space(text: &[u8]) -> Option<(&[u8], &[u8])>
     ensures found { IfSome result (λ cut. (text.now ≡ cut.0.now ++ 32 ∷ cut.1.now) × Lacks 32 cut.0.now) }
     ensures none { IfNone result (Lacks 32 text.now) }
@@ -78,7 +78,7 @@ fn cut_at_space(text: &[u8]) -> Option<(&[u8], &[u8])>
     Some((&text[..at], &text[at + 1..]))
 }
 
-/// A text's first word, and what stands behind the space after it. `None` where it has no space.
+/// A text's first word, and what follows the space after it. `None` where it has no space.
 fn cut_word(text: &[u8]) -> Option<(&[u8], &[u8])>
     ensures found { IfSome result (λ cut. words text.now ≡ cut.0.now ∷ words cut.1.now) }
     ensures none { IfNone result (words text.now ≡ text.now ∷ []) }

@@ -23,7 +23,7 @@ pub within-replay : (n : Numbers) (steps : List PoolStep) → IsWithin n → Are
 within-replay n [] w may = w
 within-replay n (step ∷ steps) w may = within-replay (after n step) steps (within-after n step w may.0) may.1
 
--- the step behind others is allowed where it comes
+-- the step after others is allowed where it comes
 may-behind : (n : Numbers) (earlier later : List PoolStep) (step : PoolStep) → AreAllowed n (earlier ++ step ∷ later)
     → IsAllowed (replay n earlier) step
 may-behind n [] later step may = may.0

@@ -16,7 +16,7 @@ pub replay-append : (b : Numbers) (xs ys : List PoolStep) → replay b (xs ++ ys
 replay-append b [] ys = refl
 replay-append b (x ∷ xs) ys = replay-append (after b x) xs ys
 
--- a step that is allowed behind allowed ones makes a longer list of them
+-- a step that is allowed after allowed ones makes a longer list of them
 allowed-push : (b : Numbers) (ss : List PoolStep) (s : PoolStep) → AreAllowed b ss → IsAllowed (replay b ss) s → AreAllowed b (ss ++ s ∷ [])
 allowed-push b [] s all m = (m, tt)
 allowed-push b (x ∷ xs) s all m = (all.0, allowed-push (after b x) xs s all.1 m)

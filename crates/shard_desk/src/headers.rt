@@ -18,7 +18,7 @@ use std::net::Ipv4Addr;
 use std::sync::Wait;
 use wire_kit::Got;
 
-/// The header of a connection, which is read where it is whole. What stands behind it stays.
+/// The header of a connection, which is read where it is whole. What comes after it stays.
 pub(crate) fn header_of(user: &mut UserWire) -> Reading {
     let mut bytes = [0u8; MAX_HEADER];
     // All that came before an end is there once the end was reported.

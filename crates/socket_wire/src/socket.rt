@@ -279,7 +279,7 @@ impl<R> StreamWire<Stream<R>> {
         }
     }
 
-    /// Reads all of these bytes, which lie unread, beside the wire: it counts and gives those behind them. False where the system gives
+    /// Reads all of these bytes, which lie unread, beside the wire: it counts and gives those after them. False where the system gives
     /// fewer.
     pub fn skip(&mut self, bytes: &mut [u8]) -> bool
         ensures keeps { length bytes.new ≡ length bytes.old }

@@ -49,7 +49,7 @@ appended old new more start len le e =
     sym (drop-take start (len + length more) new) ∙ ap (λ k. drop start (take k new)) there ∙ ap (λ l. drop start l) e
     ∙ drop-append-le start (take (start + len) old) more long ∙ ap (λ l. l ++ more) (drop-take start len old)
 
--- what is behind a place, of a tape that is known by its parts
+-- what comes after a place, of a tape that is known by its parts
 pub copied_of : (v : Tape) (base start len from count : ℕ) (T : List ℕ)
     → record { base = base; start = start; bytes = take len (drop start T) } ≡ v → from ≤ end_of v → count ≤ len - (from - base)
     → take count (drop (start + (from - base)) T) ≡ take count (drop (from - v.base) v.bytes)
@@ -79,7 +79,7 @@ dropped_of v base start len place T new e le lt is =
     let Q : ℕ → List ℕ → Tape = λ n l. record { base = place; start = n; bytes = l } in
     subst P e (ap (λ l. Q ((start + gone) % 4096) l) bytes ∙ sym (ap (λ n. Q n (drop gone (take len (drop start T)))) first))
 
--- a part of a page more, behind bytes that fill theirs
+-- a part of a page more, after bytes that fill theirs
 pub another_page : (T D rest bytes : List ℕ) (at w n : ℕ) → at + w ≡ length D → w + n ≤ length bytes
     → take (at + w) D ≡ take at T ++ take w bytes
     → take (at + (w + n)) (D ++ (take n (drop w bytes) ++ rest)) ≡ take at T ++ take (w + n) bytes
@@ -112,7 +112,7 @@ take_on xs w n =
     ap (λ l. l ++ take n (drop w xs)) (sym (take-take w (w + n) xs front))
     ∙ ap (λ l. take w (take (w + n) xs) ++ l) (sym (drop-take w n xs)) ∙ take-append-drop w (take (w + n) xs)
 
--- a part of a page is copied behind what was copied before
+-- a part of a page is copied after what was copied before
 pub another_copied : (T P N out more : List ℕ) (at from done m : ℕ) → length P ≡ 4096 → from + m ≤ 4096
     → drop from (P ++ N) ≡ drop (at + done) T → take done out ≡ take done (drop at T)
     → more ≡ take done out ++ take m (drop from P) → more ≡ take (done + m) (drop at T)
@@ -179,7 +179,7 @@ copied_before D N P out done R at todo left m j n e parts most place within befo
     ∙ ap (λ l. take n X ++ l) (before ∙ ap (λ l. take (m - todo) l) behind)
     ∙ take_on X n (m - todo) ∙ ap (λ k. take k X) more
 
--- bytes behind the first pages are bytes behind all
+-- what is added to the pages after the first ones is added to all
 pub joined : (F old new more : List ℕ) (at before n : ℕ) → length F ≡ before → before ≤ at
     → take (at - before + n) new ≡ take (at - before) old ++ more → take (at + n) (F ++ new) ≡ take at (F ++ old) ++ more
 joined F old new more at before n size le e =
@@ -189,7 +189,7 @@ joined F old new more at before n size le e =
     ap (λ k. take k (F ++ new)) long ∙ take-append-add F new (a + n) ∙ ap (λ l. F ++ l) e ∙ sym (append_assoc F (take a old) more)
     ∙ ap (λ l. l ++ more) (sym (ap (λ k. take k (F ++ old)) short ∙ take-append-add F old a))
 
--- bytes are copied from the first pages as far as they reach, and then from those behind them
+-- bytes are copied from the first pages as far as they reach, and then from those after them
 pub both_parts : (F B : List ℕ) (at some m : ℕ) → at ≤ length F → some ≡ min (length F - at) m
     → take some (drop at F) ++ take (m - some) B ≡ take m (drop at (F ++ B))
 both_parts F B at some m le least =

@@ -19,7 +19,7 @@ use std::time::Clock;
 
 impl<K: Work> EventLoop<K> {
     /// Serves all events. All of them are noted before anybody is driven: so no exchange takes a connection of which an event stands
-    /// further behind. Users are taken in last: until then no key is another user's than the one that an event is about.
+    /// further on. Users are taken in last: until then no key is another user's than the one that an event is about.
     pub(super) fn turn<R: Wait + Dial + Clock>(
         &mut self,
         rt: &R,

@@ -25,7 +25,7 @@ no_method line at before other none h =
           none within (h.method at more)
     ]
 
--- a space stands behind a method's first byte
+-- a space stands after a method's first byte
 behind_first : (line : List ℕ) (at : ℕ) → get_or line at 0 ≡ 32 → BeginsWithMethod line → 0 < at
 behind_first line at space h =
     elim (cases_order 0 at) as (λ _. 0 < at) [

@@ -4,7 +4,7 @@ use Rattle.span_bank.specs.Chain.{down_of}
 use Rattle.span_tape.specs.Tape.{page_count}
 use Rattle.span_tape.proofs.queue.append_last.Given as goal
 
--- so many bytes stand behind the first ones, and where more are to come the pages are full
+-- so many bytes stand after the first ones, and where more are to come the pages are full
 abbrev pub invariant-loop-done : goal.invariant-loop-done
 invariant-loop-done l =
     (l.done ≤ length l.bytes)

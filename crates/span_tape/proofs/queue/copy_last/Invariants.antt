@@ -9,7 +9,7 @@ invariant-loop-i l =
     (length l.rest + l._i ≡ length l.back)
     × (down_of l.rest ≡ take (4096 * length l.rest) (down_of l.back))
 
--- the bytes behind those that are missing stand already; the next one before them is on the last page that is left
+-- the bytes after those that are missing stand already; the next one before them is on the last page that is left
 abbrev pub invariant-loop-left : goal.invariant-loop-left
 invariant-loop-left l =
     (l.left ≤ length l.out) × (length l.out ≡ length l.fn.out)
