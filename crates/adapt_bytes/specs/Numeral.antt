@@ -17,7 +17,7 @@ numeral base n = if n == 0 then 48 ∷ [] else map digit_char (digits_of base n)
 abbrev pub three_digits : ℕ → List ℕ
 three_digits n = (48 + n / 100) ∷ (48 + n / 10 % 10) ∷ (48 + n % 10) ∷ []
 
--- the text is the digit 0, or begins with another byte
+-- the text is the digit 0, or doesn't begin with it
 abbrev pub HasNoLeadingZero : List ℕ → Type 0
 HasNoLeadingZero text = (text ≡ 48 ∷ []) ⊎ ((behind : List ℕ) → text ≢ 48 ∷ behind)
 

@@ -5,7 +5,7 @@ ghost use Rattle.http_header.specs.Token.{lowercase};
 ghost use Rattle.adapt_bytes.specs.Fields.{FieldList, as_header_map, values_of};
 ghost use Rattle.adapt_bytes.specs.Numeral.{Writes, numeral, three_digits, HasNoLeadingZero, IsLowerCase};
 
-/// A text spells at most one number.
+/// In one base, a text spells at most one number.
 pub fn spells_one_number()
     ensures { (base m n : ℕ) (text : List ℕ) → Writes base text m → Writes base text n → m ≡ n }
 {}

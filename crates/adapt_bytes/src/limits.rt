@@ -1,4 +1,4 @@
-//! Limits that several crates share. No RFC sets them.
+//! Limits that several crates share. No RFC sets them, but for the largest port.
 
 /// Each number of bytes of a body that is read, counted or kept is below this, and so is their sum.
 pub const COUNT_LIMIT: u64 = 1 << 62;

@@ -143,7 +143,8 @@ impl<B: Ledgers> Hold<B> {
         self.store.claim()
     }
 
-    /// How many original bytes may still come: within the claim, beside a window for the adapted body where one may come. Bytes that
+    /// How many original bytes may come in one turn: at most a turn's bytes, and within the claim, beside a window for the adapted body
+    /// where one may come. Bytes that
     /// are dropped need no room.
     pub fn original_room(&self) -> u64
         ensures room { result ≡ original_room (shows self.now.history) self.now.claim self.now.limits.window self.now.limits.turn }
@@ -152,7 +153,7 @@ impl<B: Ledgers> Hold<B> {
         original_room(&self.state, self.store.claim(), &self.limits)
     }
 
-    /// How many adapted bytes may still come.
+    /// How many adapted bytes may come in one turn: at most a turn's bytes, and within what the window leaves.
     pub fn adapted_room(&self) -> u64
         ensures room { result ≡ adapted_room (shows self.now.history) self.now.limits.window self.now.limits.turn }
         ensures tied { IsTied self.now }
@@ -160,7 +161,8 @@ impl<B: Ledgers> Hold<B> {
         adapted_room(&self.state, &self.limits)
     }
 
-    /// Takes In or Ad with its bytes, which are kept, or dropped where the service needs no original byte any more. A refusal is the
+    /// Takes In or Ad with its bytes, which are kept. Original bytes are dropped once an adapted message came and the service needs none
+    /// of them any more. A refusal is the
     /// first fault that stands, and changes nothing. It takes no memory: pages come from the bank.
     pub fn put_in(
         &mut self,

@@ -56,7 +56,7 @@ pub trait Service {
     fn adapted_head(&self) -> Option<&[u8]>
         ensures { option_copied result ≡ adapted_head self.now };
 
-    /// Whether the adapted message is a response: a service may answer a request by one (RFC 3507, section 4.8.1).
+    /// Whether the adapted message is a response: a service may answer a request by one (RFC 3507, section 4.8.2).
     fn is_response(&self) -> bool
         ensures { result ≡ is_response self.now };
 
@@ -126,7 +126,7 @@ pub trait Service {
     ghost rests_writing_where: { (x : Seen) (s : Self) → rests_writing x s → x.closed ≡ false
         → (event : Event) → is_of_sending event ≡ true → Allows x event → ⊥ };
 
-    // nothing is to be read once the answer is whole, if there is no room, and in a preview before the 100
+    // if nothing is to be read, the answer is whole, there is no room, or it is a preview before its 100
     ghost rests_reading_where: { (x : Seen) (adapted read : List ℕ) (room : ℕ) (s : Self) → has_heard x adapted read s → rests_reading x room s
         → ((x.no_mod ≡ true) ⊎ (x.adapted_over ≡ true)) ⊎ ((room ≡ 0) ⊎ ((is_preview x.plan.kind ≡ true) × (x.continued ≡ false))) };
 }

@@ -92,7 +92,7 @@ pub record Failing : Type 1 where
   -- no head could be made, for this cause
   pub unmade : Cause → Type 0
 
--- Why a transaction failed, where that is how it ended: there is a reason for the cause, and the user has the refusal of that cause. It
+-- Why a transaction failed, where that is how it ended: the cause has a reason, and the user has its refusal or a byte of an answer. It
 -- fails as Deadline only where that has passed, and as Stopping never, but where no head could be made for just that cause.
 pub record WhyFailed (f : Failing) : Type 0 where
   pub fails : (cause : Cause) → f.outcome ≡ outcomes.Fail cause → f.blame cause

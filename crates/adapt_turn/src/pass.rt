@@ -1,4 +1,4 @@
-//! A pass of each side. It is lent what is held and one side with its wire; what isn't lent isn't changed.
+//! A pass of each side. It is lent what is held and one side with its wire, or the two writers with theirs; what isn't lent isn't changed.
 
 ghost use Rattle.std.specs.Prelude.{◌≡◌, true, false, None, [], Some};
 ghost use Rattle.trace_core.specs.declared.history.Event.TheVariants.{Fail};

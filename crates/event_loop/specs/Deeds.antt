@@ -23,7 +23,7 @@ pub data Deed : Type 0 where
   GaveWay : ℕ → Deed
   -- a queue was asked for the exchange that gets a turn: the first one in it, or one that gives way to who waits in it
   Asked : ℕ → Option ℕ → Deed
-  -- a line of the administrator was answered
+  -- a line of the administrator was answered, or a request for the counters
   Answered : Request → Deed
   -- a turn was over
   EndedTurn : Deed

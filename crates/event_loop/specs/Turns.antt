@@ -197,7 +197,7 @@ pub record AreServed (events : List Event) (woken : Bool) (deeds : List Deed) (r
 abbrev pub IsWoken : List Event → Type 0
 IsWoken events = All (λ event. event.token ≡ WAKER.0 → ⊥) events → ⊥
 
--- what a loop does of which these events were reported
+-- what a loop does in a turn whose poll has reported these events
 pub record Serves {K : Type 0} (w : Work K) (old new : EventLoop K) (events : List Event) (deeds : List Deed) : Type 0 where
   -- each exchange that was owed a turn is driven
   pub ready : (key : ℕ) → is_marked old.ready key ≡ true → IsDriven key deeds

@@ -124,7 +124,7 @@ pub fn read_request(line: &[u8]) -> Request
     }
 }
 
-/// The field that each request of HTTP/1.1 has, and how long it is (RFC 9110, section 7.2).
+/// The field that each request of HTTP/1.1 has, with its colon (RFC 9110, section 7.2).
 const HOST_FIELD: &[u8] = b"host:";
 
 /// Whether a method and a space stand first.

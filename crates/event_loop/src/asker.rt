@@ -30,7 +30,7 @@ pub enum Speech {
 /// What the administrator's connection said.
 #[derive(Clone, Copy, Debug)]
 pub enum AdminInput {
-    /// A line.
+    /// A line, or a request for the counters over HTTP.
     Asked(Request),
     /// A line that is too long: it is bad, and ends the connection.
     TooLong,
@@ -103,7 +103,7 @@ impl<W: Wire + Drop> Asker<W> {
         }
     }
 
-    /// Reads up to the next line or request, but none while the answers of earlier ones aren't taken. `Err` if no memory was found
+    /// Reads up to the next line or request, but no line while more than `MAX_UNREAD` bytes of answers wait. `Err` if no memory was found
     /// for it.
     pub fn hear(&mut self) -> Result<AdminInput, AllocError> {
         match self.speech {

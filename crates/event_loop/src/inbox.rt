@@ -143,7 +143,7 @@ impl Inbox {
         self.refreshes.load(Ordering::SeqCst) && self.refreshes.swap(false, Ordering::SeqCst)
     }
 
-    /// Asks the loop about its exchanges, and wakes it: it answers on this sheet, between two turns. False where it hasn't answered an
+    /// Asks the loop about its exchanges, and wakes it: it answers on this sheet, at the end of a turn. False where it hasn't answered an
     /// earlier question yet.
     pub fn ask<R: Wait>(&self, rt: &R, question: Question, sheet: Sheet) -> bool {
         let is_asked = self.questions.ask(rt, question, sheet);

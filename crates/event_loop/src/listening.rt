@@ -24,7 +24,7 @@ const REST: u64 = 20;
 pub enum Accepted {
     /// A connection, and where it comes from.
     One(TcpStream, SocketAddr),
-    /// One that was gone before it was taken: the next may be there.
+    /// One that was gone before it was taken, or that was closed since no user may come from there: the next may be there.
     Gone,
     /// No connection waits.
     None,

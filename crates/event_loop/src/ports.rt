@@ -55,7 +55,7 @@ fn loop_of(number: u64, loops: usize) -> usize
     (number % loops as u64) as usize
 }
 
-/// The loop after this one, of the first ones of this number.
+/// The loop after this one, of the first `loops` ones: after the last of them comes the first.
 fn next_of(own: usize, loops: usize) -> usize
     requires { 0 < loops }
     ensures { result ≡ cond (nat_lt (own + 1) loops) (own + 1) 0 }
@@ -139,7 +139,8 @@ impl Ports {
         }
     }
 
-    /// Takes in those that have connected, and closes the port: a further user is refused by the system. Each loop but that of the number
+    /// Takes in those that have connected, `ACCEPTS` of them at most and as long as there is room, and closes the port: a further user is
+    /// refused by the system. Each loop but that of the number
     /// `own` is woken for them.
     pub fn close<M: Mail, R: Wait>(&mut self, rt: &R, own: usize, mail: &mut M) {
         let _ = self.accept(rt, own, mail);

@@ -1,10 +1,11 @@
-//! Exchanges whose turns were cut short.
+//! Exchanges that are owed a turn.
 
 ghost use Rattle.std.specs.Prelude.{◌≡◌, ◌<◌, ◌≤◌, ◌-◌, ℕ, IfOk, IsTrue, Contains, slice_index_or, true, false};
 
 use std::alloc::{AllocError, Global};
 
-/// The exchanges that were cut short so that others get their turn. An edge-triggered poll reports nothing twice, so they
+/// The exchanges that are owed a turn: an event was news for them, or they were cut short so that others get theirs. An edge-triggered
+/// poll reports nothing twice, so they
 /// are driven on before the next wait. There is a mark for each key from the start, so that no memory is needed later.
 #[derive(Drop)]
 pub struct ReadyList {
@@ -33,7 +34,8 @@ impl ReadyList {
         Ok(list)
     }
 
-    /// Whether no exchange waits for a turn. It answers what `look` found last.
+    /// Whether no exchange waits for a turn. It goes by what `look` found last, and by what was marked since: a mark that
+    /// was taken since then still counts.
     pub fn is_empty(&self) -> bool
         ensures { IsTrue result → (key : ℕ) → is_marked self.now key ≡ false }
     {

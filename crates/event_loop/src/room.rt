@@ -11,7 +11,7 @@ use std::sync::Arc;
 use std::sync::atomic::{AtomicU64, Ordering};
 
 /// Descriptors that belong neither to a user nor to a service: the standard ones, the users' port, the log's file and the one that takes
-/// its place, a user that waits for room, and one to spare.
+/// its place, and a user that waits for room.
 const OWN: u64 = 7;
 
 /// Descriptors of the administrator's port, and of that of the counters: its own, and its connections'.

@@ -6,7 +6,7 @@ ghost use Rattle.event_loop.specs.Requests.{Deserves, IsOfCounters, IsQuery};
 use httparse::Status;
 use httparse::spans::{EMPTY_HEADER_SPAN, parse_request};
 
-/// The most bytes of such a request's head.
+/// A head that isn't whole once so many bytes of it have come is refused.
 pub const MAX_SCRAPE: usize = 8_192;
 
 /// The most fields of it.
@@ -23,7 +23,7 @@ pub enum Scrape {
     NotFound,
     /// Something else to be done with them than to read them.
     NotAllowed,
-    /// Nothing: it is no head of a request.
+    /// Nothing: it is no head of a request, or one with too many bytes or fields.
     Bad,
 }
 

@@ -61,7 +61,7 @@ pub struct AdminPorts {
     pub metrics: Option<TcpListener>,
 }
 
-/// What a poll reports of a listener under this token, if there is one.
+/// The listener, if there is one, which the poll reports under this token from now on.
 fn listening_on(
     listener: Option<TcpListener>,
     poll: &Poll,

@@ -63,7 +63,7 @@ pub enum Admitted {
     Closed,
 }
 
-/// What one thread drives: exchanges, each found by its key. Moments are seconds of the machine's clock, or milliseconds of it where
+/// What one thread drives: exchanges, each found by its key. Moments are seconds since the loop's start, or milliseconds since then where
 /// their name says so.
 ///
 /// Contracts see a work as its possible pasts: what a loop may have had it do so far, the newest deed first. A work that keeps no record

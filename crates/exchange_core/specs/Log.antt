@@ -70,7 +70,7 @@ abbrev pub is_hung_up : Event → Bool
 is_hung_up (HungUp kept) = true
 is_hung_up _ = false
 
--- a kept one
+-- the origin was dialed over a kept connection
 abbrev pub is_kept_dialed : Event → Bool
 is_kept_dialed (Dialed kept) = kept
 is_kept_dialed _ = false
@@ -88,7 +88,7 @@ abbrev pub is_withdrawn : Event → Bool
 is_withdrawn Withdrawn = true
 is_withdrawn _ = false
 
--- with the origin's connection to be kept
+-- a whole answer, after which the origin's connection lasts
 abbrev pub is_lasting : Event → Bool
 is_lasting (Answered keeps lasts) = lasts
 is_lasting _ = false
@@ -249,7 +249,7 @@ abbrev pub is_keeping : Event → Bool
 is_keeping (Answered keeps lasts) = keeps
 is_keeping _ = false
 
--- nothing was read yet, or the newest answer keeps the connection
+-- no whole answer went out yet, or the newest one keeps the connection
 abbrev pub is_kept_open : List Event → Bool
 is_kept_open [] = true
 is_kept_open (event ∷ before) = if is_answered event then is_keeping event else is_kept_open before

@@ -10,7 +10,7 @@ pub enum RefusalCause {
     Faulty,
     /// Its request is understood, but not served.
     Unserved,
-    /// The origin or the service failed, or isn't known.
+    /// The origin or the service failed, isn't known, or nothing is sent to it.
     Elsewhere,
     /// Room, a connection or memory was wanting.
     Scarce,
@@ -103,7 +103,7 @@ pub enum Event {
         keeps: bool,
         lasts: bool,
     },
-    /// The message, or the connection before it, goes no further: a side of it failed, no byte moved for too long, or what it needs
+    /// The message, or the head before it, goes no further: a side of it failed, no byte moved for too long, or what it needs
     /// can't be had, as where no connection of the service came free in time.
     Failed(RefusalCause),
     /// The service's connection was put back, or was closed and its lease given up.

@@ -170,7 +170,7 @@ impl CourseState {
         }
     }
 
-    /// Whether an event may come that ends a connection.
+    /// Whether an event may come that ends a connection, or brings its end nearer.
     fn may_end(self, event: Event) -> bool
         ensures { ends_with event ≡ true → result ≡ may_come self event }
     {

@@ -1,4 +1,5 @@
-//! The log's line of an exchange, in the native format of Squid's `access.log`, with five fields after it, and a sixth where the user got a page.
+//! The log's line of an exchange, in the native format of Squid's `access.log`, with five fields after it,
+//! and a sixth where the answer is a refusal with a page.
 
 ghost use Rattle.std.specs.Prelude.{◌≡◌, ◌++◌, ◌<◌, OnOk};
 ghost use Rattle.exchange_report.specs.Words.{word_of};

@@ -166,7 +166,7 @@ impl HopWriter {
         self.writer.drop_text();
     }
 
-    /// Counts what a turn wrote, and says whether the whole message is out with it.
+    /// Notes whether a turn fixed the body's end, and says whether the whole message is out with it.
     fn count_written(&mut self, sent: u64, ended: bool, may: bool) -> bool
         ensures stage { self.new ≡ record { writer = self.old.writer; framing = self.old.framing; stage = stage_then self.old.stage ended; touched = self.old.touched; fault = self.old.fault; turn = self.old.turn } }
         ensures done { result ≡ true → (stage_then self.old.stage ended ≡ Stage.Whole) × (waiting self.old.writer ≡ []) × ((ended ≡ true) ⊎ ((may ≡ true) × (sent ≡ 0))) }

@@ -212,7 +212,8 @@ impl SourceSide {
         !self.is_unread() || !self.raw.is_empty()
     }
 
-    /// Whether a transaction with this plan may begin: the head was read, nothing of the body was reported, and a length that the
+    /// Whether a transaction with this plan may begin: the head was read, no fault stands, nothing of the body was reported, and a
+    /// length that the
     /// plan knows is the framing's.
     pub fn begins(&self, plan: &Plan) -> bool
         ensures read { result ≡ true → self.now.head ≡ SourceHead.Unread → ⊥ }
@@ -231,7 +232,7 @@ impl SourceSide {
     }
 
     /// Why the head is refused, after a turn at the head that answered Head, or NoMemory for want of memory for the head. `None`
-    /// after Head means 101: another protocol isn't forwarded.
+    /// after Head means 101, as another protocol isn't forwarded, or one interim response too many.
     pub fn head_fault(&self) -> Option<HttpFault>
         ensures { result ≡ self.now.head_fault }
     {

@@ -244,11 +244,12 @@ is_chunks _ = false
 abbrev pub closes : Forward → Bool
 closes f = (f.user.now.minor == 0) || (is_named_by f.user.now.fields (codes "close") || (not f.carries_on || is_close (next_framing f)))
 
--- an answer without a body and without a length gets `Content-Length: 0`
+-- there is none
 abbrev pub is_none : {A : Type 0} → Option A → Bool
 is_none None = true
 is_none (Some x) = false
 
+-- an answer without a body and without a length gets `Content-Length: 0`
 abbrev pub gets_zero : Forward → Bool
 gets_zero f = is_response f.message && (not (has_no_place f.message) &&
     (is_none (kept_length f.message) && not (has_body f.part f.message)))

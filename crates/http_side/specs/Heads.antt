@@ -90,11 +90,11 @@ bad_hosts r = nat_lt 1 (count_of (codes "host") r.fields) || (r.minor == 1 && co
 abbrev pub both_lengths : List (List ℕ × List ℕ) → Bool
 both_lengths fields = nat_lt 0 (count_of (codes "content-length") fields) && nat_lt 0 (count_of (codes "transfer-encoding") fields)
 
--- a test, or the next fault
+-- this fault where it stands, else the next one
 abbrev pub unless : Bool → HttpFault → Option HttpFault → Option HttpFault
 unless stands fault other = if stands then Some fault else other
 
--- the first fault of a request's method and fields that stands
+-- the first fault of a request's version and fields that stands
 abbrev pub request_fault : RequestParts → Option HttpFault
 request_fault r =
     unless (bad_hosts r) Bad

@@ -49,7 +49,7 @@ abbrev pub AwaitsRequest : List ℕ → Type 0
 AwaitsRequest text =
     HasNoRequest text × ((more : List ℕ) × (head : RequestHead) × ReadsRequest (text ++ more) head [] × (length head.fields ≤ MAX_FIELDS))
 
--- no bytes more make a head, neither within a target that has no end yet nor for the number of the fields alone
+-- no bytes more make a head; the text doesn't end within a target, and no prefix of it has more than 100 fields
 abbrev pub IsNoRequest : List ℕ → Type 0
 IsNoRequest text = NeverHasRequest text × ¬ (EndsInTarget text) × ¬ (RequestExceeds MAX_FIELDS text)
 

@@ -38,7 +38,7 @@ AwaitsResponse text =
     HasNoResponse text × ((more : List ℕ) × (head : ResponseHead) × ReadsResponse (text ++ more) head []
     × (length head.fields ≤ MAX_FIELDS))
 
--- no bytes more make a head, and not for the number of the fields alone
+-- no bytes more make a head, and no prefix of the text has more than 100 fields
 abbrev pub IsNoResponse : List ℕ → Type 0
 IsNoResponse text = NeverHasResponse text × ¬ (ResponseExceeds MAX_FIELDS text)
 

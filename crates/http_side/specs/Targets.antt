@@ -23,7 +23,7 @@ abbrev pub is_port_part : List ℕ → Bool
 is_port_part [] = true
 is_port_part (b ∷ port) = b == 58 && is_port port
 
--- a host that isn't empty and a port, and no user (RFC 9110, sections 4.2.1 and 4.2.4)
+-- a host that isn't empty, then nothing or a port, and no user (RFC 9110, sections 4.2.1 and 4.2.4)
 abbrev pub is_plain_authority : List ℕ → Bool
 is_plain_authority authority =
     not (list_any (λ b. b == 64) authority)
@@ -33,7 +33,7 @@ is_plain_authority authority =
 abbrev pub has_path_behind : List ℕ → List ℕ → Bool
 has_path_behind authority text = slice_index (drop (length authority) (drop 7 text)) 0 == 47
 
--- by the scheme and the authority: absolute form with `http`, or origin form where that is allowed
+-- by the scheme and the authority: absolute form with `http`, and a path where one is needed; or origin form where that is allowed
 abbrev pub serves : Bool → Bool → List ℕ → Option (List ℕ) → Option (List ℕ) → Bool
 serves adapted needs_path text None None = adapted && slice_index text 0 == 47
 serves adapted needs_path text None (Some authority) = false

@@ -79,7 +79,7 @@ abbrev pub ReadsBackResponse : Type 0
 ReadsBackResponse = (r : ResponseParts) → WasReadResponse r → r.status < 1000 → (extra : Extra)
     → IsResponseText (response_text r extra) (sent_response r extra)
 
--- no field line that is written has a byte in its name or its value that ends a line
+-- no byte of this field's name or value ends a line or a string
 pub record IsUnbroken (f : List ℕ × List ℕ) : Type 0 where
   pub name : HasNoBreak f.0
   pub value : HasNoBreak f.1

@@ -21,7 +21,7 @@ pub(crate) fn is_named_by(fields: &Fields<'_>, name: &[u8]) -> bool
     false
 }
 
-/// For a Connection value of at most this many bytes, each item is compared with all fields.
+/// If there is only one Connection field, and its value has at most this many bytes, each item is compared with all fields.
 const SHORT_VALUE: usize = 64;
 
 /// Which fields Connection names, by their places.

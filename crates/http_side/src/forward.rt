@@ -199,7 +199,8 @@ impl<'u, 'm> Forward<'u, 'm> {
         }
     }
 
-    /// The framing towards the next hop: the forwarded length, if there is one; else chunked, or up to the close for a
+    /// The framing towards the next hop: none for a response that no body follows; else the forwarded length, if there is one; else,
+    /// without a body, none for a request and the length 0 for a response; else chunked, or up to the close for a
     /// user of HTTP/1.0.
     pub fn framing(&self) -> Framing
         ensures { result ≡ next_framing self.now }
@@ -260,8 +261,9 @@ impl<'u, 'm> Forward<'u, 'm> {
 }
 
 /// The head as the next hop gets it. A request goes as HTTP/1.1, to an origin in origin form and to a parent in absolute form, with the
-/// authority of the user's target as its Host. Fields that end at a proxy, and those that Connection names, are dropped. It gets
-/// `Connection: close` exactly where the connection ends after it.
+/// authority of the user's target as its Host. Fields that end at a proxy are dropped, and those that
+/// Connection names, but for Host and Content-Length. It gets
+/// `Connection: close` exactly where it is known by then that the connection ends after it: by `OriginUse`, or by `closes`.
 pub fn forward_head(alloc: Global, forward: &Forward<'_, '_>) -> Result<Vec<u8>, AllocError>
     ensures text { IfOk result (λ text. text.items ≡ forwarded forward.now) }
 
@@ -273,7 +275,7 @@ pub fn forward_head(alloc: Global, forward: &Forward<'_, '_>) -> Result<Vec<u8>,
     written_head(alloc, forward.message, authority, absolute, forward.extra())
 }
 
-/// The head as a service gets it: a request in absolute form, and nothing added.
+/// The head as a service gets it: a request in absolute form, and nothing added but a Host that it lacks.
 pub fn encapsulated_head(alloc: Global, sent: &Encapsulated<'_, '_>) -> Result<Vec<u8>, AllocError>
     ensures text { IfOk result (λ text. text.items ≡ encapsulated sent.now) }
 

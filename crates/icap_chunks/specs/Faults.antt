@@ -17,7 +17,7 @@ pub data Part : Type 0 where
   in_line : List ℕ → List ℕ → Option (List ℕ) → Part
   -- a whole size line of this size, and CR
   behind_line : ℕ → Part
-  -- a size line, and some of its data
+  -- a size line with its CRLF, and not yet all of its data
   in_data : Part
   -- a size line, and all of its data; then CR
   behind_data : Part

@@ -15,7 +15,7 @@ number_of Line = 3
 number_of Break = 4
 number_of Trailers = 5
 
--- a body with this many bytes of the text, and others after it; or a text that breaks the grammar; or a prefix of a body,
+-- a body with this many bytes of the text, and any others after it; or a text that breaks the grammar; or a prefix of a body,
 -- with the bytes of the body that have come
 abbrev pub IsReading : List ℕ → List ℕ → Outcome → Type 0
 IsReading text body (Ended ieof used) = (used ≤ length text) × IsChunked (take used text) body ieof

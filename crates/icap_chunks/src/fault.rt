@@ -6,7 +6,7 @@ ghost use Rattle.icap_chunks.specs.Reading.{number_of};
 #[derive(Clone, Copy, Debug, PartialEq, Eq)]
 pub enum ChunkFault {
     /// A size line that doesn't begin with a hexadecimal digit, or whose digits are followed by another byte than a
-    /// blank, `;` or CR.
+    /// blank, `;` or CR; or the blanks after them by another byte than these. A bare LF is `Line`.
     Size = 1,
     /// A size, or a sum of sizes, above `2^62 - 1`.
     TooBig = 2,

@@ -32,7 +32,7 @@ pub struct Reading {
     pub outcome: Outcome,
 }
 
-/// Reads a text that comes in pieces of `piece_size` bytes, the last one shorter.
+/// Reads a text that comes in pieces of `piece_size` bytes, the last one of what is left.
 ///
 /// The answer doesn't depend on the size of the pieces. `NoMemory` if the body finds no memory.
 pub fn read_in_pieces(alloc: Global, text: &[u8], piece_size: usize) -> Result<Reading, NoMemory>

@@ -53,7 +53,8 @@ impl ChunkReader {
     /// Reads the next piece of input, up to the end of one run of body bytes, of the body or of the piece.
     ///
     /// After the end of the body it uses nothing and reports again how the body ended. If a byte breaks the grammar,
-    /// the body bytes before it are handed out first; then this call and every later one return the fault.
+    /// the body bytes before it are handed out first, by calls that succeed. The call that reaches the byte
+    /// returns the fault, and so does every later one.
     pub fn feed(&mut self, piece: &[u8]) -> Result<Fed, ChunkFault>
         ensures within { IfOk result (λ fed. (fed.part.0 ≤ fed.part.1) × (fed.part.1 ≤ fed.used) × (fed.used ≤ length piece.now)) }
 

@@ -1,4 +1,4 @@
--- The side's marks beside the other sides' events, and after a turn's.
+-- The side's marks beside the other sides' events.
 use Rattle.std.proofs.Common.{◌≡◌, ℕ, Bool, false, not, ◌||◌, ◌&&◌, List, ◌++◌, length, refl, ap, sym, ◌∙◌}
 use Rattle.trace_core.specs.declared.history.Event.{Event}
 use Rattle.trace_core.specs.declared.history.Event.TheVariants.{In, End, Svc, Stop, Heard, Continue, NoMod, Mod, Ad, AdEnd, Usr, Done, Fail}

@@ -41,7 +41,7 @@ pub fn an_answer_is_whole()
 {}
 
 /// How the reads cut a service's bytes doesn't matter: two sides that were given the same bytes, have room and framed what
-/// can be framed of them, are equally far, with equal histories and equal bytes left over.
+/// can be framed of them, are equally far: their histories have the same responses, and equal bytes are left over.
 pub fn cuts_do_not_matter()
     ensures { (x y : Seen) (xs ys read : List ℕ) (a b : ReadSide) (room more : ℕ) → b.reader.point ≡ a.reader.point → 0 < room → 0 < more
         → SideHeard x xs read a → HasToWait a.reader.stage a.raw room → SideHeard y ys read b → HasToWait b.reader.stage b.raw more
@@ -81,7 +81,7 @@ pub fn others_keep()
         → HasSent head x came taken w → HasSent head (after x event) (came ++ bytes) taken w }
 {}
 
-/// A fresh side has sent nothing and heard nothing.
+/// A fresh reading side has read nothing and heard nothing.
 pub fn a_side_begins()
     ensures { (plan : Plan) (point : Point) (s : ReadSide) → s.reader ≡ first_reader point → s.raw ≡ [] → SideHeard (seen plan []) [] [] s }
 {}

@@ -67,7 +67,7 @@ impl OptionsSide {
     ghost use Rattle.icap_head.specs.Heads.{response_parts};
     ghost use Rattle.icap_client.specs.Asking.{options_request, LetsRoomGo, HasToAsk, Asks};
 
-    /// A request to the service at this host, port and path. `NoMemory` if its text finds no memory.
+    /// A request to the service at this host, port and path. `Err` if its text finds no memory.
     #[tactic(auto, using(crate::proofs::Skipping::some_text))]
     pub fn new(
         alloc: Global,

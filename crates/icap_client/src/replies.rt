@@ -51,8 +51,8 @@ fn bare(value: &IcapResponse, point: Point, reply: Reply) -> Result<Reply, Clien
     }
 }
 
-/// Whether the response may come now: a second 100 may not, nor a 204 once bytes of the body that it leaves as it was were
-/// dropped. A 200 is judged where its other head is read.
+/// Whether the response may come now: a second 100 may not, nor a 204 without `Allow: 204` outside a preview or after its
+/// 100 (RFC 3507, section 4.6). A 200 is judged where its other head is read.
 pub(crate) fn may_reply(state: &State, reply: Reply) -> bool
     ensures { IsTrue result ↔ MayReply (shows state.now) reply }
 {

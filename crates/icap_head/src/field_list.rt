@@ -23,7 +23,7 @@ pub struct Fields {
 pub struct Values<'a> {
     fields: &'a Fields,
     name: &'a [u8],
-    /// The number of fields after it.
+    /// The number of fields that it has passed.
     passed: usize,
 }
 
@@ -57,7 +57,7 @@ impl Fields {
         Ok(Fields { text, lines })
     }
 
-    /// Appends a field. If memory runs out, the list stays as it is.
+    /// Appends a field, with its name and value as they are given. If memory runs out, the list stays as it is.
     pub fn push(&mut self, name: &[u8], value: &[u8]) -> Result<(), NoMemory>
         ensures ok { OnOk result (field_list self.new ≡ field_list self.old ++ (name.now, value.now) ∷ []) }
         ensures err { OnErr result (field_list self.new ≡ field_list self.old) }
@@ -83,7 +83,7 @@ impl Fields {
         line_at(&self.lines, at).name.of(&self.text)
     }
 
-    /// The value of the field at this place, without the spaces and tabs around it. The place must be below `len`.
+    /// The value of the field at this place, without the spaces and tabs that a head has around it. The place must be below `len`.
     pub fn value(&self, at: usize) -> &[u8]
         requires { at < length (field_list self.now) }
         ensures { result.now ≡ value_at (field_list self.now) at }

@@ -24,7 +24,7 @@ pub(crate) enum HeadByte {
 #[derive(Clone, Copy)]
 pub(crate) enum HeadPlace {
     StartLine,
-    /// At the start of a line that goes on with no other.
+    /// At the start of the line after the start line, where a blank makes no fold.
     LineStart,
     /// After a CR at the start of a line.
     BareReturn,

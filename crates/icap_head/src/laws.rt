@@ -43,7 +43,8 @@ pub fn heads_stay()
         → HasResponse text value size → HasResponse (text ++ more) value size }
 {}
 
-/// A head of a response without folds is read as it is. One with folds takes as many bytes of the text, and they read as it
+/// A head of a response without folds is read as it is. One with folds has as many bytes in the text as
+/// in the copy where its folds are written over, and these bytes give that part of the copy also
 /// without what follows them.
 pub fn folds_are_spaces()
     ensures plain { (text : List ℕ) (value : Response) (size : ℕ) → HasPlainResponse text value size → HasResponse text value size }

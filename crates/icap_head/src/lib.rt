@@ -5,7 +5,7 @@
 //! `http_uri`. A head that is read ends within 16,384 bytes and has at most 100 fields; writing has
 //! no such limit.
 //!
-//! What a head means is decided above, by `options_book`, `icap_client` and `icap_server`.
+//! What a head means is decided by `options_book`, `icap_client` and `icap_server`.
 #![tactic(auto)]
 
 mod field_lines;

@@ -54,7 +54,7 @@ fn last_line(text: &[u8]) -> usize
     start
 }
 
-/// The place after some more bytes; `None` if no line has them there, or if the line ends.
+/// The place after some more bytes; `None` if no field line and no empty line has them there, or if the line ends.
 fn behind_all(place: LinePart, bytes: &[u8]) -> Option<LinePart>
     ensures { IfSome result (λ next. (line : List ℕ) → IsAt place line → IsAt next (line ++ bytes.now)) }
 {

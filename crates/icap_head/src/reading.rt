@@ -20,7 +20,8 @@ pub struct Head<T> {
 /// don't change it, as long as memory is found for a request's URI.
 #[derive(Clone, Copy, Debug)]
 pub enum HeadFault {
-    /// The head isn't complete yet, and nothing in it is wrong so far, except perhaps a request's URI that no memory
+    /// The head isn't complete yet, and nothing in it is wrong so far, except perhaps a start line whose LF hasn't come, or
+    /// a request's URI that no memory
     /// was found to judge.
     More = 1,
     /// The start line isn't of its form (RFC 3507, section 4.3).
@@ -29,7 +30,7 @@ pub enum HeadFault {
     Version = 3,
     /// One of the first 101 field lines is such that no continuation makes a head.
     Field = 4,
-    /// The head doesn't end within the first 16,384 bytes.
+    /// The head doesn't end within the first 16,384 bytes. Any other fault in these bytes, `TooMany` too, comes before this one.
     TooLong = 5,
     /// The head has more than 100 fields: known at the end of the 101st field line, which in a response is known with the
     /// byte after it.

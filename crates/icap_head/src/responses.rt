@@ -42,7 +42,7 @@ impl IcapResponse {
 /// or a space and a phrase; field lines and an empty line (RFC 3507, section 4.3.3; RFC 9112, sections 2,
 /// 4 and 5). A line ends at its LF, and one CR before that is dropped; a phrase has any other bytes.
 ///
-/// A field may go on with lines that begin with a space or a tab: such a line's end is read as spaces (RFC 2616,
+/// A field may go on with lines that begin with a space or a tab: the line end before each is read as spaces (RFC 2616,
 /// section 4.2, whose fields RFC 3507 takes; RFC 9112, section 5.2). The first field begins with its name. So a line
 /// whose end came last is judged with the next byte, and a head is of the length that it has on the wire.
 ///

@@ -10,7 +10,7 @@ use Rattle.proxy_config.specs.declared.carry.TheConstants.{MAX_CARRIED}
 abbrev pub is_field_name : List ℕ → Bool
 is_field_name name = nat_lt 0 (length name) && list_all is_token_byte name
 
--- the proxy writes such a field itself (RFC 3507, sections 4.3.2, 4.5 and 4.6)
+-- the proxy writes such a field itself (RFC 3507, sections 4.3.2 and 4.4 to 4.6)
 abbrev pub is_own : List ℕ → Bool
 is_own name = is_among (codes "Host" ∷ codes "X-Client-IP" ∷ codes "Allow" ∷ codes "Preview" ∷ codes "Encapsulated" ∷ []) name
 
@@ -24,7 +24,7 @@ is_of_connection name =
 abbrev pub may_go : List ℕ → Bool
 may_go name = is_field_name name && not (is_own name) && not (is_of_connection name)
 
--- the name may follow these: they are fewer than eight, and it isn't one of them, ASCII case ignored
+-- the name may follow these: they are fewer than eight, it isn't one of them, ASCII case ignored, and its field may go on
 abbrev pub may_follow : List (List ℕ) → List ℕ → Bool
 may_follow names name = nat_lt (length names) MAX_CARRIED && may_go name && not (is_among names name)
 

@@ -7,7 +7,7 @@ use Rattle.proxy_config.specs.Keys.Kind.{number, truth, address, metrics_address
 use Rattle.proxy_config.specs.declared.config.Config.{Config}
 use Rattle.proxy_config.specs.declared.point.ServicePoint.{ServicePoint}
 
--- both services have the same host, path and number of connections, or both are missing
+-- both services have the same host, address, path and number of connections, or both are missing
 abbrev pub SameService : Option ServicePoint → Option ServicePoint → Type 0
 SameService None None = ⊤
 SameService None (Some other) = ⊥

@@ -112,7 +112,7 @@ size_rows =
     ∷ row (codes "window") (number 1 MAX_WINDOW 8192) (λ c. c.window)
     ∷ []
 
--- what becomes of a message that meets others, and what is told of messages
+-- whether a message is sent again, how long it waits for a connection, and what is told of messages
 abbrev pub message_rows : List Row
 message_rows =
     row (codes "retry") (truth true) (λ c. c.retry)

@@ -23,7 +23,7 @@ abbrev pub IsInOne : List Network → Ipv4Addr → Type 0
 IsInOne [] address = ⊥
 IsInOne (network ∷ networks) address = IsIn network address ⊎ IsInOne networks address
 
--- whoever comes from the address may use the proxy: it is in one of the networks, where there are some to be in
+-- whoever comes from the address may use the proxy: it is in one of the networks, or the key is missing; an empty list lets nobody in
 abbrev pub MayUse : Option (List Network) → Ipv4Addr → Type 0
 MayUse None address = ⊤
 MayUse (Some networks) address = IsInOne networks address

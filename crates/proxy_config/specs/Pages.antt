@@ -18,6 +18,6 @@ page_of pages status =
 abbrev pub is_own : ℕ → Bool
 is_own status = list_any (λ own. own == status) OWN_STATUSES
 
--- the page of a status after the page of another one was set
+-- the page of a status after a page was set, of this status or of another one
 abbrev pub page_after : Pages → ℕ → List ℕ → ℕ → Option (List ℕ)
 page_after pages set page status = if is_own set && (status == set) then Some page else page_of pages status

@@ -23,7 +23,7 @@ abbrev pub is_path_text : List ℕ → Bool
 is_path_text path =
     nat_le (length path) MAX_PATH && starts_with nat_eq path (codes "/") && not (list_any (λ byte. byte == 35) path)
 
--- a path, and a query if there is one, that a URI may have (RFC 3986, section 3.3)
+-- a path, and a query if there is one, that a URI may have (RFC 3986, sections 3.3 and 3.4)
 pub record IsServicePath (path : List ℕ) : Type 0 where
   pub is_text : IsTrue (is_path_text path)
   pub uri : Target

@@ -45,7 +45,7 @@ fn same_dial(a: Dial, b: Dial) -> bool
     )
 }
 
-/// Whether two lists have the same names.
+/// Whether two lists have the same names, in the same order.
 fn same_names(a: &[String], b: &[String]) -> bool
     ensures { IsTrue result ↔ (map string_bytes a.now ≡ map string_bytes b.now) }
 {

@@ -66,15 +66,17 @@ pub struct Config {
     pub log_query: bool,
     /// Where the counters are asked for over HTTP; none where they aren't served so.
     pub metrics: Option<SocketAddrV4>,
-    /// The networks that users may come from; none where they may come from everywhere.
+    /// The networks that users may come from; `None` where they may come from everywhere, while an empty list lets nobody in.
     pub users: Option<Vec<Network>>,
-    /// The networks to which no request goes.
+    /// The networks to which no request goes, by the address that its target, `hosts` or the hosts file gives. The parent's own address
+    /// isn't judged.
     pub denied: Vec<Network>,
     /// The most connections of one address of users at once: 0 to 4,096; 0 where there is no such limit.
     pub user_connections: u64,
     /// Whether each message that is offered to a service says its user's address.
     pub client_ip: bool,
-    /// The names of the fields of the answer to a request that go on with the response to it, to its service: at most eight.
+    /// The names, at most eight, of the ICAP fields that go from the last answer of the service of requests to the service of responses, in
+    /// the same exchange.
     pub carry: Vec<String>,
     /// Whether each user's connection begins with a header of the PROXY protocol, which says where it comes from.
     pub proxy_protocol: bool,
@@ -95,7 +97,7 @@ pub struct Config {
     pub options_ttl: u64,
     /// Seconds from the first byte of a request's head to its last: 0 to 3,600; 0 where only silence counts.
     pub head_deadline: u64,
-    /// Seconds in which a connection to an origin or a service is open: 0 to 3,600; 0 where `deadline` holds for it.
+    /// Seconds until an origin or a service must have taken a new connection: 0 to 3,600; 0 where `deadline` holds for it.
     pub connect_deadline: u64,
     /// After how many failures in a row a service is paused: 0 to 1,024; 0 where none is.
     pub service_failures: u64,
@@ -111,7 +113,8 @@ pub struct Config {
     pub reqmod: Option<ServicePoint>,
     /// The service of responses; none where they aren't adapted.
     pub respmod: Option<ServicePoint>,
-    /// The proxy to which each request goes whose host isn't named here; none where it goes to its origin.
+    /// The proxy to which each request goes whose host isn't named here. Where there is none, such a request goes to its origin if the host
+    /// is an IPv4 address, and nowhere if it is a name.
     pub parent: Option<SocketAddrV4>,
     ghost in_range: { IsWithin 1 MAX_SHARDS shards × IsWithin 1 MAX_CAPACITY capacity × IsWithin 1 MAX_ROWS rows
         × IsWithin 1 65536 journal × IsWithin 1 3600 deadline × IsWithin 0 MAX_PREVIEW preview_limit

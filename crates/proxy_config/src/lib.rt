@@ -1,6 +1,6 @@
 //! The configuration of `adaptproxy serve`: TOML text in, checked values out.
 //!
-//! Each key has one kind of value, a range, and mostly a default. The first fault in the order of [`Config`]'s keys is
+//! Each key has one kind of value, a number also a range, and most have a default. The first fault in the order of [`Config`]'s keys is
 //! answered; keys that nothing here has come last, in the order of their bytes.
 //!
 //! It stands above the bank, which says how large a budget may be.

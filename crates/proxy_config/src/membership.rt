@@ -42,7 +42,7 @@ pub fn is_in(networks: &[Network], address: Ipv4Addr) -> bool
     false
 }
 
-/// Whether users may come from an address: from each, where no networks are said.
+/// Whether users may come from an address: from each where the key is missing, from none where its list is empty.
 pub fn may_use(users: &Option<Vec<Network>>, address: Ipv4Addr) -> bool
     ensures { IsTrue result ↔ MayUse (option_map (λ networks. networks.items) users.now) address }
 {

@@ -10,7 +10,7 @@ pub const OWN_STATUSES: [u16; 5] = [400, 501, 502, 503, 504];
 /// The most bytes of a page.
 pub const MAX_PAGE: usize = 16_384;
 
-/// The pages of refusals, each the body that a refusal of one status has in place of its plain text.
+/// The pages of refusals, each the body that a refusal of one status has; without a page it has no body.
 #[derive(Drop)]
 pub struct Pages {
     bad_request: Option<Vec<u8>>,

@@ -60,7 +60,7 @@ fn is_proxy(table: &Table, address: SocketAddrV4) -> bool
         || reaches_key(table, "metrics", address)
 }
 
-/// Reads where the parent is, if there is one. The proxy itself is none.
+/// Reads where the parent is, if there is one. A parent that is the proxy itself is a fault.
 pub(crate) fn read_parent(alloc: Global, table: &Table) -> Result<Option<SocketAddrV4>, ConfigFault>
     requires { IsNext (codes "parent") parent_proxy (table_view table.now) }
     ensures ok { IfOk result (IsParent (table_view table.now)) }

@@ -14,7 +14,8 @@ fn is_same_machine(to: Ipv4Addr, on: Ipv4Addr) -> bool
         || (to.is_loopback() && (on.is_loopback() || on.is_unspecified()))
 }
 
-/// Whether a connection to an address comes to a listener.
+/// Whether a connection to an address comes to a listener, as far as the two tell: of one on 0.0.0.0 the machine's further addresses
+/// aren't known.
 pub fn reaches(to: SocketAddrV4, listener: SocketAddrV4) -> bool
     ensures { IsTrue result ↔ Reaches to listener }
 {

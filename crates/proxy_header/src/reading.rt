@@ -66,10 +66,11 @@ fn is_cut_front(bytes: &[u8]) -> bool
 
 /// Reads the header that a connection begins with, of its first bytes.
 ///
-/// A line is judged once its end has come, and a block of addresses once all of it is there.
+/// A line is judged once its end has come, and a block of addresses once all of it is there. One that is too long
+/// is a fault before that.
 ///
 /// ```
-/// let header = Header { from: Some(Ipv4Addr::new(192, 0, 2, 7)), length: 48 };
+/// let header = Header { from: Some(Ipv4Addr::new(192, 0, 2, 7)), length: 46 };
 /// let bytes = b"PROXY TCP4 192.0.2.7 198.51.100.1 56324 3128\r\nGET";
 /// assert_eq!(rt; read(bytes), Reading::Whole(header));
 /// assert_eq!(rt; read(b"PROXY TCP4 192.0"), Reading::Partial);

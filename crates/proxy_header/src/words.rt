@@ -43,7 +43,7 @@ fn ip_in(text: &[u8]) -> Option<Ipv4Addr>
     }
 }
 
-/// Whether a text is the digit 0, or begins with another byte.
+/// Whether a text is the digit 0, or doesn't begin with it.
 fn has_no_leading_zero(text: &[u8]) -> bool
     ensures yes { IsTrue result → HasNoLeadingZero text.now }
     ensures no { IsFalse result → HasNoLeadingZero text.now → ⊥ }

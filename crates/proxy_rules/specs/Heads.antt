@@ -73,7 +73,7 @@ MakesNoneOf source user origin (Some text) false has_body cause =
     (cause ≡ causes.Memory) ⊎ ((cause ≡ causes.Service) × NoAdaptedRequest text)
     ⊎ ((cause ≡ causes.NextHop) × IsUnfit user origin (part_of has_body) (IsAdaptedRequest text))
 
--- why no head is made: that of the user or that of the chosen message wasn't read
+-- why no head is made: the head of the user's request wasn't read; or it was, and none is made of the chosen message
 abbrev pub MakesNone : OriginWay → Option SourceSide → SourceHead → Seen → Option (List ℕ) → Bool → Cause → Type 0
 MakesNone origin user source x adapted is_response cause =
     ((cause ≡ causes.Source) × (request_of (user_head user source) ≡ None))

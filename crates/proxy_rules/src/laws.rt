@@ -1,5 +1,5 @@
 //! What holds of every head that goes on, and of every transaction. Each law is the contract of a function that does nothing, but for the
-//! one from the beginning on: it begins a transaction, and takes its turns.
+//! two from the beginning on: they begin a transaction, and take its turns or make calls of it.
 
 ghost use Rattle.std.specs.Prelude.{◌≡◌, ◌≤◌, ◌+◌, ◌++◌, ◌↔◌, ℕ, Bool, List, [], length, Option, is_some, true, false, codes, IsOk, IfOk, IfErr};
 ghost use Rattle.span_bank.specs.declared.limits.TheConstants.{MAX_CAPACITY};
@@ -59,7 +59,8 @@ pub fn says_close_where_it_ends()
 {}
 
 /// Why no head of a chosen message could be made lies with a side or with memory: it is never the deadline, and never a stop. So of a
-/// transaction of the proxy's own sides only a turn at its deadline fails it as Deadline, and only `halt` as Stopping.
+/// transaction of the proxy's own sides only a turn at its deadline fails it as Deadline, and only `halt` as Stopping,
+/// but for `fail_unretried`, which fails it for the cause that it is given.
 pub fn a_missing_head_is_of_a_side()
     ensures deadline { (origin : AnyWay) (user : Option UserSide) (source : SourceHead) (x : Seen) (adapted : Option (List ℕ)) (is_response : Bool)
         → MakesNone origin user source x adapted is_response Deadline → ⊥ }

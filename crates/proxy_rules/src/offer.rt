@@ -68,7 +68,7 @@ fn previews_nothing(plan: &Plan) -> bool
 impl Offer {
     /// An offer of a message by this plan to the service at this host, port and path, with these encapsulated heads. The service is told
     /// the user's address `from`, where there is one, and the field lines `carried`. Under Plain it has no side. `None` for a preview of a
-    /// body that is known to be empty, or heads of `COUNT_LIMIT` bytes and more.
+    /// body that is known to be empty. `Err` where no memory was found, or the heads together have `COUNT_LIMIT` bytes or more.
     pub fn new(
         alloc: Global,
         plan: Plan,

@@ -1,4 +1,4 @@
-//! The connections to a service (RFC 3507, sections 4.10.2 and 4.10.3).
+//! The connections to a service (RFC 3507, sections 4.3.1 and 4.10.2).
 
 ghost use Rattle.std.specs.Prelude.{◌≡◌, ◌≤◌, option_copied, option_and_then};
 ghost use Rattle.adapt_bytes.specs.declared.limits.TheConstants.{MAX_CONNECTIONS};

@@ -86,7 +86,8 @@ fn service_end<W>(side: Option<ServiceSide>, wire: Option<W>) -> Option<ServiceE
 /// source's wire the bytes were read that the head was found in, and nothing else went over a wire. No side has a fault.
 ///
 /// Everything comes back where the offer is of another kind of message, or of one of another length than the source's head says;
-/// where no head was read; and where a connection to the service is missing, or there is one though the message isn't offered.
+/// where no head was read, something of the body was reported before, or the source's side has a fault; and where a connection to the
+/// service is missing, or there is one though the message isn't offered.
 pub fn begin<B: Ledgers, W: Wires>(
     alloc: Global,
     beginning: Beginning<B, W>,

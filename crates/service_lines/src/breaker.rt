@@ -5,7 +5,7 @@ ghost use Rattle.service_lines.specs.Pauses.{is_same as is_one, is_past, is_clos
 
 use crate::queue::Waiter;
 
-/// After how many failures in a row a service is paused, and for how many seconds. It is never where that number is 0.
+/// After how many failures in a row a service is paused, and for how many seconds. `Breakers` never pauses it where `failures` is 0.
 #[derive(Clone, Copy, Drop)]
 pub struct PauseRule {
     pub failures: u64,
@@ -68,7 +68,7 @@ impl Breaker {
         }
     }
 
-    /// Whether messages are refused: the service is paused, or tried.
+    /// Whether the service was paused, and isn't yet known to answer again. The next message may still be let through, to try it.
     pub fn is_paused(&self) -> bool
         ensures { result ≡ not (is_closed self.now.standing) }
     {

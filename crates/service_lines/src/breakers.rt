@@ -91,7 +91,7 @@ impl Breakers {
         }
     }
 
-    /// Whether messages of a point are refused, or one tries its service.
+    /// Whether a point's service was paused, and isn't yet known to answer again. False where no service is ever paused.
     pub fn is_paused<R: Wait>(&self, rt: &R, point: Point) -> bool
         ensures off { self.now.rule.failures ≡ 0 → result ≡ false }
     {

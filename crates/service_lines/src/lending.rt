@@ -137,7 +137,7 @@ impl<'a, E: Edge, Q: Ledger, A: Ledger> Pools<'a, E, Q, A> {
         }
     }
 
-    /// Lends a connection to a point's service, which is there, at this moment, in seconds: an idle one first, and its
+    /// Lends a connection to a point's service, which is there, at the moment of the pass, in seconds: an idle one first, and its
     /// own thread's before another's. It is the turn of the one who gets it, and the service's breaker lets it through.
     fn lend_now<R: Wait, C: Connector<E>>(
         &self,
@@ -163,7 +163,8 @@ impl<'a, E: Edge, Q: Ledger, A: Ledger> Pools<'a, E, Q, A> {
     }
 
     /// Lends a connection to a point's service, which is there, at this moment, in seconds, for a message of this one: an idle one first,
-    /// and this thread's own before another's. One who comes while others wait for theirs gets none, and nobody does while the service is
+    /// and this thread's own before another's. Where exchanges wait, one who comes while others wait gets none.
+    /// Nobody gets one while the service is
     /// paused.
     pub fn lend<R: Wait, C: Connector<E>>(
         &self,

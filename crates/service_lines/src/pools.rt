@@ -21,7 +21,7 @@ use trace_core::Point;
 ///
 /// ```
 /// // An exchange takes a connection, and puts it back once its service has said all.
-/// let connection = pools.lend(rt, &mut connector, Point::Reqmod, now)?;
+/// let connection = pools.lend(rt, &mut connector, Point::Reqmod, place, waiter, now)?;
 /// assert!(rt; !connection.lease.reused());
 /// pools.put(rt, &mut connector, connection, now);
 /// ```

@@ -1,6 +1,7 @@
 //! Exchanges of all threads that wait for a connection to a service, and whose turn it is.
 //!
-//! An exchange that may wait joins the queue of its point. Only the one that is first there may take a connection. Whatever may
+//! An exchange that finds no connection and may wait joins the queue of its point. Of those that wait there, only the first one may
+//! take a connection. Whatever may
 //! make one free calls the first one, and the first one calls the next when it leaves: so none is called in vain for long,
 //! and no connection lies idle while somebody waits.
 
@@ -16,7 +17,7 @@ use std::alloc::{AllocError, Global};
 use std::sync::{Mutex, Wait};
 use trace_core::Point;
 
-/// The points, each with a queue: that of this number.
+/// The points, in the order of the numbers of their queues, from 0.
 pub const POINTS: [Point; 2] = [Point::Reqmod, Point::Respmod];
 
 /// The queues of both points, which all threads share.
@@ -117,6 +118,7 @@ impl<'a, E: Edge> Waiting<'a, E> {
     }
 
     /// The turn of one who waits, or of one who comes, to take a connection: the first one may, or one who comes while nobody waits.
+    /// Where exchanges don't wait, whoever comes may.
     pub(crate) fn turn_of<R: Wait>(&self, rt: &R, point: Point, who: Option<Waiter>) -> Option<Turn>
         ensures { IfSome result (λ turn. (turn.seconds ≡ self.now.seconds) × (turn.who ≡ who)) }
     {

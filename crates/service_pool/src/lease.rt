@@ -42,7 +42,7 @@ impl<L: Ledger> Model for Lease<L> {
 /// The result of a `take` or a `take_preferred`.
 #[must_use]
 pub enum Taken<C, L: Ledger> {
-    /// An idle connection, leased: the one that was put last, or one that is preferred.
+    /// An idle connection, leased: the one that was put last, or the first of those that the test of a `take_preferred` picks.
     Idle(C, Lease<L>),
     /// No connection is idle: the lease of one that the caller may open.
     Fresh(Lease<L>),

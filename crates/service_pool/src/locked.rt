@@ -26,7 +26,7 @@ pub struct Locked<C, L: Ledger> {
     rest: Share<L>,
 }
 
-/// The maximum that the pool of the ledger `L` was set to, under its lock. Only that call makes one.
+/// The maximum that the pool of the ledger `L` was set to, under its lock. Only `set_max` makes one.
 #[derive(Drop)]
 pub struct SetTo<L: Ledger> {
     maximum: u64,

@@ -1,4 +1,4 @@
-//! The pool that threads share: each call takes its one lock, calls one method of the locked part,
+//! The pool that threads share: each call with `rt` takes its one lock, calls one method of the locked part,
 //! and releases the lock.
 ghost use Rattle.std.specs.Prelude.{◌≡◌, ◌≤◌, ◌<◌, false, OnOk, OnErr, IfOk, IfErr, IfSome, vec_len};
 ghost use Rattle.service_pool.specs.Leasing.{Tells, TellsTest};
@@ -103,7 +103,7 @@ impl<C, L: Ledger> Pool<C, L> {
     }
 
     /// Allows a fresh connection in place of a leased one that its service has ended or that failed.
-    /// The caller closes the old one, at the latest once the fresh one is opened. `Over` if more than
+    /// The caller closes the old one before it opens the fresh one. `Over` if more than
     /// the maximum are open; then the lease stays as it is.
     pub fn replace(&self, rt: &impl Wait, lease: &mut Lease<L>) -> Result<(), Over>
         ensures fresh { OnOk result (lease.new ≡ record { reused = false; picked = false }) }

@@ -1,4 +1,4 @@
--- What a plan and a refusal come to.
+-- What each thing that is due comes to.
 use Rattle.std.specs.Prelude.{◌≡◌, ◌⊎◌, ℕ, List, Bool, true, false, ⊤, not, ◌&&◌, ◌||◌, if◌then◌else◌, Option, Some, None, Result, Ok, Err}
 use Rattle.trace_core.specs.declared.history.Point.{Point}
 use Rattle.exchange_core.specs.declared.state.CourseState.{CourseState}
@@ -154,7 +154,7 @@ abbrev pub LeavesQueue : {O : Type 0} → (leaves : O → Point → Type 0) → 
 LeavesQueue {O} leaves old new = (point : Point) → old.phase ≡ InQueue point → is_in_queue new.phase ≡ false
     → is_leased new.connection ≡ false → (later : O) × leaves later point
 
--- it is released
+-- the reservation is closed
 abbrev pub IsReleased : (old new : CourseState) → Type 0
 IsReleased old new = new ≡ after old Released
 

@@ -31,7 +31,7 @@ request_reason _ = BadRequest
 abbrev pub lies_elsewhere : Reason → Bool
 lies_elsewhere reason = dues.lies_elsewhere (cause_of reason)
 
--- a user that ends or breaks off inside its head gets no answer
+-- a user that ends or breaks off before its head is whole gets no answer
 abbrev pub user_head_reason : RelayFault → Option HttpFault → Option Reason
 user_head_reason relay.Head (Some fault) = Some (request_reason fault)
 user_head_reason relay.Head None = Some (request_reason http.Bad)

@@ -20,7 +20,7 @@ Heeds late c (Turned framing) = ⊤
 Heeds late c Unmoved = late ≡ false
 Heeds late c Over = ⊥
 
--- a message's transaction has what it is due for
+-- it is due for a message whose transaction stands
 abbrev pub is_moved : Due → Bool
 is_moved AskGate = true
 is_moved Turn = true

@@ -370,6 +370,6 @@ pub trait Effects<P>: Holder {
     /// The user is refused for this reason, where a refusal goes out at this course.
     fn note_refusal(&self, at: &P, out: &mut Self::Outside, course: &Course, reason: Reason);
 
-    /// An answer ends unfinished because the proxy stops, where it does at this course.
+    /// The exchange ends because the proxy stops, and no refusal goes out, where that is so at this course.
     fn note_stop(at: &P, out: &mut Self::Outside, course: &Course);
 }

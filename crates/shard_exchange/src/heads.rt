@@ -111,7 +111,8 @@ impl<H: Holder> Exchange<H> {
         }
     }
 
-    /// Waits for what is still to come of the next request. A user that says nothing is let go once the proxy drains.
+    /// Waits for what is still to come of the next request. While the proxy drains, a user that has said nothing
+    /// for long enough is let go.
     fn wait_for_request<P>(&mut self, at: &P, out: &mut H::Outside) -> Step
     where
         H: Effects<P>,

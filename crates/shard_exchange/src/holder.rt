@@ -34,7 +34,7 @@ pub trait Holder: InHand {
     // what may have happened on the user's connection so far, where no transaction has it
     ghost user_past: { Self → Past → Type 0 };
 
-    // so may that on which a service was asked for its options and answered this
+    // the connection on which a service was asked for its options may carry another request after this answer
     ghost usable_after: { Self → AnyResponse → Bool };
 
     // what the course is told of the message that moves where nothing else ends it: by how its transaction ended, and whether the course
@@ -66,7 +66,7 @@ pub trait Holder: InHand {
     // the origin's connection has given no byte since it was dialed
     ghost repeats: { Self → Type 0 };
 
-    // what came of it where it was to be the message again: what is held before that and after it
+    // what came of a request that was to be the message again: what is held before that and after it
     ghost withdraws: { Self → Self → AnyWithdrawal → Type 0 };
 
     // a turn at the head of the user's request leads from the one to the other, and brings this

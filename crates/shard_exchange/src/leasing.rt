@@ -57,7 +57,7 @@ impl<H: Holder> Exchange<H> {
         }
     }
 
-    /// Has a message leave the queue whose turn doesn't come: its user is refused.
+    /// Has a message leave the queue without a connection: its user is refused.
     fn refuse_queued<P>(&mut self, at: &P, out: &mut H::Outside, reason: Reason)
     where
         H: Effects<P>,

@@ -1,4 +1,4 @@
-//! Exchanges that end from outside: the user is gone, or the loop.
+//! Exchanges that end from outside: the user is gone, or its seat goes to another user.
 
 ghost use Rattle.std.specs.Prelude.{◌≡◌, true, false};
 ghost use Rattle.exchange_core.specs.declared.due.Due.TheVariants.{GiveBack, HangUp};

@@ -13,7 +13,7 @@ use options_book::OptFault;
 use service_lines::LendFault;
 use span_bank::OpenFault;
 
-/// Why a user is refused whose request's head is.
+/// Why a user is refused whose request's head has this fault.
 pub fn request_reason(fault: HttpFault) -> Reason
     ensures reason { result ≡ request_reason fault }
     ensures suits { lies_in_head (cause_of result) ≡ true }
@@ -25,7 +25,7 @@ pub fn request_reason(fault: HttpFault) -> Reason
     }
 }
 
-/// Why a user is refused whose request has no head. `None` where it ended or broke off inside its head: it gets no answer.
+/// Why a user is refused whose request has no head. `None` where it ended or broke off before its head was whole: it gets no answer.
 pub fn user_head_reason(fault: RelayFault, head: Option<HttpFault>) -> Option<Reason>
     ensures reason { result ≡ user_head_reason fault head }
     ensures suits { IfSome result (λ reason. lies_in_head (cause_of reason) ≡ true) }

@@ -145,7 +145,8 @@ impl<H: Holder> Exchange<H> {
         }
     }
 
-    /// Ends the exchange because the proxy stops. What is held for a user that is to be refused stays until it has its refusal.
+    /// Ends the exchange because the proxy stops. The origin's connection is closed at once. What else is held for a user that is to be
+    /// refused stays until it has its refusal.
     pub(crate) fn halt<P, R: Wait>(&mut self, rt: &R, at: &P, out: &mut H::Outside) -> Step
     where
         H: Effects<P>,

@@ -3,7 +3,7 @@ use Rattle.std.specs.Prelude.{◌≡◌, ⊤, Bool, true, false}
 use Rattle.shard_exchange.specs.declared.answers.Withdrawal.{Withdrawal}
 use Rattle.shard_exchange.specs.declared.answers.Withdrawal.TheVariants.{Again, Heard, NoMemory}
 
--- the request is the message again, where so much was answered; it isn't sent again only if its origin has said something, or memory was
+-- where `Again` was answered, the request is the message again; where it wasn't, its origin has said something, or memory was
 -- wanting
 abbrev pub WithdrawsAs : (again heard : Type 0) → Withdrawal → Type 0
 WithdrawsAs again heard Again = again

@@ -16,6 +16,6 @@ pub record IsSince {U S O M : Type 0} (since : Outset U S O → M → Type 0) (s
   pub given : Option S
   pub stands : since (record s { line = line; given = given }) tx
 
--- of each way in which it may have set out that is so of the one after the other
+-- each way in which the old one may have set out is one in which the new one may have
 abbrev pub Carries : {U S O M : Type 0} → (since : Outset U S O → M → Type 0) → (old new : Option M) → Type 0
 Carries {U} {S} {O} since old new = (s : Outset U S O) → IsSince since s old → IsSince since s new

@@ -102,7 +102,7 @@ impl<O: Kinds> Holdings<O> {
         }
     }
 
-    /// The bytes that are reserved for a message that doesn't move yet; 0 where none are.
+    /// The bytes of the reservation, where no transaction has it; else 0.
     pub fn claim(&self) -> u64
         ensures some { IfSome self.now.room (λ room. result ≡ room.stake.claim) }
         ensures none { self.now.room ≡ None → result ≡ 0 }

@@ -83,7 +83,7 @@ abbrev pub is_cut : {M : Type 0} → Sequel M → Bool
 is_cut (sequels.Failed cause is_old) = is_old
 is_cut _ = false
 
--- so of the side of the user whose request a response answers; it may be lost
+-- this is so of the side of the user whose request a response answers; where that is lost, it isn't so
 abbrev pub IfAsked : {S : Type 0} → (S → Type 0) → Option S → Type 0
 IfAsked p None = ⊥
 IfAsked p (Some user) = p user

@@ -119,7 +119,7 @@ pub record IsStale (service : Option ServicePoint) (book : PointBook) (now : ℕ
 abbrev pub IsAskedFirst : Grounds → Arrival → Type 0
 IsAskedFirst by m = IsStale (service_of by.config (point_of m.user)) by.book by.now by.asked
 
--- a message by what its point's service said: where there is a service, it did say something
+-- a message is offered by what its point's service said: where there is a service, it did say something
 pub record IsOfferBy (service : Option ServicePoint) (said : Option Options) (limits : Limits) (from : Option Ipv4Addr) (carried : List ℕ)
     (heads : Heads) (offer : Offered) : Type 0 where
   pub offer_is : IsOffer service said limits from carried heads offer

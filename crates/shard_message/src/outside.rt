@@ -59,7 +59,7 @@ pub struct MessageEnd<'m> {
     pub service_fault: Option<ClientFault>,
     /// Whether nothing went over the service's connection, where it was still held.
     pub service_is_fresh: bool,
-    /// Whether nothing went over the connection to the next hop.
+    /// Whether nothing went over the connection to the next hop: over an origin's since it was dialed.
     pub next_is_fresh: bool,
     /// What the service said that it found in the message, where there was one.
     pub found: Option<Found<'m>>,
@@ -300,13 +300,14 @@ pub trait Noting<P>: Kinds {
     fn note_response(&mut self, at: &P, response: &Incoming)
         ensures { begins self.old self.new at.now };
 
-    /// The connection there is opened.
+    /// The connection by this route is there: one was opened, or one that was kept was taken.
     fn note_route(&mut self, at: &P, route: Route);
 
     /// The request is begun anew: the connection that it went out on, which was kept, has ended.
     fn note_anew(&mut self, at: &P);
 
-    /// The service said no options that serve: its connection failed for this, or `None` where it said something else. `is_fresh`:
+    /// The service's options aren't kept: its connection failed for this, or `None` where it said something else, or no memory was
+    /// found. `is_fresh`:
     /// nothing went over its connection.
     fn blame_service(&mut self, at: &P, fault: Option<ClientFault>, is_fresh: bool);
 
@@ -328,7 +329,7 @@ pub trait Noting<P>: Kinds {
     /// The transaction of a message is over.
     fn note_end(&mut self, at: &P, user: &Self::User, end: MessageEnd<'_>);
 
-    /// The answer ends unfinished because the proxy stops.
+    /// The exchange ends because the proxy stops, and no refusal goes out: an answer that is out ends unfinished.
     fn note_stop(&mut self, at: &P);
 }
 

@@ -36,7 +36,7 @@ use wire_kit::Wire;
 #[must_use]
 pub struct Settled<O: Kinds, M> {
     pub remains: Remains<O>,
-    /// The message that comes next: the response to the request, or the user's next request.
+    /// The message that comes next: the response to the request, the user's next request, or the request again that was withdrawn.
     pub message: Option<Box<M>>,
     pub report: Report,
 }
@@ -146,7 +146,7 @@ fn give_account<P, O: Outside<P>, V: Served>(
     }
 }
 
-/// Says to the user that what it got isn't whole, where that is so, and has the surroundings take note of a refusal for want of
+/// Cuts off a user that is to see that what it got isn't whole, and has the surroundings take note of a refusal for want of
 /// memory.
 fn warn<P, O: Outside<P>>(at: &P, out: &mut O, user: &O::User, report: Report) {
     if report.cuts {
@@ -212,7 +212,7 @@ fn settled_of<O: Kinds, M: Drop>(
     }
 }
 
-/// Takes a request's transaction apart: the origin's response comes next, unless the user has got an answer. The origin's connection had given
+/// Takes a request's transaction apart: the response comes next where the origin has the whole request. The origin's connection had given
 /// and taken so many bytes before, when it was dialed.
 pub(crate) fn settle_request<
     P,
@@ -291,7 +291,7 @@ where
     settled_of(stake, out.limits(), connections, sequel, by, report)
 }
 
-/// Takes a response's transaction apart: the user has got an answer.
+/// Takes a response's transaction apart: the user's next request comes next, where its connection carries one.
 pub(crate) fn settle_response<
     P,
     O: Outside<P>,

@@ -56,7 +56,7 @@ impl Served for ServiceSide {
 
 /// A user's side, whose request was read.
 pub(crate) trait Asked: Source + Drop {
-    /// The message that comes after it: the user's next request, or the response to this one.
+    /// The message that comes after it: the user's next request, the response to this one, or this one again.
     type Message: Drop;
 
     // the user's connection carries a further request after an answer with this outcome, whose head said or not that it closes

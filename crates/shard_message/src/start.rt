@@ -30,7 +30,8 @@ fn pace_of<P, O: Outside<P>>(at: &P, out: &O, state: CourseState) -> Pace
     Pace::new(deadline, out.now(at), state.connection.is_reused())
 }
 
-/// The use of an origin's connection: of one that was kept, or of a fresh one where none is kept, or where users are let go.
+/// The use of an origin's connection: it was kept; or it is closed after its answer, where none is kept or users are let go; or
+/// else it may carry further requests.
 fn use_of(kept: bool, keeps_none: bool, draining: bool) -> OriginUse
     ensures { IsUse kept (keeps_none || draining) result }
 {
@@ -45,7 +46,8 @@ fn use_of(kept: bool, keeps_none: bool, draining: bool) -> OriginUse
     }
 }
 
-/// The use of the origin's connection that a request goes out on in this state of its course. Where none is kept, or the proxy lets its users go, each is
+/// The use of the origin's connection that a request goes out on in this state of its course.
+/// Where none is kept, or the proxy lets its users go, a fresh one is
 /// closed after its answer.
 fn origin_use<P, O: Outside<P>>(out: &O, state: CourseState) -> OriginUse
     ensures { IsUseOf (O.config_is out.now) state result }

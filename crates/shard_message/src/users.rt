@@ -60,7 +60,7 @@ pub fn leave_queue<P, O: Outside<P>>(at: &P, out: &mut O, course: &Course)
     }
 }
 
-/// Takes note that an answer ends unfinished, where it does.
+/// Takes note that an exchange ends at a stop, where no refusal goes out.
 pub fn note_stopped<P, O: Outside<P>>(at: &P, out: &mut O, course: &Course) {
     if course.state().phase == Phase::Gone {
         out.note_stop(at);

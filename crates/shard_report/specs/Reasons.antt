@@ -33,7 +33,7 @@ next_hop_owes s = if is_plain s.plan.kind || s.no_mod then nat_lt s.original_del
 abbrev pub service_is_done : Seen → Bool
 service_is_done s = is_plain s.plan.kind || s.no_mod || s.adapted_over
 
--- the original hasn't ended, and all that came of it is with the service, which waits for more; or the service is done
+-- the original hasn't ended; and the service is done, or it has all that came of the original, and waits for more
 abbrev pub source_owes : Seen → Bool
 source_owes s = not s.ended && (service_is_done s || (not s.last_stop && s.sent == s.received))
 

@@ -19,7 +19,7 @@ pub struct StopAudit {
 pub enum ProxyFault {
     /// A poll of the system can't be had.
     System,
-    /// The system fails a loop while it serves: its poll, or its clock.
+    /// The system fails a loop while it serves: its poll or its clock, or the thread of another loop doesn't begin.
     Loop,
     /// A reservation or a lease is missing.
     Missing,

@@ -236,7 +236,7 @@ impl Notes {
         }
     }
 
-    /// The request is begun anew: it went nowhere yet, and no service has seen it.
+    /// The request is begun anew: from now on it is noted as one that went nowhere yet, and that no service has seen.
     pub fn withdraw(&mut self, key: usize) {
         if let Some(note) = self.notes.get_mut(key) {
             note.point = Point::Reqmod;

@@ -8,7 +8,7 @@ use std::alloc::{AllocError, Global};
 use std::fs::File;
 use std::io::{ErrorKind, Write};
 
-/// How often a write that a signal breaks off is made again.
+/// How often a write is made at most, where a signal breaks it off each time.
 const CALLS: u32 = 16;
 
 /// Writes once: how many bytes were taken.

@@ -44,7 +44,7 @@ pub trait Calls {
     fn hurry(&self) -> io::Result<()>;
 }
 
-/// Reads once, however often a signal breaks the call off: no further event would report bytes that lie there.
+/// Reads once. A call that a signal breaks off is made anew, `CALLS` times at most: no further event would report bytes that lie there.
 pub(crate) fn ask_once<S: Calls>(stream: &mut S, buf: &mut [u8]) -> io::Result<usize>
     ensures bound { ReadsAtMost result buf.new }
     ensures calls { (p : Past) → S.calls stream.old p → S.calls stream.new (after_ask p buf.new (got_in result)) }
@@ -58,7 +58,7 @@ pub(crate) fn ask_once<S: Calls>(stream: &mut S, buf: &mut [u8]) -> io::Result<u
     stream.ask(buf)
 }
 
-/// Offers bytes once, however often a signal breaks the call off.
+/// Offers bytes once. A call that a signal breaks off is made anew, `CALLS` times at most.
 pub(crate) fn offer_once<S: Calls>(stream: &mut S, bytes: &[u8]) -> io::Result<usize>
     ensures bound { WritesAtMost result bytes.now }
     ensures calls { (p : Past) → S.calls stream.old p → S.calls stream.new (after_offer p bytes.now (put_in result)) }

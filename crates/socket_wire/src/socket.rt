@@ -210,7 +210,8 @@ impl<S: Calls> StreamWire<S> {
         stream
     }
 
-    /// Whether the last read found the end of what was there, and no event has said since that more came. The system isn't
+    /// Whether the last read found the end of what was there, no event has said since that more came, and none at any
+    /// time that the other side has ended its bytes or that the connection has failed. The system isn't
     /// asked.
     pub fn is_read_out(&self) -> bool {
         !self.ready.can_read() && !self.ready.is_closed()

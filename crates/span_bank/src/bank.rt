@@ -1,5 +1,5 @@
 //! The budget, shared by threads. A call with `rt` takes the lock, calls one method of the locked
-//! part, and releases the lock.
+//! part, and releases the lock; `set_capacity` does so until no page is missing.
 ghost use Rattle.std.specs.Prelude.{◌≡◌, ◌+◌, ◌-◌, ◌≤◌, ◌<◌, ℕ, Err, IfOk, IfErr, IfSome, vec_len};
 ghost use Rattle.span_bank.specs.declared.limits.TheConstants.{MAX_CAPACITY, MAX_ROWS};
 ghost use Rattle.span_bank.specs.declared.step.CapacityFault.TheVariants.{TooLow};
@@ -21,7 +21,8 @@ pub type Book = Numbers;
 /// The buffer budget of all transactions, which threads share by reference.
 ///
 /// `B` names its ledgers, which are picked once for each bank, so its calls accept no stake of another
-/// bank. A call with `rt` takes the lock, calls one method of the locked part, and releases the lock.
+/// bank. A call with `rt` takes the lock, calls one method of the locked part, and releases the lock;
+/// `set_capacity` does so until no page is missing.
 ///
 /// ```
 /// let bank: Bank<B> = Bank::new(alloc, blanks, 8192, 2, 16)?;
@@ -116,7 +117,7 @@ impl<B: Ledgers> Bank<B> {
         self.locked.lock(rt).close(stake, pages)
     }
 
-    /// The pages of all reservations, and those in use.
+    /// All pages of the bank, and those of them in use.
     pub fn store(&self, rt: &impl Wait) -> Store
         ensures { result.used ≤ result.total }
     {

@@ -12,7 +12,7 @@ use std::mem;
 /// The largest number of pages of a chain.
 pub const MAX_PAGES: u64 = 1 << 40;
 
-/// A page, with the pages after it. Between calls no page has another after it.
+/// A page, with the pages after it. A page that is in no chain has none after it.
 #[cycle(chain)]
 #[derive(Drop)]
 pub struct Page {

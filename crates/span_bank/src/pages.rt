@@ -7,7 +7,7 @@ use std::alloc::Global;
 use std::boxed::Box;
 use std::marker::Model;
 
-/// Pages that aren't in use. Contracts see their number.
+/// Pages whose contents don't matter. Contracts see only their number.
 #[derive(Drop)]
 pub struct Pages {
     chain: Chain,
@@ -22,7 +22,7 @@ impl Model for Pages {
 }
 
 impl Pages {
-    /// An empty chain.
+    /// No page.
     pub fn none() -> Pages
         ensures { result ≡ 0 }
     {
@@ -68,7 +68,7 @@ impl Pages {
         self.chain.pop()
     }
 
-    /// Adds the pages of another chain.
+    /// Adds these pages.
     pub fn join(&mut self, other: Pages)
         requires { self.old + other ≤ MAX_PAGES }
         ensures { self.new ≡ self.old + other }

@@ -12,7 +12,7 @@ use std::boxed::Box;
 use std::marker::Model;
 use std::mem;
 
-/// Pages in order, with the first and the last at hand.
+/// Pages in order. The last one is at hand, and the first one is unless all lie last to first.
 ///
 /// The first pages are kept first to last, and the pages after them last to first; if there is a
 /// page, the last one is among the latter. A page is turned over at most once on its way.

@@ -15,7 +15,7 @@ pub const MAX_TAPE: u64 = 1 << 50;
 ///
 /// The bytes are stored on pages, in order. The last page may be partly filled, and a part of the
 /// first may already be dropped. The tape neither allocates nor frees memory: `append` brings pages,
-/// and `drop_to` returns them. Appending, and copying at either end, take the same time whatever the
+/// and `drop_to` returns them. Copying may walk over all its pages. Appending takes the same time whatever the
 /// length of the tape.
 ///
 /// ```

@@ -106,7 +106,7 @@ fn put_byte(out: &mut Vec<u8>, byte: u8) -> Result<(), NoMemory> {
     }
 }
 
-/// Adds a text with what isn't a letter of ASCII escaped.
+/// Adds a text. A backslash is escaped, and so is each byte but those from the space to `~`.
 pub fn put_escaped(out: &mut Vec<u8>, text: &[u8]) -> Result<(), NoMemory> {
     for byte in text {
         put_byte(out, *byte)?;

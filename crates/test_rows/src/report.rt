@@ -20,7 +20,8 @@ fn put_value(out: &mut Vec<u8>, word: &[u8], value: &[u8]) -> Result<(), NoMemor
     out.extend_from_slice(b"\n")
 }
 
-/// Whether a row can be judged: it was read, has no key that the head lacks, and wants something.
+/// Whether a row can be judged: it was read, has a name, no key that the head lacks or that says two things, and wants
+/// something.
 fn is_whole(head: &Row<'_>, row: &Row<'_>) -> bool {
     row.is_readable && row.has(b"name") && row.has(b"want") && row.has_only(head)
 }
@@ -74,7 +75,7 @@ impl Report {
         put_failure(&mut self.lines, head, row, answer)
     }
 
-    /// Says last how many rows there are, and how many aren't good.
+    /// Says last how many rows are good, and how many aren't.
     pub fn finish(&mut self, head: &Row<'_>) -> Result<(), NoMemory> {
         put_counts(&mut self.lines, head.get(b"table"), self.rows, self.bad)
     }

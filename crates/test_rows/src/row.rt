@@ -13,7 +13,7 @@ pub(crate) struct Entry {
 pub struct Row<'a> {
     /// The number of its first line in the file, from 1 on.
     pub line: u64,
-    /// Whether each of its lines is one.
+    /// Whether each of its lines could be read: a key, `:` or `|`, and a text.
     pub is_readable: bool,
     pub(crate) entries: &'a [Entry],
     pub(crate) said: &'a [u8],

@@ -28,7 +28,7 @@ impl<'a> Scene<'a> {
         }
     }
 
-    /// Whether the row or the head says something of a key.
+    /// Whether something is said of a key: by the row where it has the key, and else by the head.
     pub fn has(self, key: &[u8]) -> bool {
         !self.said(key).is_empty()
     }

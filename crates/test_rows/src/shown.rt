@@ -85,7 +85,7 @@ fn put_part(out: &mut Vec<u8>, part: Part<'_>) -> Result<(), NoMemory> {
 }
 
 /// Adds a line of a name and of bytes. If the row lists texts (`texts: a b`), the bytes are named by these; if it says `cut:` and
-/// the name, a prefix of n bytes is named as such. No bytes are named `nothing`, or `first n` if n is 0.
+/// the name, a prefix of n bytes is named as such. No bytes are named `nothing`, but as such a prefix where n is 0.
 pub fn put_text<'a>(
     out: &mut Vec<u8>,
     scene: Scene<'a>,

@@ -11,10 +11,10 @@ use std::alloc::{AllocError as NoMemory, Global};
 struct Mark {
     /// The number of its first line in the file, from 1 on.
     line: u64,
-    /// Its entries, from the first up to the last.
+    /// Its entries: the place of the first, and the place after the last.
     from: usize,
     to: usize,
-    /// Whether each of its lines is one.
+    /// Whether each of its lines could be read: a key, `:` or `|`, and a text.
     is_readable: bool,
 }
 

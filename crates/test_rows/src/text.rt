@@ -27,7 +27,7 @@ struct Reading<'a> {
     part: Option<(usize, u64)>,
 }
 
-/// The value of a hexadecimal digit.
+/// The value of a hexadecimal digit in small letters. `None` for another byte.
 fn hex_digit(byte: u8) -> Option<u8> {
     match byte {
         b'0'..=b'9' => Some(byte - b'0'),

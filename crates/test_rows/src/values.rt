@@ -23,7 +23,7 @@ pub(crate) struct Counts {
     pub(crate) e: usize,
 }
 
-/// The number of decimal digits.
+/// The number that decimal digits write.
 fn decimal(word: &[u8]) -> Option<usize> {
     match number(word) {
         Some(value) => usize::try_from(value).ok(),

@@ -9,7 +9,7 @@ use std::alloc::{AllocError, Global};
 /// The answer to a read.
 #[derive(Clone, Copy)]
 pub enum ReadAnswer {
-    /// At most this many of the remaining bytes; `Wait` if none remain.
+    /// At most this many of the remaining bytes; `Wait` for 0, or if none remain.
     Bytes(usize),
     Ended,
     Wait,

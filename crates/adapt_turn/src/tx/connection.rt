@@ -1,4 +1,4 @@
-//! The service's connection, given up before the transaction ends.
+//! The service's connection, given up once the service's exchange is over, or where it broke.
 
 ghost use Rattle.std.specs.Prelude.{◌≡◌, ℕ, List, true, false, None, Some, IfSome};
 ghost use Rattle.adapt_hold.specs.Holding.{shows};

@@ -127,7 +127,8 @@ impl SourceSide {
 
     /// Reads the message's body. The raw bytes come first; the wire is read once at most, if none of them can be framed and
     /// there is room. The bytes of the body go to the beginning of `out`; the events give their number, and the caller steps them.
-    /// The turn reports the body's end once its framing gives it, even without room, or once the connection was closed in this turn.
+    /// The turn reports the body's end once its framing gives it, even without room, or, where only
+    /// the close ends it, once the connection was closed in this turn.
     ///
     /// A fault stays: every later turn answers it again.
     pub fn read_turn<W: Wire>(
