@@ -1,4 +1,4 @@
-//! The descriptors of the process, and who may have them: users, and idle connections to services.
+//! The descriptors of the process, and who may have them: users, and idle connections to services and origins.
 
 ghost use Rattle.std.specs.Prelude.{◌≡◌, ◌≤◌, ◌<◌, ◌+◌, ◌*◌, ◌↔◌, true, false, ℕ, IfSome};
 ghost use Rattle.event_loop.specs.declared.room.TheConstants.{USER};

@@ -49,7 +49,7 @@ pub struct IcapdConfig {
 /// `deadline`, and then unknown ones in byte order.
 ///
 /// `InputTooLong` for more than [`MAX_INPUT`] bytes; `Config` for a text that is no UTF-8 or no TOML; `Key` with the first
-/// key that is missing and has no default, out of its range, or unknown; `NoMemory` where memory ran out.
+/// key that is missing and has no default, of another kind, out of its range, or unknown; `NoMemory` where memory ran out.
 pub fn read_config(alloc: Global, input: &[u8]) -> Result<IcapdConfig, IcapdError>
     ensures ok { IfOk result (λ config. IsConfig input.now config.listen (shown config.settings) config.deadline) }
     ensures refused { IfErr result (IsRefused input.now) }

@@ -18,7 +18,7 @@ pub enum IcapdError {
     InputTooLong,
     /// The configuration is no TOML, or no UTF-8.
     Config,
-    /// This key of the configuration is missing, unknown or out of its range.
+    /// This key of the configuration is missing, unknown, of another kind or out of its range.
     Key(Key),
     /// The address can't be listened on.
     CannotListen,

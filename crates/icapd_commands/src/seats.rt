@@ -136,7 +136,7 @@ impl ConnectionSeats {
 
     /// The seat whose connection is to end for another: one that has its last answer; or else that which has waited longest
     /// for a request after others; or else, if that is asked for too, for its first one. `None` if a connection is ending
-    /// already, or all are within requests.
+    /// already, or there is none of these.
     pub fn to_end(&self, first_too: bool) -> Option<usize>
         ensures found { IfSome result (IsToEnd self.now.all.items first_too) }
         ensures none { IfNone result (NoneIsToEnd self.now.all.items first_too) }

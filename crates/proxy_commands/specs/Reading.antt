@@ -127,7 +127,7 @@ abbrev pub allow_or : Option (List ℕ) → Bool × Bool → (Bool × Bool) × L
 allow_or None allow other = other
 allow_or (Some rest) allow other = (allow, rest)
 
--- what the request may be answered, and what follows that
+-- whether the request carries `Allow: 204`, whether it may begin anew, and what follows that
 abbrev pub allow_of : List ℕ → (Bool × Bool) × List ℕ
 allow_of text =
     allow_or (behind (codes " allow retry") text) (true, true)
@@ -150,6 +150,6 @@ abbrev pub with_plan : Option (List ℕ) → Option (Kind × (Bool × Bool) × O
 with_plan None = None
 with_plan (Some text) = with_kind (kind_of text)
 
--- the kind, the allowance and the length that a plan's line names
+-- the kind, whether 204 is allowed and whether the request may begin anew, and the length, as a plan's line names them
 unfoldable pub parts_of : List ℕ → Option (Kind × (Bool × Bool) × Option ℕ)
 parts_of text = with_plan (behind (codes "plan ") text)

@@ -3,7 +3,7 @@ use Rattle.std.specs.Prelude.{◌≡◌, ◌≢◌, ◌⊎◌, ℕ, List, [], �
 use Rattle.proxy_commands.specs.declared.task.Task.{Task}
 use Rattle.proxy_commands.specs.declared.task.Task.TheVariants.{Serve, Check, Tell, Probe, Help, Version}
 
--- the word is that of a task that takes no other
+-- the word is that of a task that may stand alone
 abbrev pub IsTaskAlone : List ℕ → Task → Type 0
 IsTaskAlone word Serve = word ≡ codes "serve"
 IsTaskAlone word Check = word ≡ codes "check"

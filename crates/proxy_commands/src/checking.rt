@@ -29,7 +29,8 @@ pub struct Machine<'a> {
     pub memory: &'a [u8],
 }
 
-/// Whether a byte may stand in a host's name (RFC 3986, section 3.2.2). An asterisk may, but matches nothing else here.
+/// Whether a byte may stand in a host's name (RFC 3986, section 3.2.2). Not so an asterisk, which
+/// that section allows: here it stands for no other names.
 fn is_of_name(byte: u8) -> bool {
     byte.is_ascii_alphanumeric() || b"-._~%!$&'()+,;=".contains(&byte)
 }

@@ -16,7 +16,7 @@ pub enum Error {
     ReadFailed,
     /// Standard output couldn't be written.
     WriteFailed,
-    /// Standard input has more bytes than `adapt_bytes::MAX_INPUT`.
+    /// Standard input, or the file of a configuration, has more bytes than `adapt_bytes::MAX_INPUT`.
     InputTooLong,
     /// This line of the script, counted from 1, is the first one of another form.
     Line { number: u64 },

@@ -134,7 +134,7 @@ fn whole_of_source<R: Files>(
     }
 }
 
-/// What is said where a proxy that runs can't take a configuration over: it has a key that can't change, or needs more memory than the
+/// What is said where a proxy that runs can't take a configuration over: a key that can't change differs, or it needs more memory than the
 /// machine has.
 fn refusal<R: Files + AllocGlobal>(
     rt: &R,
@@ -160,8 +160,8 @@ fn refusal<R: Files + AllocGlobal>(
 /// its hosts file has; or what is said of it, without LF, which is empty where no memory was found for that.
 ///
 /// `cannot open` where the source or the hosts file can't be read; `bad line N` for the hosts file; `restart KEY` with the first key
-/// that can't change while the proxy runs; `out of memory` also where the machine hasn't the memory for its pages; else what `check`
-/// says, `config KEY` or `config`.
+/// that differs, and can't while the proxy runs; `out of memory` also where the machine lacks it for the pages; else what `check`
+/// says: `config KEY`, `config` or `input too long`.
 pub fn reload<R: Files + AllocGlobal>(
     rt: &R,
     alloc: Global,

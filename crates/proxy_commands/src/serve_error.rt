@@ -8,7 +8,8 @@ use crate::error::{Error, put};
 use adapt_bytes::{Small, put_decimal};
 use std::io::{self, Write};
 
-/// Why `serve` ends though nobody stopped it, or without its audit, and why `check` and `tell` fail: its line on standard error, and its exit status.
+/// Why `serve` ends though nobody stopped it, or without its audit, and why `check`, `tell` and `probe` fail: its line on
+/// standard error, and its exit status.
 #[derive(Drop)]
 pub enum ServeError {
     /// What any command may end with.

@@ -21,7 +21,7 @@ const MAX_HOSTS_FILE: usize = 67_108_864;
 pub(crate) enum WholeFault {
     /// The text is none.
     Refused(ServeError),
-    /// The hosts file can't be read, or is too long.
+    /// The hosts file can't be read, or is too long; in a reload also: the source can't be read.
     Hosts,
     /// This line of the hosts file, counted from 1, can't be read.
     HostsLine(u64),
@@ -189,7 +189,8 @@ fn error_of_whole(alloc: Global, fault: WholeFault) -> ServeError
 
 /// The configuration that a text says, with the names of its hosts file and the pages of its refusals.
 ///
-/// `KeyLine` with the first line of the hosts file that can't be read; `Key` where that file can't be, or a page can't be, or
+/// `KeyLine` with the first line of the hosts file that can't be read; `Key` where that file can't be or is too long,
+/// or a page can't be, or
 /// is longer than [`MAX_PAGE`]. A page that isn't there is no fault. Else as [`configuration_of`].
 pub fn read_whole<R: Files>(rt: &R, alloc: Global, text: &[u8]) -> Result<Config, ServeError>
     ensures ok { IfOk result (λ config. (count : ℕ) × IsWhole text.now config count) }

@@ -90,7 +90,7 @@ abbrev pub serves_text : Bool → List ℕ
 serves_text true = codes "; serves again\n"
 serves_text false = codes "; doesn't serve again\n"
 
--- over which connection a message went, the case's name, and the size of its body
+-- over which connection a message went, its name, and the size of its body
 unfoldable pub trial_text : ConnectionUse → List ℕ → Option ℕ → List ℕ
 trial_text way name size = (((codes "  " ++ way_text way) ++ codes " ") ++ name) ++ body_text size
 

@@ -1,4 +1,4 @@
--- Bytes from outside, as text in quotation marks.
+-- Bytes from outside, as text in quotation marks or without them.
 use Rattle.std.specs.Prelude.{ℕ, ◌+◌, ◌/◌, ◌%◌, nat_lt, ◌==◌, ◌&&◌, ◌||◌, not, Bool, if◌then◌else◌, List, [], ◌∷◌, ◌++◌}
 
 -- a visible byte of ASCII or a space, and no quote and no backslash

@@ -39,7 +39,7 @@ pub struct Bench<'a, B: Ledgers, R> {
     pub choice: SampleChoice,
 }
 
-/// How many answers came, and how many of them broke a rule.
+/// How many attempts there were, and how many of them brought no answer by the rules.
 #[derive(Clone, Copy)]
 struct Tally {
     all: u64,
@@ -327,7 +327,7 @@ fn print_tally<O: Write>(alloc: Global, tally: Tally, output: &mut O) -> io::Res
 
 /// Tries each configured service, and prints what came. Whether answers came, and all of them were by the rules.
 ///
-/// An error where the output can't be written, or no memory was found for a line or a message.
+/// An error where the output or the clock fails, or no memory was found for a line or a message.
 pub fn probe<B: Ledgers, R: Wait + Net + Dial + Clock, O: Write>(
     bench: &Bench<'_, B, R>,
     output: &mut O,

@@ -39,7 +39,7 @@ pub enum Fault {
     Number,
     /// Of OPTIONS: the list of encapsulated parts is none of its answers (RFC 3507, section 4.4.1).
     Encapsulated,
-    /// This machine has no memory for it, or its clock fails.
+    /// This machine has no memory for it, or its clock or its poll fails.
     System,
 }
 
@@ -123,7 +123,7 @@ pub enum ProbeOutcome {
         continued: bool,
         bytes: u64,
     },
-    /// 200: an answer of another status, which the user gets.
+    /// 200: at REQMOD an answer, at RESPMOD one of another status than 200. The user gets it.
     Page {
         continued: bool,
         status: u16,

@@ -57,7 +57,7 @@ enum Judged {
     Broken(Finding),
 }
 
-/// What no answer was had to.
+/// What is told of an attempt that brought no answer.
 fn untold(attempt: ProbeAttempt) -> OptionsAnswer {
     OptionsAnswer {
         attempt,

@@ -144,7 +144,7 @@ fn serving(serves: bool) -> &'static [u8]
     }
 }
 
-/// Adds over which connection a message went, the case's name, and the size of its body.
+/// Adds over which connection a message went, its name, and the size of its body.
 #[tactic(auto, unfolding(crate::specs::ProbeOutcome::trial_text))]
 fn put_trial(
     out: &mut Vec<u8>,
@@ -173,7 +173,7 @@ fn put_answer(out: &mut Vec<u8>, attempt: &ProbeAttempt) -> Result<(), AllocErro
     out.extend_from_slice(serving(attempt.serves))
 }
 
-/// Adds an attempt's line: over which connection the message went, the case's name, the size of its body, what came, how long it took,
+/// Adds an attempt's line: over which connection the message went, its name, the size of its body, what came, how long it took,
 /// and whether the connection may serve again.
 pub fn put_attempt(
     out: &mut Vec<u8>,

@@ -26,7 +26,7 @@ is_round (Preparing point offered waits) = false
 is_round (AtGate point offered) = false
 is_round _ = true
 
--- a step is one, and so is each of so many bytes that frame a body
+-- a step counts as one, and so do each `FRAMING` bytes that moved in it and are no body's
 abbrev pub weight : Step → ℕ
 weight (steps.Turned framing) = 1 + framing / FRAMING
 weight _ = 1

@@ -1,4 +1,4 @@
--- When the connections of an exchange last moved.
+-- What the seats of a thread say: when connections last moved, what is awaited, whose a seat is and for what, and which lines it has.
 use Rattle.std.specs.Prelude.{◌≡◌, ◌≢◌, ℕ, ◌<◌, ◌-◌, Bool, true, false, nat_lt, Option, Some, None, IsSomeAnd}
 use Rattle.std.specs.declared.net.ipv4_addr.Ipv4Addr.{Ipv4Addr}
 use Rattle.slab.specs.Slab.{get, slab_len}

@@ -178,7 +178,8 @@ impl<S: Shares> Desk<S> {
         self.tell_kept();
     }
 
-    /// The header of the connection under this key is whole: it comes from there, or from where it says itself.
+    /// The header of the connection under this key is whole: it comes from there, or, where the header names no
+    /// address, from its own.
     fn begin_user<R: Wait>(
         &mut self,
         rt: &R,

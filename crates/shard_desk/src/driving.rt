@@ -20,7 +20,7 @@ use std::time::Clock;
 use trace_core::Point;
 use wire_kit::Gate;
 
-/// The most that an exchange does at its connections before others get their turn, in steps that move bodies. Each is one round of a
+/// Once an exchange has done so much at its connections, in steps that move bodies, others get their turn. Each is one round of a
 /// transaction's turns at most.
 const ROUNDS: u64 = 8;
 
@@ -74,7 +74,7 @@ struct Happened {
 impl Happened {
     ghost use Rattle.shard_desk.specs.Driving.{weight};
 
-    /// Whether others should get their turn before a step in this phase, which is one at a connection.
+    /// Whether others should get their turn before a step in this phase. False where that isn't one at a connection.
     fn is_spent(&self, phase: Phase) -> bool
         ensures spent { result ≡ true → ROUNDS ≤ self.now.rounds }
         ensures room { result ≡ false → is_round phase ≡ true → self.now.rounds < ROUNDS }

@@ -13,7 +13,7 @@ pub enum Hearing {
     Begins(Purpose),
     /// There is no seat for its user.
     Full,
-    /// There is none, or no user may come from there: the connection is to be closed.
+    /// What came is no header, or it isn't whole in time, or no user may come from there: the connection is to be closed.
     Ends,
 }
 

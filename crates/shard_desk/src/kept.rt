@@ -168,7 +168,8 @@ impl<C: Rests> IdleConnections<C> {
         self.all.len()
     }
 
-    /// Takes the youngest one that leads to this address and is fit for use. Those that lead there, and are known not to be, are closed.
+    /// Takes the youngest one that leads to this address and is fit for use. Those that lead there, and were passed over since they
+    /// are known not to be, are closed.
     fn take_by(
         &mut self,
         address: SocketAddrV4,
@@ -191,7 +192,7 @@ impl<C: Rests> IdleConnections<C> {
     }
 
     /// Takes the youngest one that leads to this address and is known to be fit for use; where there is none, the youngest of those that were
-    /// laid down just now: the system is asked of it. Those that lead there, and aren't fit, are closed.
+    /// laid down just now: the system is asked of it. Those that lead there, and were passed over since they aren't fit, are closed.
     pub fn take(&mut self, address: SocketAddrV4, at: Moment, seconds: u64) -> Option<C>
         ensures taken { IsTaken (λ idle. C.place idle ≡ Some address) (IsFit C.since C.quiet at.now seconds) (IsUnfit C.since C.loud at.now seconds) (C.unsure at.turn)
             self.old.all.items self.new.all.items result }

@@ -318,7 +318,8 @@ impl Reporter {
     }
 
     /// An exchange that is open is over, when its user had taken so many bytes: it is counted, and its line added to the lines of this
-    /// thread's number. True where the lines of this thread wait for the administrator's loop to write them: half of their room is full.
+    /// thread's number. True where half of their room is full with it, and wasn't before: the administrator's
+    /// loop is to write them.
     pub fn report<R: Wait + Clock>(
         &mut self,
         rt: &R,

@@ -29,7 +29,7 @@ pub struct Seats {
     lines: RegisteredLines,
     most: usize,
     refused: usize,
-    /// How many stays have begun.
+    /// The number that was given last to a stay. One is used up too where a stay goes on.
     stays: u64,
     /// How many users that are served have ended their bytes.
     ended: usize,

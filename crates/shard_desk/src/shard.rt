@@ -35,7 +35,7 @@ enum Serving {
     Full,
     /// Each exchange is the last one of its connection.
     Draining,
-    /// None: all exchanges were ended, but for those that only close.
+    /// None: all exchanges were ended, but for those whose user is still to be refused, or that only close.
     Stopped,
 }
 

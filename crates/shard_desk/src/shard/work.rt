@@ -75,7 +75,7 @@ impl<'a, E: Exchanges + Drop, G: Gate> Work for Shard<'a, E, G> {
         }
     }
 
-    /// Idle connections to services go first, where they keep the user out, and then users that have ended their side, of whichever
+    /// Idle connections go first, where they keep the user out, and then users that have ended their side, of whichever
     /// thread.
     fn make_room<R: Wait + Dial + Clock>(
         &mut self,
