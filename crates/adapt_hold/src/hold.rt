@@ -143,9 +143,8 @@ impl<B: Ledgers> Hold<B> {
         self.store.claim()
     }
 
-    /// How many original bytes may come in one turn: at most a turn's bytes, and within the claim, beside a window for the adapted body
-    /// where one may come. Bytes that
-    /// are dropped need no room.
+    /// How many original bytes may come in one turn: at most a turn's bytes, and within the claim, beside a window for the
+    /// adapted body where one may come. Bytes that are dropped need no room.
     pub fn original_room(&self) -> u64
         ensures room { result ≡ original_room (shows self.now.history) self.now.claim self.now.limits.window self.now.limits.turn }
         ensures tied { IsTied self.now }
@@ -161,9 +160,9 @@ impl<B: Ledgers> Hold<B> {
         adapted_room(&self.state, &self.limits)
     }
 
-    /// Takes In or Ad with its bytes, which are kept. Original bytes are dropped once an adapted message came and the service needs none
-    /// of them any more. A refusal is the
-    /// first fault that stands, and changes nothing. It takes no memory: pages come from the bank.
+    /// Takes In or Ad with its bytes, which are kept. Original bytes are dropped once an adapted message came and the service
+    /// needs none of them any more. A refusal is the first fault that stands, and changes nothing. It takes no memory: pages
+    /// come from the bank.
     pub fn put_in(
         &mut self,
         rt: &impl Wait,

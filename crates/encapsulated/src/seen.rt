@@ -15,8 +15,8 @@ pub(crate) struct Seen {
     body: Option<(BodyPart, u64)>,
 }
 
-/// A row of the RFC's table, or that of OPTIONS requests, for which the table has none:
-/// heads, each of which may be missing, and a body, which may be null-body.
+/// A row of the RFC's table, or that of OPTIONS requests, for which the table has none: heads, each of which may be missing,
+/// and a body, which may be null-body.
 #[derive(Clone, Copy)]
 pub(crate) struct Row {
     pub(crate) req_hdr: bool,

@@ -139,9 +139,8 @@ impl Ports {
         }
     }
 
-    /// Takes in those that have connected, `ACCEPTS` of them at most and as long as there is room, and closes the port: a further user is
-    /// refused by the system. Each loop but that of the number
-    /// `own` is woken for them.
+    /// Takes in those that have connected, `ACCEPTS` of them at most and as long as there is room, and closes the port: a
+    /// further user is refused by the system. Each loop but that of the number `own` is woken for them.
     pub fn close<M: Mail, R: Wait>(&mut self, rt: &R, own: usize, mail: &mut M) {
         let _ = self.accept(rt, own, mail);
         self.users = None;

@@ -21,9 +21,8 @@ pub enum Stay {
 /// How many milliseconds a user that was just taken in has for its first head: it isn't spared within them.
 const YOUNG: u64 = 200;
 
-/// For how many milliseconds a user that was just taken in isn't spared, where this number of so many seats have a head that isn't
-/// whole, of a user that
-/// was just taken in: where these are more than half of all, the oldest of them goes at once.
+/// For how many milliseconds a user that was just taken in isn't spared, where this number of so many seats have a head that
+/// isn't whole. Where these are more than half of all, the oldest of them goes at once.
 pub fn youth_of(heads: usize, seats: usize) -> u64
     ensures { result ≡ youth heads seats }
 {

@@ -123,9 +123,8 @@ pub fn an_origins_connection_is_kept_after_its_answer()
         → (stands is_drain never events ≡ false) × (stands is_stop never events ≡ false) }
 {}
 
-/// A refusal goes only to a user that got no byte of an answer to this request, and nothing or all of the
-/// text that tells it to send its
-/// body. There is at most one, it stays the one that it was, and nothing but the end comes after it, or after a cut.
+/// A refusal goes only to a user that got no byte of an answer to this request, and nothing or all of the text that tells it to
+/// send its body. There is at most one, it stays the one that it was, and nothing but the end comes after it, or after a cut.
 pub fn a_refusal_stands_alone()
     ensures untouched { (events : List Event) → IsLegal events
         → is_refusing (course_of events).phase ≡ true → has_begun events ≡ false }

@@ -15,9 +15,8 @@ pub fn a_value_is_one_word()
     ensures some { (value : List ℕ) → 0 < length (word_of value) }
 {}
 
-/// No two values are written alike, so a line says which it was, up to the most bytes that are written:
-/// a quote is `%22`, and these three bytes are `%2522`. Only the hyphen
-/// stands for none too.
+/// No two values are written alike, so a line says which it was, up to the most bytes that are written: a quote is `%22`, and
+/// these three bytes are `%2522`. Only the hyphen stands for none too.
 pub fn a_word_says_its_value()
     ensures { (value other : List ℕ) → All (λ b. b < 2 ^ 8) value → All (λ b. b < 2 ^ 8) other → 0 < length value → 0 < length other
         → word_of value ≡ word_of other → value ≡ other }

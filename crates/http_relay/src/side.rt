@@ -212,9 +212,8 @@ impl SourceSide {
         !self.is_unread() || !self.raw.is_empty()
     }
 
-    /// Whether a transaction with this plan may begin: the head was read, no fault stands, nothing of the body was reported, and a
-    /// length that the
-    /// plan knows is the framing's.
+    /// Whether a transaction with this plan may begin: the head was read, no fault stands, nothing of the body was reported,
+    /// and a length that the plan knows is the framing's.
     pub fn begins(&self, plan: &Plan) -> bool
         ensures read { result ≡ true → self.now.head ≡ SourceHead.Unread → ⊥ }
         ensures fault { result ≡ true → self.now.fault ≡ None }

@@ -260,10 +260,10 @@ impl<'u, 'm> Forward<'u, 'm> {
     }
 }
 
-/// The head as the next hop gets it. A request goes as HTTP/1.1, to an origin in origin form and to a parent in absolute form, with the
-/// authority of the user's target as its Host. Fields that end at a proxy are dropped, and those that
-/// Connection names, but for Host and Content-Length. It gets
-/// `Connection: close` exactly where it is known by then that the connection ends after it: by `OriginUse`, or by `closes`.
+/// The head as the next hop gets it. A request goes as HTTP/1.1, to an origin in origin form and to a parent in absolute form,
+/// with the authority of the user's target as its Host. Fields that end at a proxy are dropped, and those that Connection
+/// names, but for Host and Content-Length. It gets `Connection: close` exactly where it is known by then that the connection
+/// ends after it: by `OriginUse`, or by `closes`.
 pub fn forward_head(alloc: Global, forward: &Forward<'_, '_>) -> Result<Vec<u8>, AllocError>
     ensures text { IfOk result (λ text. text.items ≡ forwarded forward.now) }
 

@@ -39,6 +39,7 @@ pub(crate) fn read_fields(
     }
 }
 
+/// The same, with a place for each field that a head may have.
 fn read_many(
     alloc: Global,
     seen: &[u8],
@@ -58,7 +59,7 @@ fn read_many(
     }
 }
 
-/// The same, unless there are more fields than places.
+/// The same with these places, unless there are more fields.
 #[tactic(auto, using(crate::proofs::FieldFaults::no_fields))]
 fn read_within(
     alloc: Global,

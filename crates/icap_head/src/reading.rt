@@ -20,9 +20,8 @@ pub struct Head<T> {
 /// don't change it, as long as memory is found for a request's URI.
 #[derive(Clone, Copy, Debug)]
 pub enum HeadFault {
-    /// The head isn't complete yet, and nothing in it is wrong so far, except perhaps a start line whose LF hasn't come, or
-    /// a request's URI that no memory
-    /// was found to judge.
+    /// The head isn't complete yet, and nothing in it is wrong so far, except perhaps a start line whose LF hasn't come, or a
+    /// request's URI that no memory was found to judge.
     More = 1,
     /// The start line isn't of its form (RFC 3507, section 4.3).
     StartLine = 2,

@@ -59,11 +59,11 @@ impl Record {
         }
     }
 
-    /// Whether the record is fresh at the time `now`, in seconds: fewer seconds than Options-TTL have passed since it
-    /// was read, and `last_tag`, the last ISTag that an answer of the service had, if any, is the record's. A record that
-    /// another tag made stale is fresh again once the last tag is its own. Without Options-TTL the default
-    /// counts ([`Record::set_default_ttl`]); without that too a record never expires.
-    /// A time before the reading counts as the time of the reading.
+    /// Whether the record is fresh at the time `now`, in seconds: fewer seconds than Options-TTL have passed since it was read,
+    /// and `last_tag`, the last ISTag that an answer of the service had, if any, is the record's. A record that another tag
+    /// made stale is fresh again once the last tag is its own. Without Options-TTL the default counts
+    /// ([`Record::set_default_ttl`]); without that too a record never expires. A time before the reading counts as the time of
+    /// the reading.
     pub fn is_fresh(&self, now: u64, last_tag: Option<&[u8]>) -> bool
         ensures { IsTrue result ↔ IsFresh self.now now (option_copied last_tag.entry) }
     {

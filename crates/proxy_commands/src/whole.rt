@@ -189,9 +189,8 @@ fn error_of_whole(alloc: Global, fault: WholeFault) -> ServeError
 
 /// The configuration that a text says, with the names of its hosts file and the pages of its refusals.
 ///
-/// `KeyLine` with the first line of the hosts file that can't be read; `Key` where that file can't be or is too long,
-/// or a page can't be, or
-/// is longer than [`MAX_PAGE`]. A page that isn't there is no fault. Else as [`configuration_of`].
+/// `KeyLine` with the first line of the hosts file that can't be read; `Key` where that file can't be or is too long, or a page
+/// can't be, or is longer than [`MAX_PAGE`]. A page that isn't there is no fault. Else as [`configuration_of`].
 pub fn read_whole<R: Files>(rt: &R, alloc: Global, text: &[u8]) -> Result<Config, ServeError>
     ensures ok { IfOk result (λ config. (count : ℕ) × IsWhole text.now config count) }
     ensures err { IfErr result (IsRefused text.now) }

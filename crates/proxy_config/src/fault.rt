@@ -12,9 +12,8 @@ use std::alloc::{AllocError, Global};
 pub enum ConfigFault {
     /// The text is no UTF-8, or no TOML document.
     Text,
-    /// The value of this key is missing, of another kind, out of range, or at odds with another key; or the key repeats a host name, or
-    /// no such key is known. A key of a table is
-    /// written after the table's name and a dot.
+    /// The value of this key is missing, of another kind, out of range, or at odds with another key; or the key repeats a host
+    /// name, or no such key is known. A key of a table is written after the table's name and a dot.
     Key(String),
     /// No memory was found for the configuration, or for the key's text.
     NoMemory,

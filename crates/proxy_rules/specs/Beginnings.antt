@@ -8,9 +8,8 @@ use Rattle.icap_client.specs.Turns.{Service}
 use Rattle.proxy_rules.specs.Arrivals.{Arrival, point_of}
 use Rattle.proxy_rules.specs.Offers.{Offered}
 
--- the offer is of a message of this kind, whose head was read, of whose body nothing was reported, whose side has no fault, and which
--- has the length that the plan
--- knows; a connection to the service is there exactly where the message is offered
+-- the offer is of a message of this kind, whose head was read, of whose body nothing was reported, whose side has no fault, and
+-- which has the length that the plan knows; a connection to the service is there exactly where the message is offered
 pub record MayBegin (m : Arrival) (o : Offered) (connected : Bool) : Type 0 where
   pub point : point_of m.user ≡ o.plan.point
   pub line : is_some o.side ≡ connected

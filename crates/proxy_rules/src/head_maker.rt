@@ -98,9 +98,8 @@ impl HeadMaker {
         !self.last && read
     }
 
-    /// The head of the chosen message: of the original, or of what a service made, where its head is given. On a connection that was kept
-    /// no
-    /// head is made of a request that may not be sent again: then the fault is the next hop's.
+    /// The head of the chosen message: of the original, or of what a service made, where its head is given. On a connection
+    /// that was kept no head is made of a request that may not be sent again: then the fault is the next hop's.
     pub fn make(
         &self,
         alloc: Global,

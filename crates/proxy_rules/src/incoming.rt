@@ -212,9 +212,8 @@ impl Incoming {
         self.side.raw()
     }
 
-    /// Whether a transaction of this plan may begin: the head was read, the side has no fault, nothing of the body was reported,
-    /// and a length that the plan
-    /// knows is the framing's.
+    /// Whether a transaction of this plan may begin: the head was read, the side has no fault, nothing of the body was
+    /// reported, and a length that the plan knows is the framing's.
     pub(crate) fn begins(&self, plan: &Plan) -> bool
         ensures { result ≡ true ↔ (self.now.side.head ≡ SourceHead.Unread → ⊥) × (self.now.side.fault ≡ None) × Agrees (seen plan.now []) self.now.side.body }
     {

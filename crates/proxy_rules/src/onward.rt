@@ -84,9 +84,8 @@ fn onward(alloc: Global, forward: &Forward<'_, '_>) -> Result<Headed, Cause>
     }
 }
 
-/// The head of a request, for the origin of the user's target, or for the parent. On a connection that was kept only a request that may
-/// be sent again goes
-/// out: for another one the fault is the next hop's, and nothing was written.
+/// The head of a request, for the origin of the user's target, or for the parent. On a connection that was kept only a request
+/// that may be sent again goes out: for another one the fault is the next hop's, and nothing was written.
 pub(crate) fn request_onward(
     alloc: Global,
     asked: Asked<'_>,

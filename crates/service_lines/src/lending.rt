@@ -162,10 +162,9 @@ impl<'a, E: Edge, Q: Ledger, A: Ledger> Pools<'a, E, Q, A> {
         self.lend_found(rt, connector, place, found)
     }
 
-    /// Lends a connection to a point's service, which is there, at this moment, in seconds, for a message of this one: an idle one first,
-    /// and this thread's own before another's. Where exchanges wait, one who comes while others wait gets none.
-    /// Nobody gets one while the service is
-    /// paused.
+    /// Lends a connection to a point's service, which is there, at this moment, in seconds, for a message of this one: an idle
+    /// one first, and this thread's own before another's. Where exchanges wait, one who comes while others wait gets none.
+    /// Nobody gets one while the service is paused.
     pub fn lend<R: Wait, C: Connector<E>>(
         &self,
         rt: &R,

@@ -1,9 +1,8 @@
 //! Exchanges of all threads that wait for a connection to a service, and whose turn it is.
 //!
-//! An exchange that finds no connection and may wait joins the queue of its point. Of those that wait there, only the first one may
-//! take a connection. Whatever may
-//! make one free calls the first one, and the first one calls the next when it leaves: so none is called in vain for long,
-//! and no connection lies idle while somebody waits.
+//! An exchange that finds no connection and may wait joins the queue of its point. Of those that wait there, only the first one
+//! may take a connection. Whatever may make one free calls the first one, and the first one calls the next when it leaves: so
+//! none is called in vain for long, and no connection lies idle while somebody waits.
 
 ghost use Rattle.std.specs.Prelude.{◌≡◌, ◌↔◌, false, None, IfSome};
 ghost use Rattle.std.specs.Option.{ForSome, ForNone};

@@ -102,9 +102,8 @@ impl<C, L: Ledger> Pool<C, L> {
         self.locked.lock(rt).give_up(lease)
     }
 
-    /// Allows a fresh connection in place of a leased one that its service has ended or that failed.
-    /// The caller closes the old one before it opens the fresh one. `Over` if more than
-    /// the maximum are open; then the lease stays as it is.
+    /// Allows a fresh connection in place of a leased one that its service has ended or that failed. The caller closes the old
+    /// one before it opens the fresh one. `Over` if more than the maximum are open; then the lease stays as it is.
     pub fn replace(&self, rt: &impl Wait, lease: &mut Lease<L>) -> Result<(), Over>
         ensures fresh { OnOk result (lease.new ≡ record { reused = false; picked = false }) }
         ensures err { OnErr result (lease.new ≡ lease.old) }

@@ -18,9 +18,8 @@ use std::marker::Model;
 /// The idle connections of a pool, and its numbers with their journal.
 ///
 /// Each change that isn't refused is one step, which is added to the journal; `close_idle` is two where it closes, else none.
-/// The journal's steps replay from
-/// its base to the numbers now. A call that is refused is no step, and changes nothing. `J` is the
-/// journal's form: `Window`, or `RebasingJournal`.
+/// The journal's steps replay from its base to the numbers now. A call that is refused is no step, and changes nothing. `J` is
+/// the journal's form: `Window`, or `RebasingJournal`.
 #[derive(Drop)]
 pub struct PoolState<C, J: Journal> {
     // Oldest first.

@@ -43,9 +43,8 @@ pub trait Seating {
     /// The message under this key is over, if one was open: it is counted, and its line added to the log.
     fn report<R: Wait + Clock>(&mut self, rt: &R, key: usize);
 
-    /// Closes idle connections to origins and services, where they keep the next user out, and says whether it has room then. `None`
-    /// where they
-    /// don't.
+    /// Closes idle connections to origins and services, where they keep the next user out, and says whether it has room then.
+    /// `None` where they don't.
     fn close_idle<R: Wait>(&mut self, rt: &R) -> Option<bool>;
 
     /// How many milliseconds may pass before the next turn, while connections to origins lie idle. `None` where none does.
@@ -69,8 +68,7 @@ pub trait Seating {
     /// How many queues there are for connections to services.
     fn queues(&self) -> usize;
 
-    /// The key of the exchange that is first in a queue, where it is one of these. Else, where somebody waits in it, and no connection
-    /// is free, that of one with a
-    /// connection for it whose user has ended its bytes: it gives way.
+    /// The key of the exchange that is first in a queue, where it is one of these. Else, where somebody waits in it, and no
+    /// connection is free, that of one with a connection for it whose user has ended its bytes: it gives way.
     fn first_of<R: Wait>(&self, rt: &R, queue: usize) -> Option<usize>;
 }

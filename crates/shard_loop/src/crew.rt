@@ -28,9 +28,8 @@ use std::thread::{self, Threads};
 use std::time::Clock;
 use wire_kit::Gate;
 
-/// Runs a loop on each base, the last one in this thread, the others in threads of their own, until one has to stop or fails: then all
-/// end. What is left comes
-/// together.
+/// Runs a loop on each base, the last one in this thread, the others in threads of their own, until one has to stop or fails:
+/// then all end. What is left comes together.
 ///
 /// What the threads share comes piece by piece, and what a base, an inbox and an idle connection are made of isn't seen here:
 /// otherwise the toolchain's search doesn't find that threads may share the pieces.

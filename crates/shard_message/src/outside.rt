@@ -306,9 +306,8 @@ pub trait Noting<P>: Kinds {
     /// The request is begun anew: the connection that it went out on, which was kept, has ended.
     fn note_anew(&mut self, at: &P);
 
-    /// The service's options aren't kept: its connection failed for this, or `None` where it said something else, or no memory was
-    /// found. `is_fresh`:
-    /// nothing went over its connection.
+    /// The service's options aren't kept: its connection failed for this, or `None` where it said something else, or no memory
+    /// was found. `is_fresh`: nothing went over its connection.
     fn blame_service(&mut self, at: &P, fault: Option<ClientFault>, is_fresh: bool);
 
     /// The proxy refuses a message for this reason. `None` where the message is gone.

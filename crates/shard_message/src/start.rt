@@ -46,9 +46,8 @@ fn use_of(kept: bool, keeps_none: bool, draining: bool) -> OriginUse
     }
 }
 
-/// The use of the origin's connection that a request goes out on in this state of its course.
-/// Where none is kept, or the proxy lets its users go, a fresh one is
-/// closed after its answer.
+/// The use of the origin's connection that a request goes out on in this state of its course. Where none is kept, or the proxy
+/// lets its users go, a fresh one is closed after its answer.
 fn origin_use<P, O: Outside<P>>(out: &O, state: CourseState) -> OriginUse
     ensures { IsUseOf (O.config_is out.now) state result }
 {

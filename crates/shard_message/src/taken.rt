@@ -31,8 +31,7 @@ pub(crate) fn parts_of<B: Ledgers, E: EndTypes, R: Wait>(
     tx.into_parts()
 }
 
-/// The transaction that lies in a box, to be taken apart. Here it is moved out, in a function of its own: in one that moves out several,
-/// room is cleared for all of them each time.
+/// The transaction that lies in a box, to be taken apart.
 pub(crate) fn tx_of<B: Ledgers, W: Wires>(running: Box<Running<B, W>>) -> Tx<B, OwnEnds<W>>
     ensures { result ≡ running.value.tx }
 {
