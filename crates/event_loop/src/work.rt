@@ -15,7 +15,7 @@ use std::sync::Wait;
 use std::time::Clock;
 
 /// What an event says of a connection.
-#[derive(Clone, Copy, Debug)]
+#[derive(Clone, Copy)]
 pub struct Told {
     /// There may be bytes to read.
     pub readable: bool,

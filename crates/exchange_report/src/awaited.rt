@@ -8,7 +8,7 @@ use exchange_core::Due;
 use trace_core::{Event, Point, State};
 
 /// What an exchange waits for.
-#[derive(Clone, Copy, Debug, PartialEq, Eq)]
+#[derive(Clone, Copy)]
 pub enum Awaited {
     /// What the user sends.
     UserBody,
@@ -37,7 +37,7 @@ pub enum Awaited {
 }
 
 /// What goes out of a message that moves.
-#[derive(Clone, Copy, Debug, PartialEq, Eq)]
+#[derive(Clone, Copy)]
 pub enum Outgoing {
     /// The chosen message: a request to the origin, a response to the user.
     Message,

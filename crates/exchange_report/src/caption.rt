@@ -12,7 +12,7 @@ use std::alloc::AllocError;
 use trace_core::{Point, State};
 
 /// Whose script it is.
-#[derive(Clone, Copy, Debug)]
+#[derive(Clone, Copy)]
 pub struct Caption<'a> {
     pub id: ExchangeId,
     /// When it is written, in milliseconds since the beginning of 1970.

@@ -14,7 +14,7 @@ use adapt_bytes::three_digits;
 use std::alloc::AllocError;
 
 /// An IPv4 address.
-#[derive(Clone, Copy, Debug)]
+#[derive(Clone, Copy)]
 pub struct Address {
     pub first: u8,
     pub second: u8,
@@ -23,7 +23,7 @@ pub struct Address {
 }
 
 /// Where a request went.
-#[derive(Clone, Copy, Debug)]
+#[derive(Clone, Copy)]
 pub enum Destination {
     /// Straight to its origin, at this address.
     Origin(Address),
@@ -56,7 +56,7 @@ pub enum Destination {
 /// // 1066036250.603 310 192.0.2.7 TCP_MISS/200 1015 GET http://o.test/a%20b - HIER_NONE/- text/html
 /// // reqmod=- respmod=100+204 why=- found=- in=0, in one line
 /// ```
-#[derive(Clone, Copy, Debug)]
+#[derive(Clone, Copy)]
 pub struct Entry<'a> {
     /// The moment of its end, in milliseconds since the beginning of 1970.
     pub ended: u64,

@@ -13,7 +13,7 @@ use std::alloc::AllocError;
 use trace_core::Point;
 
 /// An exchange that isn't over, and how its message stands.
-#[derive(Clone, Copy, Debug)]
+#[derive(Clone, Copy)]
 pub struct Live<'a> {
     pub id: ExchangeId,
     /// Seconds since the head of its request was read.

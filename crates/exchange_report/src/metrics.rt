@@ -9,7 +9,7 @@ use adapt_bytes::three_digits;
 use std::alloc::{AllocError, Global};
 
 /// What kind of numbers a family has.
-#[derive(Clone, Copy, Debug, PartialEq, Eq)]
+#[derive(Clone, Copy)]
 pub enum Kind {
     /// They only grow.
     Counter,

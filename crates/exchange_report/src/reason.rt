@@ -7,7 +7,7 @@ ghost use Rattle.exchange_report.specs.Reasons.{number_of, reason_word, cause_of
 use exchange_core::RefusalCause;
 
 /// Why the proxy answers a request itself, or cuts the answer to it.
-#[derive(Clone, Copy, Debug, PartialEq, Eq)]
+#[derive(Clone, Copy)]
 pub enum Reason {
     /// The request's head breaks the grammar, or is refused.
     BadRequest,

@@ -6,7 +6,7 @@ ghost use Rattle.exchange_report.specs.Entry.{reply_word, verdict_text};
 use std::alloc::AllocError;
 
 /// The final reply of a service to a message.
-#[derive(Clone, Copy, Debug)]
+#[derive(Clone, Copy)]
 pub enum Reply {
     /// The message didn't come so far, or no reply came.
     Missing,
@@ -19,7 +19,7 @@ pub enum Reply {
 }
 
 /// What became of a message at its point.
-#[derive(Clone, Copy, Debug)]
+#[derive(Clone, Copy)]
 pub struct Verdict {
     /// Its request was sent anew, on a fresh connection.
     pub retried: bool,

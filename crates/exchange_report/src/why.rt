@@ -6,7 +6,7 @@ ghost use Rattle.exchange_report.specs.Entry.{why_word};
 use crate::reason::Reason;
 
 /// Why an exchange ended as it did.
-#[derive(Clone, Copy, Debug, PartialEq, Eq)]
+#[derive(Clone, Copy)]
 pub enum Why {
     /// The answer of the origin or of a service went out whole.
     Served,

@@ -333,7 +333,7 @@ impl Reporter {
             return false;
         };
         let mut note = note;
-        if why_of(&note) == Why::UserGone && !note.answered {
+        if matches!(why_of(&note), Why::UserGone) && !note.answered {
             // The origin's status didn't reach a user that was gone before a byte of the answer.
             note.status = 0;
         }

@@ -18,7 +18,7 @@ pub enum EndedBy {
 }
 
 /// What the end of a transaction is to the course of its exchange.
-#[derive(Clone, Copy, Debug, PartialEq, Eq)]
+#[derive(Clone, Copy, PartialEq, Eq)]
 pub enum End {
     /// The origin has the whole request. Its response is waited for, where memory was found for that.
     Sent { has_memory: bool },
