@@ -3,7 +3,7 @@
 ghost use Rattle.std.specs.Prelude.{◌≡◌, ◌↔◌, ◌<◌, ◌+◌, ◌-◌, ◌^◌, IfNone, IfSome, IsSome, IsSomeAnd, IsTrue, slice_get};
 ghost use Rattle.std.specs.Option.{option_copied};
 ghost use Rattle.http_side.specs.Refusals.{is_own_status};
-ghost use Rattle.shard_report.specs.Notes.{IsOpen, SaysPage, noted_why};
+ghost use Rattle.shard_report.specs.Notes.{IsOpen, SaysPage, Withdraws, noted_why};
 
 use adapt_bytes::front;
 use exchange_report::{
@@ -237,7 +237,9 @@ impl Notes {
     }
 
     /// The request is begun anew: from now on it is noted as one that went nowhere yet, and that no service has seen.
-    pub fn withdraw(&mut self, key: usize) {
+    pub fn withdraw(&mut self, key: usize)
+        ensures { Withdraws key self.old self.new }
+    {
         if let Some(note) = self.notes.get_mut(key) {
             note.point = Point::Reqmod;
             note.dialled = None;
@@ -245,6 +247,9 @@ impl Notes {
             note.received = 0;
             note.reqmod = Verdict::none();
             note.why = None;
+        }
+        if let Some(words) = self.words.get_mut(key) {
+            words.found.clear();
         }
     }
 
@@ -328,9 +333,10 @@ impl Notes {
     }
 
     /// What the log says of an exchange that ended at this moment, when so many bytes had gone to the user: among it the reason and the
-    /// number that are noted.
+    /// number that are noted, and what a service found.
     pub fn entry(&self, key: usize, note: &Note, ended: u64, sent: u64) -> Entry<'_>
-        ensures { (result.why ≡ noted_why note.now) × (result.refusal ≡ note.now.page) }
+        ensures noted { (result.why ≡ noted_why note.now) × (result.refusal ≡ note.now.page) }
+        ensures found { IfSome (slice_get self.now.words.items key) (λ words. result.found.now ≡ words.found.items) }
     {
         let nothing: &[u8] = b"";
         let ((method, target, kind), found) = match self.words.get(key) {
