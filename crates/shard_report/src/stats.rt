@@ -245,7 +245,7 @@ impl<'a> Sheet<'a> {
     fn put_paused(&mut self, reqmod: bool, respmod: bool) -> Result<(), AllocError> {
         let paused = gauge(
             b"adaptproxy_service_paused",
-            b"Whether messages are refused for a while, since their service failed too often.",
+            b"1 from the pause of the point's service until it is known to answer again; else 0.",
         );
         self.put(Metric::Family(paused))?;
         let (reqmod, respmod) = (u64::from(reqmod), u64::from(respmod));
