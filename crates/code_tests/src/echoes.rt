@@ -255,23 +255,23 @@ fn make(
     rt: &HostRuntime,
     listeners: (TcpListener, TcpListener),
     inboxes: &mut Vec<Inbox>,
-) -> io::Result<[Option<Base>; 2]> {
+) -> io::Result<Vec<Option<Base>>> {
     let (listener, admin) = listeners;
-    let room = Arc::new(rt.alloc(), Room::new(1, 0))?;
     let users = Entrance {
         listener,
-        room,
+        room: Arc::new(rt.alloc(), Room::new(1, 0))?,
         loops: 2,
         admission: Admission {
             users: None,
             most: 0,
         },
     };
-    let first = add_loop(rt, rt.alloc(), Some(users), None, inboxes)?;
     let metrics = None;
     let ports = AdminPorts { admin, metrics };
-    let second = add_loop(rt, rt.alloc(), None, Some(ports), inboxes)?;
-    Ok([Some(first), Some(second)])
+    let mut bases = Vec::with_capacity(rt.alloc(), 2)?;
+    bases.push(Some(add_loop(rt, rt.alloc(), Some(users), None, inboxes)?))?;
+    bases.push(Some(add_loop(rt, rt.alloc(), None, Some(ports), inboxes)?))?;
+    Ok(bases)
 }
 
 /// As many administrators as there are seats for, who say nothing.
@@ -323,7 +323,7 @@ fn two_loops_echo_until_they_are_stopped(rt: HostRuntime) -> Result<(), Fail> {
         &mut || {
             thread::for_each_mut(
                 &rt,
-                &mut bases,
+                bases.as_mut_slice(),
                 2,
                 &|number, base| run_echo(&rt, alloc, number, base, all, &ended),
             )

@@ -77,6 +77,18 @@ fn listen_for_administrator<R: Net>(
     Ok(AdminPorts { admin, metrics })
 }
 
+/// Listens where users and the administrator connect.
+fn listen_for_all<R: Net>(
+    rt: &R,
+    alloc: Global,
+    handed: Option<net::TcpListener>,
+    config: &Config,
+) -> Result<(TcpListener, AdminPorts), ServeError> {
+    let users = listen_for_users(rt, alloc, handed, config.listen)?;
+    let admin = listen_for_administrator(rt, alloc, config)?;
+    Ok((users, admin))
+}
+
 /// Opens the file of the log, where one is kept. The key is at fault where that can't be.
 fn open_log<R: Append>(rt: &R, alloc: Global, config: &Config) -> Result<Option<File>, ServeError> {
     let Some(path) = &config.log else {
@@ -114,18 +126,18 @@ fn fitting<R: Files + AllocGlobal>(
     alloc: Global,
     text: &[u8],
 ) -> Result<Arc<Config>, ServeError> {
-    let config = read_whole(rt, alloc, text)?;
-    if !has_room(rt, &config) {
-        // Written as a call, the drop is proved once, and not at each place.
-        drop(config);
-        return Err(ServeError::Ended(Error::NoMemory));
-    }
-    match Arc::new(alloc, config) {
-        Ok(config) => Ok(config),
+    let config = match Arc::new(alloc, read_whole(rt, alloc, text)?) {
+        Ok(config) => config,
         Err(failed) => {
+            // Written as a call, the drop is proved once, and not at each place.
             drop(failed.value);
-            Err(ServeError::Ended(Error::NoMemory))
+            return Err(ServeError::Ended(Error::NoMemory));
         }
+    };
+    if has_room(rt, &config) {
+        Ok(config)
+    } else {
+        Err(ServeError::Ended(Error::NoMemory))
     }
 }
 
@@ -155,8 +167,7 @@ pub fn serve_from<
 ) -> Result<(), ServeError> {
     let rules = rules_of(rt, alloc, source?)?;
     let log = open_log(rt, alloc, &rules.config)?;
-    let users = listen_for_users(rt, alloc, handed, rules.config.listen)?;
-    let admin = listen_for_administrator(rt, alloc, &rules.config)?;
+    let (users, admin) = listen_for_all(rt, alloc, handed, &rules.config)?;
     match serve(rt, alloc, rules, users, admin, log, &OpenGate, output) {
         Ok(stopped) => say_end(alloc, output, stopped),
         Err(fault) => Err(error_of(fault)),

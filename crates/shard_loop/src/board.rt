@@ -153,29 +153,32 @@ pub struct Rules {
     pub source: Source,
 }
 
+/// What so many threads count, before their first users.
+fn tallies_of(alloc: Global, count: u64) -> Result<Vec<LoopTally>, AllocError> {
+    let mut tallies = Vec::new(alloc);
+    for _ in 0..count {
+        tallies.push(LoopTally::new(alloc)?)?;
+    }
+    Ok(tallies)
+}
+
 /// The board of the threads that take users, before their inboxes are there.
 pub fn board_of(alloc: Global, rules: Rules, file: Option<File>) -> Result<Board, AllocError> {
     let Rules { config, source } = rules;
-    let count = config.shards;
-    let mut tallies = Vec::new(alloc);
-    for _ in 0..count {
-        let tally = LoopTally::new(alloc)?;
-        if tallies.push(tally).is_err() {
-            return Err(AllocError);
-        }
-    }
-    let log = Log::new(alloc, file, count)?;
-    let queues = Queues::new(alloc, config.rows as usize, pause_rule(&config))?;
+    let (loops, rows, most) = (config.shards, config.rows as usize, config.user_connections);
+    let rule = pause_rule(&config);
     let room = Arc::new(alloc, room_of(&config))?;
-    let addresses = Mutex::new(Addresses::new(alloc, config.user_connections));
     let live = Arc::new(alloc, LiveConfig::new(config))?;
+    let tallies = tallies_of(alloc, loops)?;
+    let queues = Queues::new(alloc, rows, rule)?;
+    let log = Log::new(alloc, file, loops)?;
     Ok(Board {
         inboxes: Vec::new(alloc),
         tallies,
         log,
         queues,
         room,
-        addresses,
+        addresses: Mutex::new(Addresses::new(alloc, most)),
         live,
         source,
     })

@@ -7,7 +7,8 @@ use crate::exchanges::DeskExchanges;
 use crate::left::Left;
 use crate::office::Office;
 use crate::reloading::Reloads;
-use event_loop::{Base, Ended, Inbox, Work, name_thread, run_loop, stop_all};
+use event_loop::{Base, Ended, Entrance, Inbox, Work, name_thread, run_loop, stop_all};
+use mio::net::TcpListener;
 use proxy_config::{Config, MAX_SHARDS};
 use service_lines::{Leased, Waiting};
 use service_pool::Pool;
@@ -113,6 +114,22 @@ where
     run_board(rt, alloc, config, bank, &pools, gate, ports, board, left)
 }
 
+/// Where users connect: whom this configuration lets in, and the room that there is for them.
+fn open_entrance<N: Common, R: Wait>(
+    rt: &R,
+    config: &Config,
+    common: &N,
+    listener: TcpListener,
+) -> Result<Entrance, ProxyFault> {
+    let Ok(admission) = admission_of(rt, config, common.live()) else {
+        return Err(ProxyFault::NoMemory);
+    };
+    let Ok(room) = Arc::clone(common.room()) else {
+        return Err(ProxyFault::NoMemory);
+    };
+    Ok(entrance_of(config, listener, room, admission))
+}
+
 /// Runs the loops over what the threads have in common, if memory was found for it.
 fn run_board<
     B: Ledgers + Send + Sync,
@@ -139,18 +156,12 @@ where
     B::Slack: Send + Sync,
     B::Pages: Send + Sync,
 {
+    let OpenedPorts { users, admin } = ports;
     let Ok(board) = board else {
         return Err(ProxyFault::NoMemory);
     };
     let mut board = board;
-    let Ok(room) = Arc::clone(board.room()) else {
-        return Err(ProxyFault::NoMemory);
-    };
-    let Ok(admission) = admission_of(rt, config, board.live()) else {
-        return Err(ProxyFault::NoMemory);
-    };
-    let OpenedPorts { users, admin } = ports;
-    let users = entrance_of(config, users, room, admission);
+    let users = open_entrance(rt, config, &board, users)?;
     let mut bases = make_bases(rt, alloc, config.shards, users, admin, board.inboxes_mut())?;
     run_on(
         rt,

@@ -122,6 +122,7 @@ fn take_over<S: Shares, F: Append, R: Wait>(
     new: (Config, u64),
 ) -> Result<Vec<u8>, AllocError> {
     let (config, names) = new;
+    let config = Arc::new(alloc, config)?;
     let capacity = other_capacity(shared.config(), &config);
     if let Some(capacity) = capacity
         && let Some(claimed) = reserved_over(rt, shared, capacity)
@@ -132,7 +133,6 @@ fn take_over<S: Shares, F: Append, R: Wait>(
         return b"config log\n".to_vec(alloc);
     };
     let text = taken_text(alloc, &config, names)?;
-    let config = Arc::new(alloc, config)?;
     replaced.reserve()?;
     if let Err(fault) = resize(rt, shared, capacity) {
         return changed_text(alloc, Err(fault));

@@ -55,6 +55,45 @@ fn make_pool<L: Ledger>(
     }
 }
 
+/// What all users share: the budget, and the connections to both services.
+#[derive(Drop)]
+struct Stores<B: Ledgers, Q: Ledger, A: Ledger> {
+    bank: Bank<B>,
+    request: Pool<Spare, Q>,
+    response: Pool<Spare, A>,
+}
+
+/// The budget and the pools, as they are configured. Each blank of the budget has a part for each transaction that there may be, and one
+/// more; those of the pools have `LEDGER_PARTS`.
+fn stores_of<H: Ledger, F: Ledger, S: Ledger, P: Ledger, Q: Ledger, A: Ledger>(
+    alloc: Global,
+    config: &Config,
+    blanks: Blanks,
+    reqmod: Blank,
+    respmod: Blank,
+) -> Result<Stores<(H, F, S, P), Q, A>, ProxyFault>
+    requires held { (blanks.held.name ≡ H.name) × (blanks.held.parts ≡ H.parts) }
+    requires free { (blanks.free.name ≡ F.name) × (blanks.free.parts ≡ F.parts) }
+    requires slack { (blanks.slack.name ≡ S.name) × (blanks.slack.parts ≡ S.parts) }
+    requires pages { (blanks.pages.name ≡ P.name) × (blanks.pages.parts ≡ P.parts) }
+    requires parts { (blanks.held.parts ≡ config.now.rows + 1) × (blanks.free.parts ≡ config.now.rows + 1) }
+    requires others { (blanks.slack.parts ≡ config.now.rows + 1) × (blanks.pages.parts ≡ config.now.rows + 1) }
+    requires reqmod { (reqmod.name ≡ Q.name) × (reqmod.parts ≡ Q.parts) × (reqmod.parts ≡ LEDGER_PARTS) }
+    requires respmod { (respmod.name ≡ A.name) × (respmod.parts ≡ A.parts) × (respmod.parts ≡ LEDGER_PARTS) }
+{
+    let journal = config.journal as usize;
+    let request = make_pool(alloc, reqmod, &config.reqmod, journal)?;
+    let response = make_pool(alloc, respmod, &config.respmod, journal)?;
+    match Bank::new(alloc, blanks, config.capacity, config.rows, journal) {
+        Ok(bank) => Ok(Stores {
+            bank,
+            request,
+            response,
+        }),
+        Err(_) => Err(ProxyFault::NoMemory),
+    }
+}
+
 /// Says that users are served from now on.
 fn say_listening<O: Write>(output: &mut O) -> Result<(), ProxyFault> {
     if output.write_all(b"listening\n").is_err() || output.flush().is_err() {
@@ -144,31 +183,17 @@ fn serve_with<
     requires reqmod { (reqmod.name ≡ Q.name) × (reqmod.parts ≡ Q.parts) × (reqmod.parts ≡ LEDGER_PARTS) }
     requires respmod { (respmod.name ≡ A.name) × (respmod.parts ≡ A.parts) × (respmod.parts ≡ LEDGER_PARTS) }
 {
-    let journal = config.journal as usize;
-    let bank: Bank<(H, F, S, P)> = match Bank::new(
-        alloc,
-        blanks,
-        config.capacity,
-        config.rows,
-        journal,
-    ) {
-        Ok(bank) => bank,
-        Err(_) => return Err(ProxyFault::NoMemory),
-    };
-    let request: Pool<Spare, Q> = make_pool(alloc, reqmod, &config.reqmod, journal)?;
-    let response: Pool<Spare, A> = make_pool(alloc, respmod, &config.respmod, journal)?;
-    say_listening(output)?;
-    serve_on(
-        rt, alloc, config, ports, rules, log, gate, bank, request, response,
-    )
+    let stores: Stores<(H, F, S, P), Q, A> = stores_of(alloc, config, blanks, reqmod, respmod)?;
+    serve_on(rt, alloc, config, ports, rules, log, gate, output, stores)
 }
 
-/// Runs the proxy on this budget and these pools, and audits them.
+/// Runs the proxy on its budget and its pools, once it has said that it listens, and audits them.
 fn serve_on<
     B: Ledgers + Send + Sync,
     Q: Ledger + Send + Sync,
     A: Ledger + Send + Sync,
     G: Gate + Sync,
+    O: Write,
     R: Threads + Wait + Net + Dial + Append + Clock + Reloads + Sync,
 >(
     rt: &R,
@@ -178,9 +203,8 @@ fn serve_on<
     rules: Rules,
     log: Option<File>,
     gate: &G,
-    bank: Bank<B>,
-    request: Pool<Spare, Q>,
-    response: Pool<Spare, A>,
+    output: &mut O,
+    stores: Stores<B, Q, A>,
 ) -> Result<Stopped, ProxyFault>
 where
     B::Held: Send + Sync,
@@ -188,15 +212,23 @@ where
     B::Slack: Send + Sync,
     B::Pages: Send + Sync,
 {
+    let Stores {
+        bank,
+        request,
+        response,
+    } = stores;
     let mut left = Left::new(alloc);
-    let has_room = left.reserve(config.rows as usize);
-    let left = Mutex::new(left);
-    let made = if has_room {
-        run_crew(
-            rt, alloc, config, &bank, &request, &response, gate, ports, rules, log, &left,
-        )
+    let begun = if left.reserve(config.rows as usize) {
+        say_listening(output)
     } else {
         Err(ProxyFault::NoMemory)
+    };
+    let left = Mutex::new(left);
+    let made = match begun {
+        Ok(()) => run_crew(
+            rt, alloc, config, &bank, &request, &response, gate, ports, rules, log, &left,
+        ),
+        Err(fault) => Err(fault),
     };
     let audit = left.into_inner().audit(rt, bank, request, response);
     made?;
