@@ -1,6 +1,6 @@
 //! A loop: its poll, its events, and whom it drives.
 
-ghost use Rattle.std.specs.Prelude.{◌≡◌, ◌<◌, [], ◌∷◌, ℕ, true, false, nat_lt, length, IfOk, OnOk, IfErr, IsSomeAnd, ⊤};
+ghost use Rattle.std.specs.Prelude.{◌≡◌, ◌<◌, ◌≤◌, ◌⊎◌, [], ◌∷◌, ℕ, true, false, nat_lt, length, IfOk, OnOk, IfErr, IfSome, IsSomeAnd, ⊤};
 ghost use Rattle.std.specs.Duration.{as_nanos};
 ghost use Rattle.event_loop.specs.Marks.{is_marked};
 ghost use Rattle.event_loop.specs.declared.reports.TheConstants.{EVENTS};
@@ -41,6 +41,19 @@ const BEGIN: u64 = 5;
 
 /// The milliseconds of a second.
 const SECOND: u64 = 1000;
+
+/// The shorter of two waits. `None` is one that only an event ends.
+fn shorter(one: Option<Duration>, other: Option<Duration>) -> Option<Duration>
+    ensures one { IfSome one (λ most. IsSomeAnd result (λ least. as_nanos least ≤ as_nanos most)) }
+    ensures other { IfSome other (λ most. IsSomeAnd result (λ least. as_nanos least ≤ as_nanos most)) }
+    ensures given { (result ≡ one) ⊎ (result ≡ other) }
+{
+    match (one, other) {
+        (Some(one), Some(other)) => Some(one.min(other)),
+        (Some(one), None) => Some(one),
+        (None, other) => other,
+    }
+}
 
 /// One thread's loop. It takes its memory before its first turn, and needs no more to go on.
 #[derive(Drop)]
@@ -157,51 +170,40 @@ impl<K: Work> EventLoop<K> {
         Ok(())
     }
 
-    /// How long the next wait may be for the ports' sake.
+    /// How long the next wait may be for the ports' sake: the least that one of them asks for.
     fn patience_of_ports(&self) -> Option<Duration> {
-        if let Some(ports) = &self.ports
-            && let Some(patience) = ports.patience()
-        {
-            return Some(patience);
-        }
-        match self.admin.patience() {
-            Some(patience) => Some(patience),
-            None => self.metrics.patience(),
-        }
+        let users = match &self.ports {
+            Some(ports) => ports.patience(),
+            None => None,
+        };
+        let askers = shorter(self.admin.patience(), self.metrics.patience());
+        shorter(users, askers)
     }
 
     /// How long the next wait may be, for all that the loop serves.
     fn patience(&self) -> Option<Duration>
         ensures { (key : ℕ) → is_marked self.now.ready key ≡ true → IsSomeAnd result (λ patience. as_nanos patience ≡ 0) }
     {
-        let least = self.patience_of_exchanges();
-        match self.work.patience() {
-            Some(most) => {
-                let most = Duration::from_millis(most);
-                match least {
-                    Some(least) if least < most => Some(least),
-                    _ => Some(most),
-                }
-            }
-            None => least,
-        }
+        let own = match self.work.patience() {
+            Some(millis) => Some(Duration::from_millis(millis)),
+            None => None,
+        };
+        shorter(self.patience_of_exchanges(), own)
     }
 
-    /// How long the next wait may be: the deadlines of exchanges are whole seconds of the loop's clock.
+    /// How long the next wait may be for the sake of ports and exchanges: the deadlines of these are whole seconds of the loop's clock.
     fn patience_of_exchanges(&self) -> Option<Duration>
         ensures { (key : ℕ) → is_marked self.now.ready key ≡ true → IsSomeAnd result (λ patience. as_nanos patience ≡ 0) }
     {
         if !self.ready.is_empty() || self.admin.are_behind() || self.metrics.are_behind() {
             return Some(Duration::from_millis(0));
         }
-        if let Some(patience) = self.patience_of_ports() {
-            return Some(patience);
-        }
+        let ports = self.patience_of_ports();
         if self.work.is_idle() && self.complete {
-            return None;
+            return ports;
         }
         let part = self.elapsed % SECOND;
-        Some(Duration::from_millis(SECOND - part))
+        shorter(ports, Some(Duration::from_millis(SECOND - part)))
     }
 
     /// Runs until it has to stop, or fails: then it has the others stop, and answers why. Either way its exchanges
