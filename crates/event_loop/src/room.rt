@@ -10,8 +10,9 @@ use libc::{RLIMIT_NOFILE, getrlimit};
 use std::sync::Arc;
 use std::sync::atomic::{AtomicU64, Ordering};
 
-/// Descriptors that belong neither to a user nor to a service: the standard ones, the users' port, the log's file and the one that takes
-/// its place, and a user that waits for room.
+/// Descriptors that belong neither to a user nor to a service: the three standard ones, the users' port, the log's file, a user that waits
+/// for room, and one of the administrator's loop. That is the log's next file, a file that is read in a reload, or a connection that comes
+/// where its port has as many as it may: the loop has one of them at a time, since it ends one thing before it begins the next.
 const OWN: u64 = 7;
 
 /// Descriptors of the administrator's port, and of that of the counters: its own, and its connections'.
