@@ -2,6 +2,7 @@
 import os
 import random
 import re
+import resource
 import signal
 import socket
 import subprocess
@@ -9,7 +10,7 @@ import tempfile
 import threading
 import time
 
-from serve_lab.cases import ADAPTPROXY, IDLE, case, comes, get, lent, needs_tools, post, same
+from serve_lab.cases import ADAPTPROXY, IDLE, case, comes, get, lent, needs, needs_tools, post, same
 from serve_lab.lines import LINE
 from serve_lab.loopback import PATIENCE, TOP, Closed, Icap, Program, Reader, Server, User, ask, body_of, free_port
 
@@ -57,6 +58,24 @@ def a_drain_ends_an_idle_proxy_at_once(bench):
     proxy = bench.proxy(bench.origin())
     same("drain", proxy.say("drain"), "ok")
     same("ended", proxy.ended(3), ((IDLE + "\n").encode(), b"", 0))
+
+
+@case
+def a_drain_answers_all_who_have_connected(bench):
+    """More of them wait in the port's queue than are accepted in two turns: the port is closed, and none of them is reset."""
+    needs("4,096 descriptors", resource.getrlimit(resource.RLIMIT_NOFILE)[1] >= 4096)
+    proxy = bench.proxy(bench.origin(), "shards = 1\nrows = 1024", descriptors=4096)
+    proxy.halt()
+    users = [User(proxy.port) for _ in range(800)]
+    for user in users:
+        user.send(b"GET http://x.test/ HTTP/1.1\r\nHost: x.test\r\n\r\n")
+    with socket.create_connection(("127.0.0.1", proxy.admin), PATIENCE) as sock:
+        sock.sendall(b"drain\n")
+        proxy.go_on()
+        same("answers", {user.answer().status for user in users}, {502})
+    for user in users:
+        user.close()
+    same("ended", proxy.ended(), ((IDLE + "\n").encode(), b"", 0))
 
 
 @case

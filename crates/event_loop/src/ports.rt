@@ -21,6 +21,9 @@ use std::time::Duration;
 /// How many connections are accepted before others get their turn.
 const ACCEPTS: u32 = 256;
 
+/// How often as many are accepted before the port is closed: 65,536 connections in all. Mostly the system lets fewer wait (listen(2)).
+const LAST_ACCEPTS: u32 = 256;
+
 /// How long a loop waits for room for a user, in milliseconds, before it asks again.
 const CROWDED: u64 = 5;
 
@@ -139,10 +142,23 @@ impl Ports {
         }
     }
 
-    /// Takes in those that have connected, `ACCEPTS` of them at most and as long as there is room, and closes the port: a
-    /// further user is refused by the system. Each loop but that of the number `own` is woken for them.
+    /// Whether the last call to accept took its most, so that others may have connected who can be taken in.
+    fn is_behind(&self) -> bool {
+        match &self.users {
+            Some(users) => self.waiting.is_none() && users.is_behind(),
+            None => false,
+        }
+    }
+
+    /// Takes in those that have connected, as long as there is room, and closes the port: a further user is refused by the system. Each
+    /// loop but that of the number `own` is woken for them.
     pub fn close<M: Mail, R: Wait>(&mut self, rt: &R, own: usize, mail: &mut M) {
-        let _ = self.accept(rt, own, mail);
+        for _ in 0..LAST_ACCEPTS {
+            let _ = self.accept(rt, own, mail);
+            if !self.is_behind() {
+                break;
+            }
+        }
         self.users = None;
     }
 
