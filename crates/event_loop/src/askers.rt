@@ -8,7 +8,7 @@ use mio::net::TcpStream;
 use mio::{Registry, Token};
 use slab::Slab;
 use socket_wire::{Caller, Readiness, SocketWire, Stream};
-use std::alloc::{AllocError, Global};
+use std::alloc::Global;
 use std::mem;
 use std::sync::Arc;
 use std::time::Duration;
@@ -68,6 +68,11 @@ pub(crate) struct Askers {
 /// The token of a key: no connection of an exchange has it.
 fn token_of(key: usize) -> Token {
     Token(key.wrapping_mul(4).wrapping_add(3))
+}
+
+/// Has a poll report a connection under this token. False where that can't be had.
+fn is_heard(wire: &mut AdminWire, registry: &Registry, token: Token) -> bool {
+    wire.hurry().is_ok() && wire.register(registry, token).is_ok()
 }
 
 impl Askers {
@@ -164,37 +169,27 @@ impl Askers {
             && let Ok(told) = ready.clone()
         {
             let wire = SocketWire::new(Stream::accepted(stream), told);
-            let _ = self.seat(alloc, wire, ready, registry);
+            self.seat(alloc, wire, ready, registry);
         }
     }
 
-    /// Gives a connection a seat, if one is free. `Err` where no memory was found, or its events can't be had.
-    fn seat(
-        &mut self,
-        alloc: Global,
-        wire: AdminWire,
-        ready: Arc<Readiness>,
-        registry: &Registry,
-    ) -> Result<(), AllocError> {
+    /// Gives a connection a seat, if one is free. It is closed where no memory was found, or its events can't be had.
+    fn seat(&mut self, alloc: Global, wire: AdminWire, ready: Arc<Readiness>, registry: &Registry) {
         let mut wire = wire;
         let heard = self.next_turn();
-        self.seats.reserve(1)?;
         let key = self.seats.vacant_key();
-        if key >= MAX_ASKERS
-            || wire.hurry().is_err()
-            || wire
-                .register(registry, token_of(self.first.saturating_add(key)))
-                .is_err()
+        let token = token_of(self.first.saturating_add(key));
+        if self.seats.reserve(1).is_ok()
+            && key < MAX_ASKERS
+            && is_heard(&mut wire, registry, token)
         {
-            return Err(AllocError);
+            let asker = Asker::new(alloc, wire, self.speech);
+            let _ = self.seats.insert_reserved(Seat {
+                ready,
+                asker,
+                heard,
+            });
         }
-        let asker = Asker::new(alloc, wire, self.speech);
-        let _ = self.seats.insert_reserved(Seat {
-            ready,
-            asker,
-            heard,
-        });
-        Ok(())
     }
 
     /// Takes note of an event of a connection: it may have said more than was heard.

@@ -186,7 +186,12 @@ pub fn begin(number: usize, inboxes: &[Inbox]) {
 
 /// Whether every loop has begun.
 pub fn have_begun(inboxes: &[Inbox]) -> bool {
-    inboxes.iter().all(|inbox| inbox.has_begun())
+    for inbox in inboxes {
+        if !inbox.has_begun() {
+            return false;
+        }
+    }
+    true
 }
 
 /// Has every loop let its users go.

@@ -2,7 +2,7 @@
 
 ghost use Rattle.std.specs.Prelude.{◌≡◌, ◌<◌, ◌≤◌, ◌⊎◌, [], ◌∷◌, ℕ, true, false, nat_lt, length, IfOk, OnOk, IfErr, IfSome, IsSomeAnd, ⊤};
 ghost use Rattle.std.specs.Duration.{as_nanos};
-ghost use Rattle.event_loop.specs.Marks.{is_marked};
+ghost use Rattle.event_loop.specs.Marks.{is_marked, count};
 ghost use Rattle.event_loop.specs.declared.reports.TheConstants.{EVENTS};
 ghost use Rattle.event_loop.specs.Deeds.Deed.{Heard, EndedTurn, Halted};
 ghost use Rattle.event_loop.specs.Turns.{Works, Does, Did, Ran, Stands, Gets, IsTied, ServesRound, polled, second};
@@ -13,16 +13,18 @@ mod farewell;
 mod hearing;
 mod turning;
 
+use crate::asker::{MAX_ASKERS, Speech};
 use crate::askers::Askers;
 use crate::ended::LoopFault;
 use crate::inbox::{Inbox, begin, have_begun, stop_all};
 use crate::ports::Ports;
 use crate::ready_list::ReadyList;
 use crate::reports::Reports;
+use crate::threads::Base;
 use crate::work::Work;
 use mio::{Poll, Token};
 use socket_wire::Dial;
-use std::alloc::Global;
+use std::alloc::{AllocError, Global};
 use std::io::{self, ErrorKind};
 use std::sync::Wait;
 use std::time::{Clock, Duration, Instant};
@@ -77,34 +79,32 @@ pub struct EventLoop<K> {
     work: K,
 }
 
+/// What a loop needs memory for before its first turn, where so many exchanges may be driven. `Err` if no memory was found.
+fn memory(alloc: Global, keys: usize) -> Result<(Reports, ReadyList), AllocError>
+    ensures { IfOk result (λ memory. count memory.1 ≡ keys) }
+{
+    let reports = Reports::new(alloc)?;
+    let ready = ReadyList::new(alloc, keys)?;
+    Ok((reports, ready))
+}
+
 impl<K: Work> EventLoop<K> {
-    /// A loop over this poll, with the ports that it serves, whose clock begins at this moment. `Err` with the work if no
-    /// memory was found.
-    pub fn new(
-        alloc: Global,
-        poll: Poll,
-        ports: Option<Ports>,
-        admin: Askers,
-        metrics: Askers,
-        start: Instant,
-        work: K,
-    ) -> Result<EventLoop<K>, K>
+    /// A loop on this base, whose clock begins at this moment. `Err` with the work if no memory was found.
+    pub fn new(alloc: Global, base: Base, start: Instant, work: K) -> Result<EventLoop<K>, K>
         ensures tied { IfOk result (λ loop. IsTied K.Work loop) }
         ensures work { IfOk result (λ loop. loop.work ≡ work) }
         ensures back { IfErr result (λ back. back ≡ work) }
     {
-        let Ok(reports) = Reports::new(alloc) else {
-            return Err(work);
-        };
-        let Ok(ready) = ReadyList::new(alloc, work.bound()) else {
+        let Ok((reports, ready)) = memory(alloc, work.bound()) else {
+            drop(base);
             return Err(work);
         };
         Ok(EventLoop {
-            poll,
+            poll: base.poll,
             reports,
-            ports,
-            admin,
-            metrics,
+            ports: base.ports,
+            admin: Askers::new(alloc, base.admin, Speech::Lines, 0),
+            metrics: Askers::new(alloc, base.metrics, Speech::Http, MAX_ASKERS),
             ready,
             start,
             elapsed: 0,

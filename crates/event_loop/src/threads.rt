@@ -5,8 +5,6 @@ ghost use Rattle.event_loop.specs.Deeds.Deed.{Halted};
 ghost use Rattle.event_loop.specs.Turns.{Ran, Stands};
 
 use crate::admission::Admission;
-use crate::asker::{MAX_ASKERS, Speech};
-use crate::askers::Askers;
 use crate::ended::{Ended, LoopFault};
 use crate::inbox::{Inbox, stop_all};
 use crate::listening::Listening;
@@ -39,10 +37,10 @@ use std::time::{Clock, Instant};
 /// ```
 #[derive(Drop)]
 pub struct Base {
-    poll: Poll,
-    ports: Option<Ports>,
-    admin: Option<Listening>,
-    metrics: Option<Listening>,
+    pub(crate) poll: Poll,
+    pub(crate) ports: Option<Ports>,
+    pub(crate) admin: Option<Listening>,
+    pub(crate) metrics: Option<Listening>,
 }
 
 /// Where users connect, for how many there is room, how many loops take them, which are the first ones, and which users are served.
@@ -73,6 +71,49 @@ fn listening_on(
     }
 }
 
+/// The users' port, if the loop serves it, which the poll reports from now on.
+fn users_port(alloc: Global, users: Option<Entrance>, poll: &Poll) -> io::Result<Option<Ports>> {
+    let Some(
+        Entrance {
+            listener,
+            room,
+            loops,
+            admission,
+        },
+    ) = users
+    else {
+        return Ok(None);
+    };
+    let users = Listening::new(listener, poll.registry(), LISTENER)?;
+    Ok(Some(Ports::new(alloc, users, room, loops, admission)))
+}
+
+/// The administrator's port and that of the counters, if the loop serves them: the poll reports them from now on. Then its inbox is
+/// made, as the last one.
+fn asker_ports(
+    alloc: Global,
+    ports: Option<AdminPorts>,
+    poll: &Poll,
+    inboxes: &mut Vec<Inbox>,
+) -> io::Result<(Option<Listening>, Option<Listening>)> {
+    let (admin, metrics) = match ports {
+        Some(AdminPorts { admin, metrics }) => (Some(admin), metrics),
+        None => (None, None),
+    };
+    let admin = listening_on(admin, poll, ADMIN)?;
+    let metrics = listening_on(metrics, poll, METRICS)?;
+    add_inbox(alloc, poll, inboxes)?;
+    Ok((admin, metrics))
+}
+
+/// Makes the inbox of a loop over this poll, as the last one.
+fn add_inbox(alloc: Global, poll: &Poll, inboxes: &mut Vec<Inbox>) -> io::Result<()> {
+    let waker = Waker::new(poll.registry(), WAKER)?;
+    let registry = poll.registry().try_clone()?;
+    inboxes.push(Inbox::new(alloc, waker, registry))?;
+    Ok(())
+}
+
 /// Makes a poll, and its inbox as the last one. Its loop serves the users' port, the administrator's, both or neither.
 pub fn add_loop<R: Net>(
     rt: &R,
@@ -82,32 +123,8 @@ pub fn add_loop<R: Net>(
     inboxes: &mut Vec<Inbox>,
 ) -> io::Result<Base> {
     let poll = Poll::new(rt)?;
-    let ports = match users {
-        Some(
-            Entrance {
-                listener,
-                room,
-                loops,
-                admission,
-            },
-        ) => Some(Ports::new(
-            alloc,
-            Listening::new(listener, poll.registry(), LISTENER)?,
-            room,
-            loops,
-            admission,
-        )),
-        None => None,
-    };
-    let (admin, metrics) = match admin {
-        Some(AdminPorts { admin, metrics }) => (Some(admin), metrics),
-        None => (None, None),
-    };
-    let admin = listening_on(admin, &poll, ADMIN)?;
-    let metrics = listening_on(metrics, &poll, METRICS)?;
-    let waker = Waker::new(poll.registry(), WAKER)?;
-    let registry = poll.registry().try_clone()?;
-    inboxes.push(Inbox::new(alloc, waker, registry))?;
+    let ports = users_port(alloc, users, &poll)?;
+    let (admin, metrics) = asker_ports(alloc, admin, &poll, inboxes)?;
     Ok(Base {
         poll,
         ports,
@@ -146,21 +163,14 @@ pub fn run_loop<K: Work, R: Wait + Dial + Clock>(
     ensures { Ran K.Work work result.work (λ deeds. result.fault ≡ None → Stands Halted deeds) }
 {
     let Ok(start) = Instant::now(rt) else {
+        drop(base);
         stop_all(inboxes);
         return Ended {
             work,
             fault: Some(LoopFault::System),
         };
     };
-    let Base {
-        poll,
-        ports,
-        admin,
-        metrics,
-    } = base;
-    let admin = Askers::new(alloc, admin, Speech::Lines, 0);
-    let metrics = Askers::new(alloc, metrics, Speech::Http, MAX_ASKERS);
-    match EventLoop::new(alloc, poll, ports, admin, metrics, start, work) {
+    match EventLoop::new(alloc, base, start, work) {
         Ok(one) if number < inboxes.len() => {
             let mut one = one;
             let fault = one.run_out(rt, alloc, number, inboxes);
