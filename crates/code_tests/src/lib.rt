@@ -1,4 +1,4 @@
-//! Tests that rows can't hold: they need sockets, or would have to abort. A socket's wire, loops that echo, the connections of `icapd`,
+//! Tests that rows can't hold: they need sockets, or would have to abort. A socket's wire, the room for users, the connections of `icapd`,
 //! `adaptproxy serve` scene by scene, and audits that lack something.
 #![tactic(auto)]
 
@@ -7,9 +7,9 @@ mod audits;
 #[cfg(test)]
 mod connections;
 #[cfg(test)]
-mod echoes;
-#[cfg(test)]
 mod ports;
+#[cfg(test)]
+mod rooms;
 #[cfg(test)]
 mod serving;
 #[cfg(test)]

@@ -54,6 +54,8 @@ pub enum SceneStep {
     Admin(&'static str, &'static str),
     /// The administrator says the first line until the second one is the answer.
     Awaits(&'static str, &'static str),
+    /// So many administrators connect, and say nothing.
+    Silent(usize),
     /// The administrator stops the proxy.
     Stops,
     /// The first transaction may go on.
@@ -143,6 +145,15 @@ fn awaits(rt: &HostRuntime, ports: LoopbackPorts, line: &str, answer: &str) -> i
     Ok(false)
 }
 
+/// So many administrators connect, and say nothing.
+fn connect_silent(rt: &HostRuntime, stage: &mut SceneStage<'_>, count: usize) -> io::Result<bool> {
+    for _ in 0..count {
+        let silent = TcpStream::connect(rt, stage.ports.admin)?;
+        stage.made.push(Some(silent))?;
+    }
+    Ok(true)
+}
+
 fn take(
     rt: &HostRuntime,
     alloc: Global,
@@ -168,6 +179,7 @@ fn take(
         }
         SceneStep::Admin(line, answer) => admin(rt, stage.ports, line, answer),
         SceneStep::Awaits(line, answer) => awaits(rt, stage.ports, line, answer),
+        SceneStep::Silent(count) => connect_silent(rt, stage, count),
         SceneStep::Stops => {
             stop(rt, stage.ports)?;
             Ok(true)

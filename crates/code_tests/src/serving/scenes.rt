@@ -6,14 +6,14 @@ use super::loopback::LoopbackScene::{
 };
 use super::player::Deed::{Ends, Gets, GetsOffer, HearsEnd, HearsNothing, Passes, Says};
 use super::player::ScenePeer::{Origin, Service, User};
-use super::player::SceneStep::{Admin, Awaits, Closes, New, On, Releases, Stops};
+use super::player::SceneStep::{Admin, Awaits, Closes, New, On, Releases, Silent, Stops};
 use super::player::{Deed, SceneStep};
 use super::texts::{
-    ADAPTED, ALMOST_A_REQUEST, BAD_GATEWAY, BAD_REQUEST, BEHIND, BY_EXTENSION, CHANGED,
-    CHANGED_TO_ORIGIN, CLOSED, CONTINUE, FINAL, FORWARDED, GO_AHEAD, HEAD_END, NO_CONNECTIONS,
-    OFFERED, ONE_CONNECTION, ONE_REQUEST, POST, POST_TO_ORIGIN, POSTED, PREVIEWS, REQUEST,
-    RESPONSE, RESPONSE_FRONT, RETAGGED, TIMEOUT, TO_ORIGIN, TWO_LENGTHS, UNAVAILABLE, UNMODIFIED,
-    WAITING_POST,
+    ADAPTED, ALMOST_A_REQUEST, BAD_GATEWAY, BAD_LINES, BAD_REQUEST, BEHIND, BY_EXTENSION, CHANGED,
+    CHANGED_TO_ORIGIN, CLOSED, CONTINUE, EMPTY_LINES, FINAL, FORWARDED, GO_AHEAD, HEAD_END,
+    NO_CONNECTIONS, OFFERED, ONE_CONNECTION, ONE_REQUEST, POST, POST_TO_ORIGIN, POSTED, PREVIEWS,
+    REQUEST, RESPONSE, RESPONSE_FRONT, RETAGGED, TIMEOUT, TO_ORIGIN, TWO_LENGTHS, UNAVAILABLE,
+    UNMODIFIED, WAITING_POST,
 };
 
 pub const ASKS: &[Deed] = &[Says(REQUEST)];
@@ -202,6 +202,17 @@ const CAPACITY: &[SceneStep] = &[
     On(0, IS_REFUSED),
 ];
 
+/// Administrators who say nothing have all seats. Further ones are answered all the same, each of their lines; so is a user.
+const SILENT_ONES: &[SceneStep] = &[
+    Silent(16),
+    Admin("book\n", "rows 0 held 0 claimed 0 capacity 16777216\n"),
+    Admin("capacity 0\n", "bad\n"),
+    Admin(EMPTY_LINES, BAD_LINES),
+    New(User, ASKS),
+    New(Origin, ANSWERS),
+    On(16, &[Gets(FORWARDED)]),
+];
+
 /// The capacity changes while four bytes of a message are held that the service has got and hasn't answered.
 const HELD_BYTES: &[SceneStep] = &[
     New(User, ASKS),
@@ -350,6 +361,7 @@ pub const CROWDED_ONES: &[Named] = &[
 /// What the administrator does, and what users do wrong.
 pub const CUT_ONES: &[Named] = &[
     ("the capacity changes", Forwarded(CAPACITY), ""),
+    ("silent administrators", Forwarded(SILENT_ONES), ""),
     (
         "the capacity changes while bytes are held",
         Adapted(HELD_BYTES),

@@ -111,3 +111,15 @@ pub const CHANGED_TO_ORIGIN: &[u8] =
 /// Previews for the worked request's extension, and nothing for the other one's.
 pub const BY_EXTENSION: &[u8] = b"ICAP/1.0 200 OK\r\nMethods: RESPMOD\r\nISTag: \"adapt-1\"\r\n\
 Preview: 4\r\nTransfer-Preview: txt\r\nTransfer-Ignore: exe\r\nEncapsulated: null-body=0\r\n\r\n";
+
+/// Seventy lines in one piece, all of them empty.
+pub const EMPTY_LINES: &str =
+    "\n\n\n\n\n\n\n\n\n\n\n\n\n\n\n\n\n\n\n\n\n\n\n\n\n\n\n\n\n\n\n\n\n\n\n\
+\n\n\n\n\n\n\n\n\n\n\n\n\n\n\n\n\n\n\n\n\n\n\n\n\n\n\n\n\n\n\n\n\n\n\n";
+
+/// What the administrator gets for each of them.
+pub const BAD_LINES: &str = "bad\nbad\nbad\nbad\nbad\nbad\nbad\nbad\nbad\nbad\nbad\nbad\nbad\nbad\n\
+bad\nbad\nbad\nbad\nbad\nbad\nbad\nbad\nbad\nbad\nbad\nbad\nbad\nbad\n\
+bad\nbad\nbad\nbad\nbad\nbad\nbad\nbad\nbad\nbad\nbad\nbad\nbad\nbad\n\
+bad\nbad\nbad\nbad\nbad\nbad\nbad\nbad\nbad\nbad\nbad\nbad\nbad\nbad\n\
+bad\nbad\nbad\nbad\nbad\nbad\nbad\nbad\nbad\nbad\nbad\nbad\nbad\nbad\n";
