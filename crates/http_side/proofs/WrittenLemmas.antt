@@ -1,5 +1,5 @@
 -- What is written is a head of the grammar.
-use Rattle.std.proofs.Common.{◌≡◌, ◌≢◌, ℕ, ◌+◌, ◌<◌, Bool, true, false, not, ◌||◌, ◌&&◌, List, [], ◌∷◌, ◌++◌, length, map, take, drop, Some}
+use Rattle.std.proofs.Common.{◌≡◌, ◌≢◌, ℕ, ◌<◌, Bool, true, false, not, ◌||◌, ◌&&◌, List, [], ◌∷◌, ◌++◌, length, map, take, drop, Some}
 use Rattle.std.proofs.Common.{IsTrue, reverse, refl, sym, ap, ap₂, ◌∙◌, subst, inl, inr, arith, append_assoc, length-append, rules, get_or}
 use Rattle.std.specs.Prelude.{All, codes, ◌==◌, nat_lt}
 use Rattle.std.specs.List.{flat_map, list_all, filter}

@@ -54,6 +54,16 @@ is_in_data_at Open = true
 abbrev pub is_in_data : BodyReader → Bool
 is_in_data r = is_in_data_at r.place
 
+-- so many bytes that come next are the body's, whatever they are, and further ones after them: more is left of its length, or all
+-- bytes are its up to the close
+abbrev pub runs_past_at : ℕ → Progress → Bool
+runs_past_at n (Left left) = nat_lt n left
+runs_past_at n (Chunks reader) = false
+runs_past_at n Open = true
+
+abbrev pub runs_past : ℕ → BodyReader → Bool
+runs_past n r = runs_past_at n r.place
+
 abbrev pub fault_at : Progress → Option ChunkFault
 fault_at (Chunks reader) = chunks.fault_of reader
 fault_at (Left n) = Nothing

@@ -1,5 +1,5 @@
 -- The length and the coding of a body, by its head's fields (RFC 9112, sections 6.1 to 6.3).
-use Rattle.std.specs.Prelude.{ℕ, Bool, true, false, ◌&&◌, List, [], ◌∷◌, length, fold, Option, Some, None, Result, Ok, Err, codes}
+use Rattle.std.specs.Prelude.{◌≡◌, ℕ, Bool, true, false, ◌&&◌, List, [], ◌∷◌, length, fold, Option, Some, None, Result, Ok, Err, codes}
 use Rattle.std.specs.Prelude.{if◌then◌else◌, ◌==◌, nat_lt}
 use Rattle.std.specs.List.{list_all}
 use Rattle.std.specs.Char.{digit_value}
@@ -9,6 +9,7 @@ use Rattle.adapt_bytes.specs.Fields.{values_of}
 use Rattle.http_side.specs.declared.fault.HttpFault.{HttpFault}
 use Rattle.http_side.specs.declared.fault.HttpFault.TheVariants.{Lengths, Coding}
 use Rattle.adapt_bytes.specs.declared.limits.TheConstants.{COUNT_LIMIT}
+use Rattle.http_side.specs.declared.lengths.LengthFields.{LengthFields}
 use Rattle.http_side.specs.Items.{is_only}
 
 abbrev pub is_digit : ℕ → Bool
@@ -49,3 +50,8 @@ coding_of (value ∷ other ∷ more) = Err Coding
 
 abbrev pub coding : List (List ℕ × List ℕ) → Result Bool HttpFault
 coding fields = coding_of (values_of (codes "transfer-encoding") fields)
+
+-- what was found in the fields without a fault: the length, if they give one, and whether they say chunked
+pub record AreFound (fields : List (List ℕ × List ℕ)) (found : LengthFields) : Type 0 where
+  pub size : content_length fields ≡ Ok found.length
+  pub coded : coding fields ≡ Ok found.chunked

@@ -1,6 +1,6 @@
 -- What is written is a head that is read back.
 use Rattle.std.specs.Prelude.{◌≡◌, ◌≢◌, ℕ, ◌<◌, List, [], ◌∷◌, ◌++◌, map, reverse, All, Some, Bool, false}
-use Rattle.httparse.specs.Grammar.{Field, crlf, IsToken, AllPass, is_value_byte, skip_ows, RequestHead, ReadsRequest, ResponseHead}
+use Rattle.httparse.specs.Grammar.{Field, crlf, IsToken, AllPass, is_value_byte, skip_ows, RequestHead, ResponseHead}
 use Rattle.httparse.specs.Grammar.{ReadsResponse}
 use Rattle.adapt_bytes.specs.Numeral.{three_digits}
 use Rattle.http_side.specs.Heads.{RequestParts, ResponseParts, response_parts, IsRequestText}

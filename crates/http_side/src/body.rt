@@ -4,7 +4,7 @@ ghost use Rattle.std.specs.Prelude.{◌≡◌, ℕ, ◌+◌, ◌-◌, ◌<◌, �
 ghost use Rattle.icap_chunks.specs.Faults.{Breaks};
 ghost use Rattle.icap_chunks.specs.Machine.{HasRead as chunks_read, end_of, fault_of as chunk_fault};
 ghost use Rattle.http_side.specs.declared.body.Progress.TheVariants.{Left, Chunks};
-ghost use Rattle.http_side.specs.Body.{IsBody, IsClosedBody, HasRead, is_over, fault_of, end_said, is_in_data};
+ghost use Rattle.http_side.specs.Body.{IsBody, IsClosedBody, HasRead, is_over, fault_of, end_said, is_in_data, runs_past};
 ghost use Rattle.http_side.specs.declared.body.Framing.{Framing as Way};
 ghost use Rattle.http_side.specs.declared.body.Framing.TheVariants.{Chunked};
 ghost use Rattle.http_side.specs.declared.body.BodyReader.{BodyReader as Reader};
@@ -128,6 +128,29 @@ impl BodyReader {
             part: fed.part,
             ended: fed.ended.map(|_| false),
         })
+    }
+
+    /// Whether so many bytes that come next are the body's, whatever they are, and further ones after them. Of chunks this is never said.
+    pub fn runs_past(&self, count: u64) -> bool
+        ensures { result ≡ runs_past count self.now }
+    {
+        match self.place {
+            Progress::Left(left) => count < left,
+            Progress::Chunks(_) => false,
+            Progress::Open => true,
+        }
+    }
+
+    /// Takes further bytes of the body, which are all its own, and after which it goes on.
+    pub fn take_run(&mut self, run: &[u8])
+        requires { runs_past (length run.now) self.old ≡ true }
+        ensures read { (framing : Way) (text body : List ℕ) → HasRead framing text body self.old → HasRead framing (text ++ run.now) (body ++ run.now) self.new }
+        ensures over { is_over self.new ≡ false }
+    {
+        match self.place {
+            Progress::Left(left) => self.place = Progress::Left(left - run.len() as u64),
+            Progress::Chunks(_) | Progress::Open => {}
+        }
     }
 
     /// Whether the body has ended.

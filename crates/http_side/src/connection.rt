@@ -24,23 +24,21 @@ pub(crate) fn is_named_by(fields: &Fields<'_>, name: &[u8]) -> bool
 /// If there is only one Connection field, and its value has at most this many bytes, each item is compared with all fields.
 const SHORT_VALUE: usize = 64;
 
-/// Which fields Connection names, by their places.
-pub(crate) fn named_fields(fields: &Fields<'_>) -> [bool; MAX_FIELDS]
-    ensures { AreNamed fields.now result }
+/// Marks which fields Connection names, by their places, where none is marked yet.
+pub(crate) fn mark_named(named: &mut [bool; MAX_FIELDS], fields: &Fields<'_>)
+    requires { (i : ℕ) → i < length named.old → slice_index_or named.old i false ≡ false }
+    ensures { AreNamed fields.now named.new }
 {
-    let mut named = [false; MAX_FIELDS];
     match fields.values(b"connection") {
-        Values::None => named,
-        Values::One(value) if value.len() <= SHORT_VALUE => {
-            mark_items(&mut named, fields, value);
-            named
-        }
-        _ => searched_fields(fields),
+        Values::None => {}
+        Values::One(value) if value.len() <= SHORT_VALUE => mark_items(named, fields, value),
+        _ => *named = searched_fields(fields),
     }
 }
 
 /// Which fields Connection names, if it may have many items. Each item is looked up among the sorted field names, where
 /// equal names stand together, and no field is marked twice.
+#[inline(never)]
 fn searched_fields(fields: &Fields<'_>) -> [bool; MAX_FIELDS]
     ensures { AreNamed fields.now result }
 {

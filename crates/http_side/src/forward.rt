@@ -1,15 +1,11 @@
 //! What is forwarded to the next hop and to a service: the framing, the end of the user's connection, and the heads
 //! (RFC 9112, sections 6 and 9.6; RFC 9110, section 7.6).
-ghost use Rattle.std.specs.Prelude.{◌≡◌, length, IfOk, if◌then◌else◌, None};
+ghost use Rattle.std.specs.Prelude.{◌≡◌, length, IfOk};
 ghost use Rattle.std.specs.Vec.{vec_capacity};
-ghost use Rattle.http_side.specs.Lengths.{content_length, coding};
-ghost use Rattle.http_side.specs.Heads.{both_lengths};
-ghost use Rattle.http_side.specs.Forward.{kept_length, has_no_place, is_response, has_body, has_own_body, is_to_old_user, unsized_framing, next_framing, closes, says_close, gets_zero, is_absolute, extra_of, forwarded, encapsulated, length_of, is_chunked};
+ghost use Rattle.http_side.specs.Forward.{kept_length, has_no_place, is_response, has_body, has_own_body, is_to_old_user, unsized_framing, next_framing, closes, says_close, gets_zero, is_absolute, extra_of, forwarded, encapsulated};
 
 use crate::body::Framing;
 use crate::connection::is_named_by;
-use crate::fields::Fields;
-use crate::lengths::{coding, content_length};
 use crate::request::HttpRequest;
 use crate::response::HttpResponse;
 use crate::targets::authority_of;
@@ -108,8 +104,8 @@ impl<'a> Message<'a> {
         ensures { result ≡ kept_length self.now }
     {
         match self {
-            Message::Request(request) => length_of(&request.fields()),
-            Message::Response(response) => uncoded_length(&response.fields()),
+            Message::Request(request) => request.length_fields().length,
+            Message::Response(response) => response.length_fields().uncoded_length(),
         }
     }
 
@@ -134,38 +130,9 @@ impl<'a> Message<'a> {
         ensures { result ≡ has_own_body self.now }
     {
         match self {
-            Message::Request(request) => is_chunked(&request.fields()),
+            Message::Request(request) => request.length_fields().chunked,
             Message::Response(_) => true,
         }
-    }
-}
-
-fn length_of(fields: &Fields<'_>) -> Option<u64>
-    ensures { result ≡ length_of fields.now }
-{
-    match content_length(fields) {
-        Ok(length) => length,
-        Err(_) => None,
-    }
-}
-
-/// The length that goes on where the fields say no coding.
-fn uncoded_length(fields: &Fields<'_>) -> Option<u64>
-    ensures { result ≡ (if both_lengths fields.now then None else length_of fields.now) }
-{
-    if fields.has(b"transfer-encoding") {
-        None
-    } else {
-        length_of(fields)
-    }
-}
-
-fn is_chunked(fields: &Fields<'_>) -> bool
-    ensures { result ≡ is_chunked (coding fields.now) }
-{
-    match coding(fields) {
-        Ok(chunked) => chunked,
-        Err(_) => false,
     }
 }
 

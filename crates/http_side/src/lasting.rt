@@ -3,7 +3,6 @@ ghost use Rattle.std.specs.Prelude.{◌≡◌};
 ghost use Rattle.http_side.specs.Lasting.{lets_last};
 
 use crate::connection::is_named_by;
-use crate::request::has_both_lengths;
 use crate::response::HttpResponse;
 
 impl HttpResponse {
@@ -12,7 +11,8 @@ impl HttpResponse {
     pub fn lets_last(&self) -> bool
         ensures { result ≡ lets_last self.now }
     {
-        let fields = self.fields();
-        self.minor() == 1 && !is_named_by(&fields, b"close") && !has_both_lengths(&fields)
+        self.minor() == 1
+            && !is_named_by(&self.fields(), b"close")
+            && !self.length_fields().has_both()
     }
 }

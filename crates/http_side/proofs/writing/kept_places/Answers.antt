@@ -1,7 +1,7 @@
 -- Each field that stays goes on, except a Content-Length after another one.
 use Rattle.std.proofs.Common.{◌≡◌, ◌<◌, Bool, false, List, ℕ, [], ◌∷◌, ◌++◌, ◌&&◌, ◌||◌, map, length, take, All, sym, ap, ◌∙◌, subst, arith}
 use Rattle.std.specs.List.{list_any, filter}
-use Rattle.std.proofs.lemmas.List.{map-append}
+use Rattle.std.proofs.lemmas.List.{get_or-replicate, map-append}
 use Rattle.std.proofs.lemmas.List.Elements.{All-push}
 use Rattle.adapt_bytes.specs.Fields.{field_at}
 use Rattle.http_side.specs.Forward.{stays, is_removed, is_named_by, is_length}
@@ -9,12 +9,15 @@ use Rattle.http_side.proofs.ForwardLemmas.{not_removed, length_again, goes_on, f
 use Rattle.http_side.proofs.writing.kept_places.Goals as goal
 use Rattle.http_side.proofs.writing.kept_places.Goals.{then-is_named+else-seen, else-is_named}
 
+pub mark_named-requires : goal.mark_named-requires
+mark_named-requires c i l = get_or-replicate 100 i false false l
+
 pub loop-at-preserved-then-seen : goal.loop-at-preserved-then-seen
 loop-at-preserved-then-seen c =
     let fields = c.args.fields.now in
     let beside = c.args.beside in
     let i = c.loop-at.at in
-    let marked = c.named_fields-named.ensures i (omega arith) (omega arith) ∙ ap (is_named_by fields) (sym c.name-name.ensures) in
+    let marked = c.mark_named.ensures i (omega arith) (omega arith) ∙ ap (is_named_by fields) (sym c.name-name.ensures) in
     let stay = not_removed (sym (c.is_removed.ensures fields marked ∙ ap (is_removed beside fields) c.name-name.ensures)
     ∙ c.if-is_removed.false) in
     let named : is_length (field_at fields i) ≡ c.is_named.result = sym c.is_named.ensures in
@@ -34,7 +37,7 @@ loop-at-preserved c =
     let i = c.loop-at.at in
     let old : Bool = list_any is_length (filter (stays beside fields) (take i fields)) in
     let n : Bool = is_length (field_at fields i) in
-    let marked = c.named_fields-named.ensures i (omega arith) (omega arith) ∙ ap (is_named_by fields) (sym c.name-name.ensures) in
+    let marked = c.mark_named.ensures i (omega arith) (omega arith) ∙ ap (is_named_by fields) (sym c.name-name.ensures) in
     let stay = not_removed (sym (c.is_removed.ensures fields marked ∙ ap (is_removed beside fields) c.name-name.ensures)
     ∙ c.if-is_removed.false) in
     let named : n ≡ c.is_named.result = sym c.is_named.ensures in
