@@ -141,6 +141,19 @@ turn_idle room old new P out t h ends l w none m rests = record {
   cause = λ f e. cc;
 }
 
+-- the end of the body was reported
+pub turn_over : (room : ℕ) (s : SourceSide) (P : Past → Type 0) (out : List ℕ) (t : Turn) → t.waiting ≡ true → t.events.items ≡ []
+    → s.body.ended ≡ true → ReadTurn room s s P P out (Ok t)
+turn_over room s P out t w none e =
+    let still : SideReads s s [] [] [] false = filled_more s s [] false refl refl refl (sym (append-nil s.raw.items)) in
+    let stays : TellsEnd s.body s.body = record {
+      just = λ n. let odd : true ≡ false = sym e ∙ n in cc;
+      stays = λ y. y;
+    } in
+    turn_idle room s s P out t
+    (subst (λ (es : List Event). SideReads s s es [] (take (in_sum es) out) false) (sym none) still) stays
+    (subst (λ (es : List Event). in_sum es ≤ room) (sym none) (zero_le room)) w none (inl e) (inl e)
+
 -- raw bytes are refused
 pub turn_refused : (room : ℕ) (old new : SourceSide) (P : Past → Type 0) (out : List ℕ) (fault : RelayFault) → new ≡ old
     → Refuses fault old.body old.raw.items → ReadTurn room old new P P out (Err fault)

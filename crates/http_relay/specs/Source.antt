@@ -2,7 +2,7 @@
 use Rattle.std.specs.Prelude.{◌≡◌, ℕ, ◌+◌, ◌<◌, ◌≤◌, ◌⊎◌, ◌||◌, Bool, true, false, List, [], ◌++◌, length, Some, IfSome}
 use Rattle.adapt_bytes.specs.declared.limits.TheConstants.{COUNT_LIMIT}
 use Rattle.icap_chunks.specs.declared.fault.ChunkFault.{ChunkFault}
-use Rattle.http_side.specs.Body.{HasRead, IsBody, IsClosedBody, is_over}
+use Rattle.http_side.specs.Body.{HasRead, IsBody, IsClosedBody, is_over, runs_past}
 use Rattle.http_side.specs.declared.body.Framing.{Framing}
 use Rattle.trace_core.specs.declared.history.Event.{Event}
 use Rattle.trace_core.specs.declared.history.Seen.{Seen}
@@ -18,6 +18,12 @@ pub record MayTell (s : SourceBody) (count : ℕ) (ended : Bool) : Type 0 where
   pub sum : s.received + count < COUNT_LIMIT
   pub len : IfSome (length_of s.framing) (λ len. s.received + count ≤ len)
   pub end : ended ≡ true → IfSome (length_of s.framing) (λ len. s.received + count ≡ len)
+
+-- so many bytes that come next are the body's, whatever they are, and may be reported, and it goes on after them
+pub record RunsPast (count : ℕ) (s : SourceBody) : Type 0 where
+  pub going_on : s.ended ≡ false
+  pub runs : runs_past count s.reader ≡ true
+  pub tells : MayTell s count false
 
 -- its numbers are those of what is seen; a length that the plan knows is the framing's
 pub record Agrees (x : Seen) (s : SourceBody) : Type 0 where

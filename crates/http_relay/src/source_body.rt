@@ -1,10 +1,10 @@
 //! A source's body: it takes bytes, answers In and End, and knows no wire.
 
 ghost use Rattle.std.specs.Prelude.{◌≡◌, ℕ, ◌+◌, ◌<◌, ◌≤◌, ◌↔◌, ◌⊎◌, List, [], length, take, drop, IfOk, IfErr, OnOk, OnErr, IfSome, Some, true, false, IsTrue};
-ghost use Rattle.http_side.specs.Body.{HasRead};
+ghost use Rattle.http_side.specs.Body.{HasRead, runs_past};
 ghost use Rattle.trace_core.specs.Turns.{in_sum};
 ghost use Rattle.http_relay.specs.Events.{source_events};
-ghost use Rattle.http_relay.specs.Source.{Agrees, MayTell, BodyReads, TellsEnd, IsCutShort, MustWait, Refuses};
+ghost use Rattle.http_relay.specs.Source.{Agrees, MayTell, BodyReads, TellsEnd, IsCutShort, MustWait, Refuses, RunsPast};
 ghost use Rattle.http_relay.specs.Message.{length_of};
 
 use crate::body::read_body;
@@ -144,6 +144,26 @@ impl SourceBody {
             }
             Err(_) => Err(RelayFault::Chunk),
         }
+    }
+
+    /// Whether so many bytes that come next are the body's, whatever they are, and may be reported, and it goes on after them.
+    pub(crate) fn runs_past(&self, count: usize) -> bool
+        ensures { IsTrue result ↔ RunsPast count self.now }
+    {
+        !self.ended && self.reader.runs_past(count as u64) && self.may_tell(count as u64, false)
+    }
+
+    /// Takes further bytes that are all the body's, and after which it goes on.
+    pub(crate) fn take_run(&mut self, run: &[u8]) -> ArrayVec<Event, 4>
+        requires { RunsPast (length run.now) self.old }
+        ensures events { result.items ≡ source_events (length run.now) false }
+        ensures reads { BodyReads self.old self.new result.items run.now run.now false }
+        ensures ends { TellsEnd self.old self.new }
+        ensures framing { self.new.framing ≡ self.old.framing }
+    {
+        self.reader.take_run(run);
+        self.received += run.len() as u64;
+        source_events(run.len(), false)
     }
 
     /// The connection was closed after what was read.

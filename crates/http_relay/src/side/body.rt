@@ -5,14 +5,14 @@ ghost use Rattle.trace_core.specs.Turns.{in_sum};
 ghost use Rattle.adapt_sides.specs.declared.filling.TheConstants.{MAX_READ};
 ghost use Rattle.adapt_sides.specs.Turns.{ReadsBody};
 ghost use Rattle.http_side.specs.Body.{is_over};
-ghost use Rattle.http_relay.specs.Source.{Agrees, MustWait, Refuses, TellsEnd};
+ghost use Rattle.http_relay.specs.Source.{Agrees, MustWait, Refuses, RunsPast, TellsEnd};
 ghost use Rattle.http_relay.specs.Reading.{SideRead, SideReads, Rests, HasFramed, IsOver, ReadTurn};
 
 use crate::side::SourceSide;
-use adapt_sides::{Filled, RelayFault, Turn, WIRE_ROOM, body_read, fill};
+use adapt_sides::{Filled, MAX_READ, RelayFault, Turn, WIRE_ROOM, body_read, fill};
 use arrayvec::ArrayVec;
 use trace_core::Event;
-use wire_kit::Wire;
+use wire_kit::{Got, Wire};
 
 impl SourceSide {
     /// Frames what can be framed of the raw bytes of the body.
@@ -76,6 +76,37 @@ impl SourceSide {
         }
     }
 
+    /// Reads the wire once, straight to where the bytes of the body go: as many as there is room for are the body's, whatever they are.
+    fn read_straight<W: Wire>(&mut self, wire: &mut W, out: &mut [u8]) -> Result<Turn, RelayFault>
+        requires empty { self.old.raw.items ≡ [] }
+        requires runs { RunsPast (length out.old) self.old.body }
+        requires not_over { is_over self.old.body.reader ≡ false }
+        requires some_room { 0 < length out.old }
+        ensures turn { ReadTurn (length out.old) self.old self.new (W.past wire.old) (W.past wire.new) out.new result }
+        ensures raw { self.new.raw ≡ self.old.raw }
+        ensures fault { self.new.fault ≡ self.old.fault }
+        ensures head { self.new.head ≡ self.old.head }
+    {
+        match wire.try_read(out) {
+            Got::Bytes(count) => Ok(Turn {
+                events: self.body.take_run(&out[..count]),
+                waiting: false,
+            }),
+            Got::Wait => Ok(Turn {
+                events: ArrayVec::new(),
+                waiting: true,
+            }),
+            Got::Ended => match self.body.close() {
+                Ok(events) => Ok(Turn {
+                    events,
+                    waiting: false,
+                }),
+                Err(fault) => Err(fault),
+            },
+            Got::Fault => Err(RelayFault::Device),
+        }
+    }
+
     /// Frames the raw bytes, and reads the wire once where nothing of them can be framed and there is room.
     fn frame_or_read<W: Wire>(
         &mut self,
@@ -104,10 +135,34 @@ impl SourceSide {
                 waiting: true,
             });
         }
+        if out.len() >= MAX_READ && self.body.runs_past(out.len()) {
+            return self.read_straight(wire, out);
+        }
         self.read_wire(wire, out, buffer)
     }
 
-    /// Runs [`SourceSide::frame_or_read`], and then keeps no empty room.
+    /// Runs [`SourceSide::frame_or_read`], unless the end of the body was reported.
+    fn frame_rest<W: Wire>(
+        &mut self,
+        wire: &mut W,
+        out: &mut [u8],
+        buffer: &mut [u8; WIRE_ROOM],
+    ) -> Result<Turn, RelayFault>
+        ensures turn { ReadTurn (length out.old) self.old self.new (W.past wire.old) (W.past wire.new) out.new result }
+        ensures kept { length self.old.raw.items < length self.new.raw.items → length self.new.raw.items ≤ max MAX_READ (length out.old) }
+        ensures fault { self.new.fault ≡ self.old.fault }
+        ensures head { self.new.head ≡ self.old.head }
+    {
+        if self.body.has_ended() {
+            return Ok(Turn {
+                events: ArrayVec::new(),
+                waiting: true,
+            });
+        }
+        self.frame_or_read(wire, out, buffer)
+    }
+
+    /// Runs [`SourceSide::frame_rest`], and then keeps no empty room.
     fn turn_once<W: Wire>(
         &mut self,
         wire: &mut W,
@@ -120,7 +175,7 @@ impl SourceSide {
         ensures head { self.new.head ≡ self.old.head }
         ensures empty { self.new.raw.items ≡ [] → self.new.raw.spare ≡ 0 }
     {
-        let result = self.frame_or_read(wire, out, buffer);
+        let result = self.frame_rest(wire, out, buffer);
         self.free_memory();
         result
     }

@@ -42,3 +42,17 @@ returns-clause-turn g c =
     (g.W.Wire.past c.read_wire.new.wire) c.read_wire.new.out c.read_wire.result still going
     (subst (λ (n : ℕ). ReadTurn n framed c.read_wire.new.self (g.W.Wire.past c.args.wire.now)
     (g.W.Wire.past c.read_wire.new.wire) c.read_wire.new.out c.read_wire.result) c.frame_raw.auto.out c.read_wire.ensures.turn)
+
+pub returns-then-runs_past-clause-turn : goal.returns-then-runs_past-clause-turn
+returns-then-runs_past-clause-turn g c =
+    let framed = c.frame_raw.new.self in
+    let none : c.in-Ok.events.items ≡ [] = search rules in
+    let still : SideReads c.args.self.now framed [] [] [] false =
+    subst (λ (es : List Event). SideReads c.args.self.now framed es [] (take (in_sum es) c.frame_raw.new.out) false) none
+    c.in-Ok.ensures.reads in
+    let going : framed.body.ended ≡ false = search rules in
+    turn_behind (length c.args.out.now) c.args.self.now framed c.read_straight.new.self (g.W.Wire.past c.args.wire.now)
+    (g.W.Wire.past c.read_straight.new.wire) c.read_straight.new.out c.read_straight.result still going
+    (subst (λ (n : ℕ). ReadTurn n framed c.read_straight.new.self (g.W.Wire.past c.args.wire.now)
+    (g.W.Wire.past c.read_straight.new.wire) c.read_straight.new.out c.read_straight.result) c.frame_raw.auto.out
+    c.read_straight.ensures.turn)
