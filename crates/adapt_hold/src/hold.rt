@@ -246,6 +246,7 @@ impl<B: Ledgers> Hold<B> {
     }
 
     /// The reservation of a closed transaction, which holds nothing and has no page.
+    #[inline(always)]
     pub fn into_stake(self) -> Stake<B>
         requires { (shows self.history).closed ≡ true }
         ensures { result ≡ record { held = 0; claim = self.claim; pages = 0 } }

@@ -87,6 +87,7 @@ pub fn step_one<B: Ledgers>(
 }
 
 /// Takes events in their order; `bytes` are those of all of them, one after the other.
+#[inline(always)]
 pub fn step_all<B: Ledgers>(
     rt: &impl Wait,
     bank: &Bank<B>,

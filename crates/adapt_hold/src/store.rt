@@ -172,6 +172,9 @@ impl<B: Ledgers> Store<B> {
         ensures held { self.new.held + ((original - self.old.original.base) + (adapted - self.old.adapted.base)) ≡ self.old.held }
         ensures claim { self.new.claim ≡ self.old.claim }
     {
+        if original == self.original.base() && adapted == self.adapted.base() {
+            return;
+        }
         let (freed, pages) = drop_before(&mut self.original, original);
         let (more, others) = drop_before(&mut self.adapted, adapted);
         let mut pages = pages;
@@ -189,6 +192,7 @@ impl<B: Ledgers> Store<B> {
     }
 
     /// The reservation, once nothing is held.
+    #[inline(always)]
     pub(crate) fn into_stake(self) -> Stake<B>
         requires { self.held ≡ 0 }
         ensures { result ≡ record { held = 0; claim = self.claim; pages = 0 } }

@@ -41,7 +41,7 @@ use crate::head_maker::HeadMaker;
 use crate::incoming::Incoming;
 use crate::own_ends::{OwnEnds, Wires};
 use crate::running::{Accounting, Running};
-use crate::starting::{Beginning, begin};
+use crate::starting::{Beginning, begin, may_begin};
 use adapt_sides::{Scratch, Service, Source};
 use adapt_turn::{Answering, MakesHead, Refusing, Side, Standing, Tx};
 use http_relay::{HopWriter, SourceSide};
@@ -101,7 +101,7 @@ pub fn a_running_transaction_takes_one_message<B: Ledgers, W: Wires>(running: &R
 /// others since the beginning; after all that each had given and taken before, just the texts of [`the_wires_take_one_message`]. It holds
 /// of all turns, each of a side at a moment, and of wires of any kind; a wire in memory shows its bytes.
 ///
-/// Everything comes back where [`begin`] gives it back.
+/// Everything comes back where [`may_begin`] says that none may begin.
 pub fn from_the_beginning_the_wires_take_one_message<B: Ledgers, W: Wires>(
     rt: &impl Wait,
     alloc: Global,
@@ -123,14 +123,14 @@ pub fn from_the_beginning_the_wires_take_one_message<B: Ledgers, W: Wires>(
         × ((shows old.hold.history).closed ≡ false → old.pace.last_moved + old.pace.deadline ≤ now → new.outcome ≡ outcomes.Fail Deadline)) turns.now running.tx) }
     ensures back { IfErr result (λ back. back ≡ beginning) }
 {
-    match begin(alloc, beginning) {
-        Ok(mut running) => {
-            running.take_turns(rt, bank, scratch, turns);
-            the_wires_take_one_message(&running.tx);
-            Ok(running)
-        }
-        Err(beginning) => Err(beginning),
+    let is_connected = beginning.way.service.is_some();
+    if !may_begin(&beginning.message, &beginning.offer, is_connected) {
+        return Err(beginning);
     }
+    let mut running = begin(alloc, beginning);
+    running.take_turns(rt, bank, scratch, turns);
+    the_wires_take_one_message(&running.tx);
+    Ok(running)
 }
 
 /// A message and the wire that it comes over. It begins there with the bytes that were kept of the message before it; a turn at its head
@@ -160,7 +160,7 @@ pub fn messages_follow_one_another<B: Ledgers, W: Wires>(running: &Running<B, W>
 /// next hop's since the beginning; the service's connection since the request began on it, up to when it was given up, if it was. These
 /// are just the texts of [`the_wires_take_one_message`], with the offer's own request. It holds of all calls and of wires of any kind.
 ///
-/// Everything comes back where [`begin`] gives it back.
+/// Everything comes back where [`may_begin`] says that none may begin.
 pub fn over_all_calls_the_wires_take_one_message<B: Ledgers, W: Wires>(
     rt: &impl Wait,
     alloc: Global,
@@ -178,14 +178,14 @@ pub fn over_all_calls_the_wires_take_one_message<B: Ledgers, W: Wires>(
         × ⟦<Tx<B, OwnEnds<W>> as Accounting<W>>⟧.took (record (first_snapshot (text_of beginning.offer.side) ahead beside first beginning.way.next line) { given = given }) running.tx) }
     ensures back { IfErr result (λ back. back ≡ beginning) }
 {
-    match begin(alloc, beginning) {
-        Ok(mut running) => {
-            running.call_all(rt, bank, scratch, calls);
-            the_wires_take_one_message(&running.tx);
-            Ok(running)
-        }
-        Err(beginning) => Err(beginning),
+    let is_connected = beginning.way.service.is_some();
+    if !may_begin(&beginning.message, &beginning.offer, is_connected) {
+        return Err(beginning);
     }
+    let mut running = begin(alloc, beginning);
+    running.call_all(rt, bank, scratch, calls);
+    the_wires_take_one_message(&running.tx);
+    Ok(running)
 }
 
 /// Of a transaction, wherever it stands, each byte that is held is one that some legal continuation still sends, and each byte that a

@@ -36,4 +36,4 @@ pub use plans::{limits_of, request_plan, response_plan};
 pub use pools::{is_reusable_after_options, pool_maximum};
 pub use route::{Route, Unrouted, route_of};
 pub use running::{Accounting, Lasting, Running};
-pub use starting::{Beginning, begin};
+pub use starting::{Beginning, begin, may_begin};

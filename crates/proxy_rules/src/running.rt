@@ -144,6 +144,11 @@ impl<B: Ledgers, W: Wires> Running<B, W> {
         ensures lasts { ⟦<Tx<B, OwnEnds<W>> as Lasting<W>>⟧.lasts (λ s. s) self.old.tx self.new.tx }
         ensures over { (shows self.new.tx.hold.history).closed ≡ true }
         ensures halted { (shows self.old.tx.hold.history).closed ≡ false → self.new.tx.outcome ≡ outcomes.Fail Stopping }
+        ensures failed { (shows self.old.tx.hold.history).closed ≡ false → self.new.tx.hold ≡ moved self.old.tx.hold (Fail Stopping) [] }
+        ensures still { (shows self.old.tx.hold.history).closed ≡ true → self.new.tx ≡ self.old.tx }
+        ensures wires { (self.new.tx.ends.source_wire ≡ self.old.tx.ends.source_wire) × (self.new.tx.ends.next_wire ≡ self.old.tx.ends.next_wire) }
+        ensures service { self.new.tx.ends.service ≡ self.old.tx.ends.service }
+        ensures source { (self.new.tx.ends.source ≡ self.old.tx.ends.source) × (self.new.tx.ends.maker ≡ self.old.tx.ends.maker) }
     {
         self.tx.halt(rt, bank);
     }
@@ -250,6 +255,7 @@ impl<B: Ledgers, W: Wires> Running<B, W> {
     }
 
     /// The transaction itself, to be taken apart.
+    #[inline(always)]
     pub fn into_tx(self) -> Tx<B, OwnEnds<W>>
         ensures { result ≡ self.tx }
     {

@@ -1,6 +1,6 @@
 //! The beginning of a transaction of the proxy's own sides.
 
-ghost use Rattle.std.specs.Prelude.{◌≡◌, ◌≤◌, ◌↔◌, List, ℕ, [], None, true, false, is_some, IsOk, IfOk, IfErr};
+ghost use Rattle.std.specs.Prelude.{◌≡◌, ◌≤◌, ◌↔◌, List, ℕ, [], None, true, false, is_some};
 ghost use Rattle.span_bank.specs.declared.limits.TheConstants.{MAX_CAPACITY};
 ghost use Rattle.plan_rules.specs.Claims.{claim_of};
 ghost use Rattle.adapt_turn.specs.Stands.{no_texts};
@@ -59,7 +59,11 @@ impl<B: Ledgers, W: Wires> Beginning<B, W> {
 
 /// Whether a transaction may begin: the offer is of a message of this kind, which may begin at its source by that plan, and a
 /// connection to the service is there exactly where the message is offered.
-fn may_begin(message: &Incoming, offer: &Offer, is_connected: bool) -> bool
+///
+/// It may not where the offer is of another kind of message, or of one of another length than the source's head says; where no head was
+/// read, something of the body was reported before, or the source's side has a fault; and where a connection to the service is missing,
+/// or there is one though the message isn't offered.
+pub fn may_begin(message: &Incoming, offer: &Offer, is_connected: bool) -> bool
     ensures { result ≡ true ↔ MayBegin message.now offer.now is_connected }
 {
     message.point() == offer.plan().point
@@ -85,32 +89,22 @@ fn service_end<W>(side: Option<ServiceSide>, wire: Option<W>) -> Option<ServiceE
 /// Begins a transaction. What stands between a transaction and its wires stands from the beginning, with the offer's request: of the
 /// source's wire the bytes were read that the head was found in, and nothing else went over a wire. No side has a fault.
 ///
-/// Everything comes back where the offer is of another kind of message, or of one of another length than the source's head says;
-/// where no head was read, something of the body was reported before, or the source's side has a fault; and where a connection to the
-/// service is missing, or there is one though the message isn't offered.
-pub fn begin<B: Ledgers, W: Wires>(
-    alloc: Global,
-    beginning: Beginning<B, W>,
-) -> Result<Running<B, W>, Beginning<B, W>>
+/// The caller asks [`may_begin`] first, while it can still do something else with what it has.
+pub fn begin<B: Ledgers, W: Wires>(alloc: Global, beginning: Beginning<B, W>) -> Running<B, W>
+    requires may { MayBegin beginning.message beginning.offer (is_some beginning.way.service) }
     requires empty { (beginning.stake.held ≡ 0) × (beginning.stake.pages ≡ 0) }
     requires claim { beginning.stake.claim ≡ claim_of beginning.offer.plan beginning.limits.window }
     requires small { beginning.stake.claim ≤ MAX_CAPACITY }
-    ensures accepts { IsOk result ↔ MayBegin beginning.message beginning.offer (is_some beginning.way.service) }
-    ensures begun { IfOk result (λ running. running.tx.hold.history ≡ record { plan = beginning.offer.plan; events = [] }) }
-    ensures pace { IfOk result (λ running. running.tx.pace ≡ beginning.pace) }
-    ensures stands { IfOk result (λ running. (read : List ℕ) × ⟦<Tx<B, OwnEnds<W>> as Standing>⟧.stands running.tx (text_of beginning.offer.side) (record no_texts { source_read = record { bytes = read; ended = false } })) }
-    ensures since { IfOk result (λ running. (first : W.SourceWire) (ahead since beside : List ℕ) → Came W.SourceWire.Wire first ahead since beside beginning.message.side beginning.way.source
-        → ⟦<Tx<B, OwnEnds<W>> as Accounting<W>>⟧.since (first_snapshot (text_of beginning.offer.side) ahead beside first beginning.way.next beginning.way.service) running.tx) }
-    ensures sides { IfOk result (λ running. (running.tx.ends.source ≡ beginning.message.side) × (running.tx.ends.maker.user ≡ beginning.message.user) × (running.tx.ends.maker.last ≡ beginning.last) × (running.tx.ends.service ≡ service_end_of beginning.offer.side beginning.way.service)) }
-    ensures origin { IfOk result (λ running. beginning.message.user ≡ None → running.tx.ends.maker.origin ≡ beginning.origin) }
-    ensures wires { IfOk result (λ running. (running.tx.ends.source_wire ≡ beginning.way.source) × (running.tx.ends.next_wire ≡ beginning.way.next)) }
-    ensures turns { IfOk result (λ running. (running.tx.ends.next.turn ≡ beginning.limits.turn) × (running.tx.ends.back.turn ≡ beginning.limits.turn)) }
-    ensures back { IfErr result (λ back. back ≡ beginning) }
+    ensures begun { result.tx.hold.history ≡ record { plan = beginning.offer.plan; events = [] } }
+    ensures pace { result.tx.pace ≡ beginning.pace }
+    ensures stands { (read : List ℕ) × ⟦<Tx<B, OwnEnds<W>> as Standing>⟧.stands result.tx (text_of beginning.offer.side) (record no_texts { source_read = record { bytes = read; ended = false } }) }
+    ensures since { (first : W.SourceWire) (ahead since beside : List ℕ) → Came W.SourceWire.Wire first ahead since beside beginning.message.side beginning.way.source
+        → ⟦<Tx<B, OwnEnds<W>> as Accounting<W>>⟧.since (first_snapshot (text_of beginning.offer.side) ahead beside first beginning.way.next beginning.way.service) result.tx }
+    ensures sides { (result.tx.ends.source ≡ beginning.message.side) × (result.tx.ends.maker.user ≡ beginning.message.user) × (result.tx.ends.maker.last ≡ beginning.last) × (result.tx.ends.service ≡ service_end_of beginning.offer.side beginning.way.service) }
+    ensures origin { beginning.message.user ≡ None → result.tx.ends.maker.origin ≡ beginning.origin }
+    ensures wires { (result.tx.ends.source_wire ≡ beginning.way.source) × (result.tx.ends.next_wire ≡ beginning.way.next) }
+    ensures turns { (result.tx.ends.next.turn ≡ beginning.limits.turn) × (result.tx.ends.back.turn ≡ beginning.limits.turn) }
 {
-    let is_connected = beginning.way.service.is_some();
-    if !may_begin(&beginning.message, &beginning.offer, is_connected) {
-        return Err(beginning);
-    }
     let Beginning {
         offer,
         limits,
@@ -143,11 +137,6 @@ pub fn begin<B: Ledgers, W: Wires>(
         },
         pace,
     };
-    match Tx::new(alloc, start) {
-        Ok(tx) => {
-            let running = Running { tx };
-            Ok(running)
-        }
-        Err(_) => unreachable!(),
-    }
+    let tx = Tx::new(alloc, start);
+    Running { tx }
 }

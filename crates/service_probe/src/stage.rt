@@ -12,7 +12,7 @@ use adapt_sides::Scratch;
 use adapt_turn::{EndTypes, Ends, Outcome, ServiceEnd, Side, TurnAnswer, Tx, TxParts};
 use http_side::{OriginUse, OriginWay};
 use plan_rules::{Limits, Pace, claim};
-use proxy_rules::{Beginning, Incoming, Offer, Running, Way, Wires, begin};
+use proxy_rules::{Beginning, Incoming, Offer, Running, Way, Wires, begin, may_begin};
 use span_bank::{Bank, Ledgers, Pages, Stake};
 use std::alloc::{AllocError, Global};
 use std::boxed::Box;
@@ -89,6 +89,10 @@ pub fn set_out<B: Ledgers, W: Wires>(
     limits: Limits,
     pace: Pace,
 ) -> Option<Box<Running<B, W>>> {
+    let is_connected = way.service.is_some();
+    if !may_begin(&message, &offer, is_connected) {
+        return None;
+    }
     let stake = reserve(rt, bank, offer.plan(), &limits)?;
     let beginning = Beginning {
         offer: Box::into_inner(offer),
@@ -100,14 +104,8 @@ pub fn set_out<B: Ledgers, W: Wires>(
         last: false,
         origin: OriginWay::straight(OriginUse::Once),
     };
-    match begin(alloc, beginning) {
-        Ok(running) => boxed(rt, alloc, bank, running),
-        Err(beginning) => {
-            let (stake, _way) = beginning.into_remains();
-            bank.close(rt, stake, Pages::none());
-            None
-        }
-    }
+    let running = begin(alloc, beginning);
+    boxed(rt, alloc, bank, running)
 }
 
 /// A transaction on the heap. One for which there is no memory ends.

@@ -7,5 +7,5 @@ returns-clause-stands g c = λ text request re sides ng na bg ba.
     let ends = c.args.start.ends in
     begins g.E.Reader.Source g.E.Client.Service g.E.Writer.Hop (g.E.Maker.MakesHead.makes ends.maker) c.begin_hold.result c.args.start.plan
     ends.source ends.service ends.next ends.back text request
-    c.begin_hold.ensures.history c.begin_hold.ensures.empty.0 c.begin_hold.ensures.empty.1 (c.begins.ensures.agrees c.if-not-begins.false)
+    c.begin_hold.ensures.history c.begin_hold.ensures.empty.0 c.begin_hold.ensures.empty.1 c.requires.agrees
     re sides ng na bg ba
