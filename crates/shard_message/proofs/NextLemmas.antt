@@ -144,20 +144,6 @@ next_told response next again point sequel ended.Stop told end message brings en
 next_told response next again point sequel ended.User told end message brings ends_by is e m o =
     next_other response next again end ends.Lost message tt (e ∙ ends_by) o
 
--- what comes after a transaction that was closed goes by what it was then; one that was open fails, and nothing comes of it
-pub brings_closed : {M T : Type 0} (response : M → Type 0) (next : T → M → Type 0) (x y : T) (closed : Bool) (outcome : Outcome)
-    (onward carries : Type 0) (lasts old : Bool) (sequel : Sequel M)
-    → (closed ≡ true → x ≡ y) → IsSequel (ended_as closed outcome) onward carries lasts false old sequel
-    → Brings response (next x) (λ _. ⊥) sequel → Brings response (next y) (λ _. ⊥) sequel
-brings_closed {M} {T} response next x y true outcome onward carries lasts old sequel same is brings =
-    subst (λ (z : T). Brings response (next z) (λ _. ⊥) sequel) (same refl) brings
-brings_closed response next x y false outcome onward carries lasts old (sequels.Sent message) same is brings = absurd is
-brings_closed response next x y false outcome onward carries lasts old (sequels.Answered None lasting) same is brings = absurd is
-brings_closed response next x y false outcome onward carries lasts old (sequels.Answered (Some message) lasting) same is brings = absurd is
-brings_closed response next x y false outcome onward carries lasts old (sequels.Withdrawn None) same is brings = tt
-brings_closed response next x y false outcome onward carries lasts old (sequels.Withdrawn (Some message)) same is brings = absurd brings
-brings_closed response next x y false outcome onward carries lasts old (sequels.Failed cause is_old) same is brings = tt
-
 -- whether the origin's connection lasts is what was found
 lasts_as : (lasting : Type 0) (lasts told found : Bool) → (lasts ≡ true ↔ lasting) → found ≡ lasts → told ≡ found → told ≡ true ↔ lasting
 lasts_as lasting lasts told found is f t = subst (λ (z : Bool). z ≡ true ↔ lasting) (sym (t ∙ f)) is
@@ -244,18 +230,35 @@ itself_with ended.Deadline f p = tt
 itself_with ended.Stop f p = tt
 itself_with ended.User f p = tt
 
--- the end that is told of a transaction goes by what it was, closed or open
-pub ends_told : {M T : Type 0} (point : Point) (onward carries lasting : T → Type 0) (bars : Type 0) (x y : T) (closed : Bool)
-    (outcome : Outcome) (lasts may old : Bool) (sequel : Sequel M)
-    (by : EndedBy) (end : End) → (closed ≡ true → x ≡ y) → (lasts ≡ true ↔ lasting x) → (is_by_itself by ≡ true → may ≡ false → bars)
-    → IsSequel (ended_as closed outcome) (onward x) (carries x) lasts may old sequel → IfItself by (IsEndOf point sequel end)
+-- the end that is told of a transaction goes by what is left of it
+pub ends_told : {M T : Type 0} (point : Point) (onward carries lasting : T → Type 0) (bars : Type 0) (x y : T) (outcome : Outcome)
+    (lasts may old : Bool) (sequel : Sequel M) (by : EndedBy) (end : End)
+    → x ≡ y → (lasts ≡ true ↔ lasting x) → (is_by_itself by ≡ true → may ≡ false → bars)
+    → IsSequel outcome (onward x) (carries x) lasts may old sequel → IfItself by (IsEndOf point sequel end)
+    → IfItself by (EndsAs point outcome (onward y) (carries y) (lasting y) bars end)
+ends_told point onward carries lasting bars x y outcome lasts may old sequel by end same found b is itself =
+    itself_with by (λ i e. ends_closed point onward carries lasting bars x y outcome lasts may old sequel end same found (b i) is e) itself
+
+-- a transaction that failed for the stop ends so, whatever else is so of it
+ends_stopped : (point : Point) (onward carries lasting further carries_further lasting_further bars : Type 0) (end : End)
+    → EndsAs point (Fail Stopping) onward carries lasting bars end
+    → EndsAs point (Fail Stopping) further carries_further lasting_further bars end
+ends_stopped point onward carries lasting further carries_further lasting_further bars (ends.Sent has_memory) told = absurd told
+ends_stopped point onward carries lasting further carries_further lasting_further bars (ends.Answered keeps lasts) told = absurd told
+ends_stopped point onward carries lasting further carries_further lasting_further bars (ends.Withdrawn has_memory) told = told
+ends_stopped point onward carries lasting further carries_further lasting_further bars (ends.Failed why) told = told
+ends_stopped point onward carries lasting further carries_further lasting_further bars ends.Stopped told = absurd told
+ends_stopped point onward carries lasting further carries_further lasting_further bars ends.Lost told = told
+
+-- what is told of a transaction that was halted is so of what it was before, where it was closed; one that was open fails for the stop
+pub ends_halted : {T : Type 0} (point : Point) (onward carries lasting : T → Type 0) (bars : Type 0) (x y : T) (closed : Bool)
+    (outcome : Outcome) (by : EndedBy) (end : End) → (closed ≡ true → x ≡ y)
+    → IfItself by (EndsAs point (ended_as closed outcome) (onward x) (carries x) (lasting x) bars end)
     → IfItself by (EndsAs point (ended_as closed outcome) (onward y) (carries y) (lasting y) bars end)
-ends_told point onward carries lasting bars x y true outcome lasts may old sequel by end same found b is itself =
-    itself_with by (λ i e. ends_closed point onward carries lasting bars x y outcome lasts may old sequel end (same refl) found (b i) is e)
-    itself
-ends_told point onward carries lasting bars x y false outcome lasts may old sequel by end same found b is itself =
-    itself_with by (λ i e. ends_failed point Stopping (onward x) (carries x) (onward y) (carries y) (lasting y) bars lasts may old sequel
-    end (b i) is e) itself
+ends_halted {T} point onward carries lasting bars x y true outcome by end same told =
+    subst (λ (z : T). IfItself by (EndsAs point outcome (onward z) (carries z) (lasting z) bars end)) (same refl) told
+ends_halted point onward carries lasting bars x y false outcome by end same told =
+    itself_with by (λ i e. ends_stopped point (onward x) (carries x) (lasting x) (onward y) (carries y) (lasting y) bars end e) told
 
 -- a sequel ends with a withdrawal only where its request may be withdrawn
 withdrawn_is : {M : Type 0} (point : Point) (outcome : Outcome) (onward carries : Type 0) (lasts may old has_memory : Bool)

@@ -286,8 +286,16 @@ impl<O: Kinds> Moving<O> {
         ensures wires { (result.remains.connections.user ≡ ⟦<Self as Accounted<O>>⟧.user self) × (result.remains.connections.service ≡ ⟦<Self as Accounted<O>>⟧.service self) × (result.remains.connections.origin ≡ ⟦<Self as Accounted<O>>⟧.origin self) }
     {
         match self {
-            Moving::Request(tx) => settle_request(rt, at, out, tx_of(tx), by, before, course),
-            Moving::Response(tx) => settle_response(rt, at, out, tx_of(tx), by),
+            Moving::Request(running) => {
+                let has_answered = running.has_answered();
+                let tx = tx_of(rt, out.bank(), running);
+                settle_request(at, out, tx, has_answered, by, before, course)
+            }
+            Moving::Response(running) => {
+                let has_answered = running.has_answered();
+                let tx = tx_of(rt, out.bank(), running);
+                settle_response(at, out, tx, has_answered, by)
+            }
         }
     }
 
@@ -296,8 +304,8 @@ impl<O: Kinds> Moving<O> {
         ensures { (result.held ≡ 0) × (result.pages ≡ 0) }
     {
         match self {
-            Moving::Request(tx) => stake_of(rt, bank, tx_of(tx)),
-            Moving::Response(tx) => stake_of(rt, bank, tx_of(tx)),
+            Moving::Request(running) => stake_of(tx_of(rt, bank, running)),
+            Moving::Response(running) => stake_of(tx_of(rt, bank, running)),
         }
     }
 }

@@ -1,6 +1,6 @@
 //! Transactions taken apart: what they stood over, and what comes of their messages.
 
-ghost use Rattle.std.specs.Prelude.{◌≡◌, ◌&&◌, ⊤, Bool as AnyBool, None, false, true, map, not, string_bytes};
+ghost use Rattle.std.specs.Prelude.{◌≡◌, ◌&&◌, ⊤, Bool as AnyBool, None, false, true, map, string_bytes};
 ghost use Rattle.proxy_config.specs.declared.config.Config.{Config as AnyConfig};
 ghost use Rattle.exchange_core.specs.declared.event.Event.TheVariants.{Withdrawn};
 ghost use Rattle.exchange_core.specs.May.{may_come};
@@ -8,8 +8,7 @@ ghost use Rattle.shard_exchange.specs.EndedBy.{EndsBy, IfItself, is_good, served
 ghost use Rattle.adapt_hold.specs.Holding.{shows};
 ghost use Rattle.adapt_sides.specs.Turns.Gift.{nothing};
 ghost use Rattle.adapt_turn.specs.ChosenHead.{wire_of};
-ghost use Rattle.adapt_turn.specs.Refusals.{user_untouched};
-ghost use Rattle.shard_message.specs.Ended.{EndsAs, HasGiven, HasGivenSince, IfAsked, IfOther, IsBarred, IsEndOf, IsNextBy, IsWithdrawable, ended_as, fails, is_by_itself, is_cut, message_in, old_where_asked};
+ghost use Rattle.shard_message.specs.Ended.{EndsAs, HasGiven, HasGivenSince, IfAsked, IfOther, IsBarred, IsEndOf, IsNextBy, IsWithdrawable, fails, is_by_itself, is_cut, message_in, old_where_asked};
 ghost use Rattle.shard_message.specs.Told.{carried_by, reusable_by};
 
 use crate::carried::carried_by;
@@ -19,7 +18,7 @@ use crate::outside::{Kinds, MessageEnd, Outside};
 use crate::room::room_of;
 use crate::sequels::{after_request, after_response};
 use crate::sides::{Answers, Asked, MadeHead, Served};
-use crate::taken::{parts_of, wire_of};
+use crate::taken::wire_of;
 use adapt_sides::ClientFault;
 use adapt_turn::{EndTypes, Ends, Outcome, ServiceEnd, Tx, TxParts};
 use exchange_core::{Course, Event};
@@ -28,7 +27,6 @@ use plan_rules::Limits;
 use shard_exchange::{End, EndedBy, Reason, Report};
 use span_bank::Stake;
 use std::boxed::Box;
-use std::sync::Wait;
 use trace_core::Seen;
 use wire_kit::Wire;
 
@@ -190,6 +188,7 @@ fn report_on<P, O: Outside<P>, V: Served, M>(
 }
 
 /// What is left of a message whose transaction stood over these.
+#[inline(always)]
 fn settled_of<O: Kinds, M: Drop>(
     stake: Stake<O::Ledgers>,
     limits: Limits,
@@ -212,18 +211,18 @@ fn settled_of<O: Kinds, M: Drop>(
     }
 }
 
-/// Takes a request's transaction apart: the response comes next where the origin has the whole request. The origin's connection had given
-/// and taken so many bytes before, when it was dialed.
+/// Takes a request's transaction apart, which is closed: the response comes next where the origin has the whole request. A byte of an answer
+/// had gone to the user or not, and the origin's connection had given and taken so many bytes before, when it was dialed.
+#[inline(never)]
 pub(crate) fn settle_request<
     P,
     O: Outside<P>,
     E: EndTypes<SourceWire = O::User, ServiceWire = O::Service, NextWire = O::Origin>,
-    R: Wait,
 >(
-    rt: &R,
     at: &P,
     out: &mut O,
     tx: Tx<O::Ledgers, E>,
+    has_answered: bool,
     by: EndedBy,
     before: (u64, u64),
     course: &Course,
@@ -233,14 +232,15 @@ where
     E::Client: Served,
     E::Writer: Drop,
     E::Maker: MadeHead<E::Reader>,
+    requires closed { (shows tx.hold.history).closed ≡ true }
     ensures ends { EndsBy by result.report.end }
-    ensures answered { result.report.has_answered ≡ not (user_untouched tx.hold.history.plan.point (E.Writer.untouched tx.ends.next) (E.Writer.untouched tx.ends.back)) }
-    ensures told { IfItself by (EndsAs tx.hold.history.plan.point (ended_as (shows tx.hold.history).closed tx.outcome) (E.Writer.gift tx.ends.back ≡ nothing)
+    ensures answered { result.report.has_answered ≡ has_answered }
+    ensures told { IfItself by (EndsAs tx.hold.history.plan.point tx.outcome (E.Writer.gift tx.ends.back ≡ nothing)
         (E.Reader.carries_on Outcome.Done (E.Maker.closes tx.ends.maker) tx.ends.source) ⊥
         (IsBarred result.report.has_answered (HasGivenSince O.Origin.past tx.ends.next_wire before.0) (may_come course.now Withdrawn)) result.report.end) }
     ensures withdrawn { (has_memory : AnyBool) → result.report.end ≡ End.Withdrawn has_memory → IsWithdrawable by result.report.has_answered (HasGiven O.Origin.past tx.ends.next_wire before.0) (may_come course.now Withdrawn) }
     ensures cuts { result.report.has_answered ≡ false → result.report.cuts ≡ false }
-    ensures cut { result.report.cuts ≡ result.report.has_answered && (fails (ended_as (shows tx.hold.history).closed tx.outcome) && E.Reader.is_old tx.ends.source) }
+    ensures cut { result.report.cuts ≡ result.report.has_answered && (fails tx.outcome && E.Reader.is_old tx.ends.source) }
     ensures whole { is_good result.report.end ≡ true → result.report.cuts ≡ false }
     ensures served { result.report.served ≡ served_as (reusable_by E.Client.reusable tx.ends.service) result.report.end }
     ensures next { IsNextBy (E.Reader.is_response tx.ends.source) (E.Reader.is_next tx.ends.source) (E.Reader.is_again tx.ends.source) result.report.end result.message }
@@ -248,13 +248,12 @@ where
         E.Reader.told response ≡ carried_by E.Client.fields (map string_bytes config.carry.items) tx.ends.service) (λ _. ⊤) (λ _. ⊤) result.report.end result.message }
     ensures wires { result.remains.connections ≡ record { user = tx.ends.source_wire; service = wire_of tx.ends.service; origin = tx.ends.next_wire } }
 {
-    let has_answered = tx.has_answered();
     let TxParts {
         stake,
         ends,
         outcome,
         seen,
-    } = parts_of(rt, out.bank(), tx);
+    } = tx.into_parts();
     let Ends {
         source,
         source_wire: user,
@@ -291,17 +290,18 @@ where
     settled_of(stake, out.limits(), connections, sequel, by, report)
 }
 
-/// Takes a response's transaction apart: the user's next request comes next, where its connection carries one.
+/// Takes a response's transaction apart, which is closed: the user's next request comes next, where its connection carries one. A byte of
+/// the answer had gone to the user or not.
+#[inline(never)]
 pub(crate) fn settle_response<
     P,
     O: Outside<P>,
     E: EndTypes<SourceWire = O::Origin, ServiceWire = O::Service, NextWire = O::User>,
-    R: Wait,
 >(
-    rt: &R,
     at: &P,
     out: &mut O,
     tx: Tx<O::Ledgers, E>,
+    has_answered: bool,
     by: EndedBy,
 ) -> Settled<O, <E::Reader as Asked>::Message>
 where
@@ -309,26 +309,26 @@ where
     E::Client: Served,
     E::Writer: Drop,
     E::Maker: MadeHead<E::Reader>,
+    requires closed { (shows tx.hold.history).closed ≡ true }
     ensures ends { EndsBy by result.report.end }
-    ensures answered { result.report.has_answered ≡ not (user_untouched tx.hold.history.plan.point (E.Writer.untouched tx.ends.next) (E.Writer.untouched tx.ends.back)) }
-    ensures told { IfItself by (EndsAs tx.hold.history.plan.point (ended_as (shows tx.hold.history).closed tx.outcome) ⊥
+    ensures answered { result.report.has_answered ≡ has_answered }
+    ensures told { IfItself by (EndsAs tx.hold.history.plan.point tx.outcome ⊥
         (IfAsked (E.Reader.carries_on Outcome.Done (E.Maker.closes tx.ends.maker)) (E.Maker.asked tx.ends.maker))
-        (E.Reader.lasts (ended_as (shows tx.hold.history).closed tx.outcome) tx.ends.source) ⊤ result.report.end) }
+        (E.Reader.lasts tx.outcome tx.ends.source) ⊤ result.report.end) }
     ensures stands { (has_memory : AnyBool) → result.report.end ≡ End.Withdrawn has_memory → ⊥ }
     ensures cuts { result.report.has_answered ≡ false → result.report.cuts ≡ false }
-    ensures cut { result.report.cuts ≡ result.report.has_answered && (fails (ended_as (shows tx.hold.history).closed tx.outcome) && old_where_asked E.Reader.is_old (E.Maker.asked tx.ends.maker)) }
+    ensures cut { result.report.cuts ≡ result.report.has_answered && (fails tx.outcome && old_where_asked E.Reader.is_old (E.Maker.asked tx.ends.maker)) }
     ensures whole { is_good result.report.end ≡ true → result.report.cuts ≡ false }
     ensures served { result.report.served ≡ served_as (reusable_by E.Client.reusable tx.ends.service) result.report.end }
     ensures next { IsNextBy (λ _. ⊥) (λ next. IfAsked (λ user. E.Reader.is_next user next) (E.Maker.asked tx.ends.maker)) (λ _. ⊥) result.report.end result.message }
     ensures wires { result.remains.connections ≡ record { user = tx.ends.next_wire; service = wire_of tx.ends.service; origin = tx.ends.source_wire } }
 {
-    let has_answered = tx.has_answered();
     let TxParts {
         stake,
         ends,
         outcome,
         seen,
-    } = parts_of(rt, out.bank(), tx);
+    } = tx.into_parts();
     let Ends {
         source,
         source_wire: origin,

@@ -14,7 +14,9 @@ use adapt_turn::Tx;
 use exchange_core::CourseState;
 use http_side::{NextServer, OriginUse, OriginWay};
 use plan_rules::Pace;
-use proxy_rules::{Accounting, Beginning, Incoming, OwnEnds, Route, Running, Way, Wires, begin};
+use proxy_rules::{
+    Accounting, Beginning, Incoming, OwnEnds, Route, Running, Way, Wires, begin, may_begin,
+};
 use span_bank::{Bank, Ledgers};
 use std::alloc::{AllocFailed, Global};
 use std::boxed::Box;
@@ -120,6 +122,10 @@ pub(crate) fn set_out<B: Ledgers, W: Wires, R: Wait>(
     let Some(planned) = planned else {
         return Err((room_of(stake, limits), way));
     };
+    let is_connected = way.service.is_some();
+    if !may_begin(&message, &planned.offer, is_connected) {
+        return Err((room_of(stake, limits), way));
+    }
     let Planned { offer, route } = Box::into_inner(planned);
     let beginning = Beginning {
         offer,
@@ -131,14 +137,9 @@ pub(crate) fn set_out<B: Ledgers, W: Wires, R: Wait>(
         last: manner.last,
         origin: way_by(route, manner.origin),
     };
-    match begin(alloc, beginning) {
-        Ok(running) => match Box::new(alloc, running) {
-            Ok(running) => Ok(running),
-            Err(AllocFailed { value }) => Err(left_of(rt, bank, value.into_tx(), limits)),
-        },
-        Err(beginning) => {
-            let (stake, way) = beginning.into_remains();
-            Err((room_of(stake, limits), way))
-        }
+    let running = begin(alloc, beginning);
+    match Box::new(alloc, running) {
+        Ok(running) => Ok(running),
+        Err(AllocFailed { value }) => Err(left_of(rt, bank, value.into_tx(), limits)),
     }
 }

@@ -13,32 +13,27 @@ use span_bank::{Bank, Ledgers, Stake};
 use std::boxed::Box;
 use std::sync::Wait;
 
-/// What is left of a transaction, which fails where it isn't closed yet.
-pub(crate) fn parts_of<B: Ledgers, E: EndTypes, R: Wait>(
+/// The transaction that lies in a box, to be taken apart. Where it isn't closed yet it fails, while it lies there.
+#[inline(always)]
+pub(crate) fn tx_of<B: Ledgers, W: Wires, R: Wait>(
     rt: &R,
     bank: &Bank<B>,
-    tx: Tx<B, E>,
-) -> TxParts<B, E>
-    ensures empty { (result.stake.held ≡ 0) × (result.stake.pages ≡ 0) }
-    ensures service { result.ends.service ≡ tx.ends.service }
-    ensures ends { (shows tx.hold.history).closed ≡ true → result.ends ≡ tx.ends }
-    ensures outcome { result.outcome ≡ ended_as (shows tx.hold.history).closed tx.outcome }
-    ensures plan { result.seen.plan ≡ tx.hold.history.plan }
-    ensures kept { (result.ends.source ≡ tx.ends.source) × (result.ends.source_wire ≡ tx.ends.source_wire) × (result.ends.next_wire ≡ tx.ends.next_wire) × (result.ends.maker ≡ tx.ends.maker) }
+    running: Box<Running<B, W>>,
+) -> Tx<B, OwnEnds<W>>
+    ensures closed { (shows result.hold.history).closed ≡ true }
+    ensures service { result.ends.service ≡ running.value.tx.ends.service }
+    ensures ends { (shows running.value.tx.hold.history).closed ≡ true → result.ends ≡ running.value.tx.ends }
+    ensures outcome { result.outcome ≡ ended_as (shows running.value.tx.hold.history).closed running.value.tx.outcome }
+    ensures plan { result.hold.history.plan ≡ running.value.tx.hold.history.plan }
+    ensures kept { (result.ends.source ≡ running.value.tx.ends.source) × (result.ends.source_wire ≡ running.value.tx.ends.source_wire) × (result.ends.next_wire ≡ running.value.tx.ends.next_wire) × (result.ends.maker ≡ running.value.tx.ends.maker) }
 {
-    let mut tx = tx;
-    tx.halt(rt, bank);
-    tx.into_parts()
-}
-
-/// The transaction that lies in a box, to be taken apart.
-pub(crate) fn tx_of<B: Ledgers, W: Wires>(running: Box<Running<B, W>>) -> Tx<B, OwnEnds<W>>
-    ensures { result ≡ running.value.tx }
-{
+    let mut running = running;
+    running.halt(rt, bank);
     Box::into_inner(running).into_tx()
 }
 
 /// The connection of a service's side that has ended. None where it was given up before.
+#[inline(always)]
 pub(crate) fn wire_of<V: Drop, W>(service: Option<ServiceEnd<V, W>>) -> Option<W>
     ensures { result ≡ wire_of service }
 {
@@ -65,12 +60,14 @@ where
     ensures room { (result.0.planned ≡ None) × (result.0.limits ≡ limits) }
     ensures wires { (result.1.source ≡ tx.ends.source_wire) × (result.1.service ≡ wire_of tx.ends.service) × (result.1.next ≡ tx.ends.next_wire) }
 {
+    let mut tx = tx;
+    tx.halt(rt, bank);
     let TxParts {
         stake,
         ends,
         outcome: _,
         seen: _,
-    } = parts_of(rt, bank, tx);
+    } = tx.into_parts();
     let Ends {
         source: _,
         source_wire,
@@ -88,12 +85,9 @@ where
     (room_of(stake, limits), way)
 }
 
-/// The reservation of a transaction, which fails where it isn't closed yet. Its connections are closed.
-pub(crate) fn stake_of<B: Ledgers, E: EndTypes, R: Wait>(
-    rt: &R,
-    bank: &Bank<B>,
-    tx: Tx<B, E>,
-) -> Stake<B>
+/// The reservation of a transaction that is closed. Its connections are closed.
+#[inline(always)]
+pub(crate) fn stake_of<B: Ledgers, E: EndTypes>(tx: Tx<B, E>) -> Stake<B>
 where
     E::Reader: Drop,
     E::Client: Drop,
@@ -101,6 +95,7 @@ where
     E::SourceWire: Drop,
     E::ServiceWire: Drop,
     E::NextWire: Drop,
+    requires { (shows tx.hold.history).closed ≡ true }
     ensures { (result.held ≡ 0) × (result.pages ≡ 0) }
 {
     let TxParts {
@@ -108,7 +103,7 @@ where
         ends,
         outcome: _,
         seen: _,
-    } = parts_of(rt, bank, tx);
+    } = tx.into_parts();
     let Ends {
         source: _,
         source_wire: _,

@@ -8,23 +8,22 @@ use Rattle.shard_message.proofs.settled.settle_request.Goals as goal
 
 pub returns-clause-told : goal.returns-clause-told
 returns-clause-told g c =
-    let parts = c.parts_of-stake in
+    let parts = c.into_parts-stake in
     rw c.settled_of.ensures.report
     (ends_told _ (λ ends. g.E.Writer.Hop.gift ends.back ≡ nothing) (λ ends.
     g.E.Reader.Asked.carries_on Done (g.E.Maker.MadeHead.closes ends.maker) ends.source) (λ _. ⊥)
-    _ parts.result.ends c.args.tx.ends _ c.args.tx.outcome false _ _ c.after_request-sequel.result c.args.by c.report_on-report.result.end
+    _ parts.result.ends c.args.tx.ends c.args.tx.outcome false _ _ c.after_request-sequel.result c.args.by c.report_on-report.result.end
     parts.ensures.ends ((λ (e : false ≡ true). absurd cc), (λ (x : ⊥). absurd x))
-    (λ itself not. rw c.report_on-report.ensures.answered (rw parts.ensures.kept.2 at
+    (λ itself not. rw c.report_on-report.ensures.answered (rw parts.ensures.ends at
     (c.may_withdraw-may_withdraw.ensures.bars not itself))) (rw parts.ensures.outcome at
     (rw c.closes-closes.ensures at c.after_request-sequel.ensures.sequel))
-    (rw parts.ensures.plan at c.report_on-report.ensures.itself))
+    (rw (ap (λ s. s.plan) parts.ensures.seen) at c.report_on-report.ensures.itself))
 
 pub returns-clause-withdrawn : goal.returns-clause-withdrawn
 returns-clause-withdrawn g c = λ has_memory told.
-    let parts = c.parts_of-stake in
     rw c.settled_of.ensures.report
     (rw c.report_on-report.ensures.answered
-    (rw parts.ensures.kept.2 at
+    (rw c.into_parts-stake.ensures.ends at
     (c.may_withdraw-may_withdraw.ensures.may (withdrawn_told _ _ _ _ _ _ _ has_memory c.after_request-sequel.result c.args.by
     c.report_on-report.result.end
     c.after_request-sequel.ensures.sequel c.report_on-report.ensures.ends c.report_on-report.ensures.itself
@@ -35,7 +34,7 @@ returns-clause-next g c =
     next_told (g.E.Reader.Asked.is_response c.args.tx.ends.source) (g.E.Reader.Asked.is_next c.args.tx.ends.source)
     (g.E.Reader.Asked.is_again c.args.tx.ends.source)
     _ c.after_request-sequel.result c.args.by c.report_on-report.result.end _ _
-    (rw c.parts_of-stake.ensures.kept.0 at c.after_request-sequel.ensures.brings) c.report_on-report.ensures.ends
+    (rw c.into_parts-stake.ensures.ends at c.after_request-sequel.ensures.brings) c.report_on-report.ensures.ends
     c.report_on-report.ensures.itself
     (ap (λ r. r.end) c.settled_of.ensures.report) c.settled_of.ensures.message c.settled_of.ensures.none
 
@@ -43,7 +42,7 @@ returns-clause-next g c =
 pub returns-clause-carries : goal.returns-clause-carries
 returns-clause-carries g c =
     let config = c.config.result.now in
-    let lines = rw c.deref.ensures.value at (rw c.parts_of-stake.ensures.service at c.carried_by-carried.ensures) in (
+    let lines = rw c.deref.ensures.value at (rw c.into_parts-stake.ensures.ends at c.carried_by-carried.ensures) in (
       config,
       c.config.ensures,
       next_told _ (λ _. ⊤) (λ _. ⊤) _ c.after_request-sequel.result c.args.by c.report_on-report.result.end _ _
