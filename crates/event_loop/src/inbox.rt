@@ -158,6 +158,11 @@ impl Inbox {
         self.questions.answer(rt, most)
     }
 
+    /// Whether the loop may be asked about its exchanges.
+    pub(crate) fn is_asked(&self) -> bool {
+        self.questions.is_asked()
+    }
+
     /// What the loop is asked about its exchanges, if it is asked, and the sheet for its answer.
     pub(crate) fn take_question<R: Wait>(&self, rt: &R) -> Option<(Question, Sheet)> {
         self.questions.take(rt)

@@ -54,9 +54,14 @@ impl QuestionSlot {
         true
     }
 
+    /// Whether a question may lie there.
+    pub(crate) fn is_asked(&self) -> bool {
+        self.asks.load(Ordering::SeqCst)
+    }
+
     /// Takes the question that lies there: its answer is written from now on.
     pub(crate) fn take<R: Wait>(&self, rt: &R) -> Option<(Question, Sheet)> {
-        if !self.asks.load(Ordering::SeqCst) || !self.asks.swap(false, Ordering::SeqCst) {
+        if !self.asks.swap(false, Ordering::SeqCst) {
             return None;
         }
         let mut slip = self.slip.lock(rt);

@@ -14,6 +14,7 @@ use std::time::Clock;
 
 impl<K: Work> EventLoop<K> {
     /// Drives an exchange at the moment that was read last, and marks it if others get their turn first.
+    #[inline(always)]
     fn drive_one<R: Wait + Dial + Clock>(&mut self, rt: &R, key: usize) -> Driven
         ensures { Does K.Work self.old self.new (Drove key result ∷ []) }
     {
@@ -38,6 +39,7 @@ impl<K: Work> EventLoop<K> {
     }
 
     /// Drives an exchange at the moment that was read last. One that blocks it ends.
+    #[inline(always)]
     fn drive_now<R: Wait + Dial + Clock>(&mut self, rt: &R, key: usize)
         ensures { Did K.Work self.old self.new (Drives key) }
     {
@@ -71,8 +73,20 @@ impl<K: Work> EventLoop<K> {
         Ok(())
     }
 
+    /// Reads the clock, unless nothing was driven since it was read.
+    #[inline(always)]
+    fn read_clock_after<R: Clock>(&mut self, rt: &R, has_driven: bool) -> io::Result<()>
+        ensures { Does K.Work self.old self.new [] }
+    {
+        if has_driven {
+            return self.read_clock(rt);
+        }
+        Ok(())
+    }
+
     /// Drives those that have a mark: an event was news for them, or they were cut short. One that is cut short again has its next turn
-    /// after the next poll.
+    /// after the next poll. The first goes on at the moment that was read last, as the turn began; before each further one the clock is read.
+    #[inline(always)]
     pub(super) fn drive_ready<R: Wait + Dial + Clock>(&mut self, rt: &R) -> io::Result<()>
         ensures { Did K.Work self.old self.new (λ deeds. OnOk result ((key : ℕ)
             → is_marked self.old.ready key ≡ true → IsDriven key deeds)) }
@@ -80,9 +94,11 @@ impl<K: Work> EventLoop<K> {
         if self.ready.is_empty() {
             return Ok(());
         }
+        let mut has_driven = false;
         for key in self.ready.low()..self.ready.high() {
             if self.ready.has(key) {
-                self.read_clock(rt)?;
+                self.read_clock_after(rt, has_driven)?;
+                has_driven = true;
                 self.ready.take(key);
                 self.drive_now(rt, key);
             }

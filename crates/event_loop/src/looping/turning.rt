@@ -88,6 +88,14 @@ impl<K: Work> EventLoop<K> {
         requires { number < length inboxes.now }
     {
         let inbox = &inboxes[number];
+        if inbox.is_asked() {
+            self.answer(rt, inbox);
+        }
+    }
+
+    /// Takes the question and answers it. Its sheet has room in this call alone: most turns are asked nothing.
+    #[inline(never)]
+    fn answer<R: Wait + Clock>(&self, rt: &R, inbox: &Inbox) {
         if let Some((question, sheet)) = inbox.take_question(rt) {
             let mut sheet = sheet;
             self.work.show(rt, question, self.now(), &mut sheet);
