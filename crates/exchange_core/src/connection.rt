@@ -19,6 +19,7 @@ pub enum Connection {
 
 impl Connection {
     /// Whether a connection is leased.
+    #[inline(always)]
     pub fn is_leased(self) -> bool
         ensures { result ≡ is_leased self }
     {
@@ -26,6 +27,7 @@ impl Connection {
     }
 
     /// Whether one is leased that may serve, with nothing under way on it.
+    #[inline(always)]
     pub fn is_ready(self) -> bool
         ensures { result ≡ is_ready self }
     {
@@ -33,6 +35,7 @@ impl Connection {
     }
 
     /// Whether a request is under way.
+    #[inline(always)]
     pub fn is_in_use(self) -> bool
         ensures { result ≡ is_in_use self }
     {
@@ -40,6 +43,7 @@ impl Connection {
     }
 
     /// Whether it may not serve again.
+    #[inline(always)]
     pub fn is_spent(self) -> bool
         ensures { result ≡ is_spent self }
     {
@@ -47,6 +51,7 @@ impl Connection {
     }
 
     /// Whether it was used before, so that its service may have closed it meanwhile.
+    #[inline(always)]
     pub fn is_reused(self) -> bool
         ensures { result ≡ is_reused self }
     {
@@ -57,6 +62,7 @@ impl Connection {
     }
 
     /// With a request under way.
+    #[inline(always)]
     pub(crate) fn in_use(self) -> Connection
         ensures { result ≡ in_use self }
     {
@@ -67,6 +73,7 @@ impl Connection {
     }
 
     /// Once the service has said all.
+    #[inline(always)]
     pub(crate) fn said(self, usable: bool) -> Connection
         ensures { result ≡ said self usable }
     {
@@ -78,6 +85,7 @@ impl Connection {
     }
 
     /// Once the service has said its options: what serves again was used before.
+    #[inline(always)]
     pub(crate) fn learned(self, usable: bool) -> Connection
         ensures { result ≡ learned self usable }
     {
@@ -89,6 +97,7 @@ impl Connection {
     }
 
     /// A fresh one in its place.
+    #[inline(always)]
     pub(crate) fn renewed(self) -> Connection
         ensures { result ≡ renewed self }
     {

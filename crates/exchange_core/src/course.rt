@@ -53,6 +53,7 @@ impl Course {
     }
 
     /// Whether an event may come next.
+    #[inline(always)]
     pub fn may(&self, event: Event) -> bool
         ensures { result ≡ may_come self.now event }
     {
@@ -60,6 +61,7 @@ impl Course {
     }
 
     /// Takes an event that may come next.
+    #[inline(always)]
     pub fn take(&mut self, event: Event)
         requires { may_come self.old event ≡ true }
         ensures after { self.new ≡ after self.old event }
@@ -69,6 +71,7 @@ impl Course {
     }
 
     /// Takes what came of doing what is due, where it fits what is there.
+    #[inline(always)]
     pub fn done(&mut self, event: Event)
         requires due { comes_of (due_of self.old) event ≡ true }
         requires fits { fits self.old event ≡ true }
@@ -79,6 +82,7 @@ impl Course {
     }
 
     /// Takes a deadline, where what is due may have to wait.
+    #[inline(always)]
     pub fn late(&mut self)
         requires { is_wait (due_of self.old) ≡ true }
         ensures after { self.new ≡ after self.old Late }
@@ -88,6 +92,7 @@ impl Course {
     }
 
     /// Takes it that the message, or the head before it, goes no further, for a cause of which what is due may fail.
+    #[inline(always)]
     pub fn failed(&mut self, why: RefusalCause)
         requires { fails_of (due_of self.old) why ≡ true }
         ensures after { self.new ≡ after self.old (Failed why) }
@@ -97,6 +102,7 @@ impl Course {
     }
 
     /// Takes it that the user is lost, while something is due for it.
+    #[inline(always)]
     pub fn lost(&mut self)
         requires { is_for_user (due_of self.old) ≡ true }
         ensures after { self.new ≡ after self.old UserLost }
@@ -106,6 +112,7 @@ impl Course {
     }
 
     /// Takes it that the user's connection was closed at once, while no request of it is under way.
+    #[inline(always)]
     pub fn dropped(&mut self)
         requires { is_between (due_of self.old) ≡ true }
         ensures after { self.new ≡ after self.old Dropped }
@@ -116,6 +123,7 @@ impl Course {
 
     /// What is due. While that is for the user, the proxy doesn't stop. Who waits in the queue has no lease and no reservation. A
     /// transaction starts and turns with a reservation and the origin's connection, and the origin is heard on its connection.
+    #[inline(always)]
     pub fn due(&self) -> Due
         ensures due { result ≡ due_of self.now }
         ensures serves { is_for_user result ≡ true → self.now.stopping ≡ false }
@@ -128,6 +136,7 @@ impl Course {
     }
 
     /// Where it stands. Once the proxy stops, a refusal may be tried, and what is held goes back.
+    #[inline(always)]
     pub fn state(&self) -> CourseState
         ensures same { result ≡ self.now }
         ensures reached { IsReached result }

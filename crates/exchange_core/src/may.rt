@@ -10,6 +10,7 @@ use crate::state::CourseState;
 
 impl CourseState {
     /// Neither a lease nor a reservation is out.
+    #[inline(always)]
     pub fn is_free(self) -> bool
         ensures { result ≡ is_free self }
     {
@@ -17,6 +18,7 @@ impl CourseState {
     }
 
     /// Nor a connection to the origin.
+    #[inline(always)]
     pub fn holds_nothing(self) -> bool
         ensures { result ≡ holds_nothing self }
     {
@@ -24,6 +26,7 @@ impl CourseState {
     }
 
     /// Whether the message may be planned: what a withdrawn one held has gone back.
+    #[inline(always)]
     fn is_to_plan(self) -> bool
         ensures { result ≡ is_to_plan self }
     {
@@ -32,6 +35,7 @@ impl CourseState {
     }
 
     /// Whether the request may go out on a kept connection: it may be sent again, and wasn't withdrawn from one.
+    #[inline(always)]
     fn may_take_kept(self) -> bool
         ensures { result ≡ may_take_kept self }
     {
@@ -39,6 +43,7 @@ impl CourseState {
     }
 
     /// How the origin of the request is to be dialed.
+    #[inline(always)]
     pub fn dialing(self) -> Dialing
         ensures { result ≡ dialing_of self }
     {
@@ -50,6 +55,7 @@ impl CourseState {
     }
 
     /// Whether the origin's connection may be kept for later exchanges: it lasts, and the proxy neither drains nor stops.
+    #[inline(always)]
     pub fn may_keep_origin(self) -> bool
         ensures { result ≡ may_keep_origin self }
     {
@@ -57,6 +63,7 @@ impl CourseState {
     }
 
     /// Whether the connection that an offer wants is there, or none, and the reservation.
+    #[inline(always)]
     fn is_provided(self) -> bool
         ensures { result ≡ is_provided self }
     {
@@ -69,6 +76,7 @@ impl CourseState {
     }
 
     /// Whether its user doesn't wait to be told to send its body, or was told.
+    #[inline(always)]
     fn is_bidden(self) -> bool
         ensures { result ≡ is_bidden self }
     {
@@ -76,6 +84,7 @@ impl CourseState {
     }
 
     /// Whether a byte of the text that tells it may go out.
+    #[inline(always)]
     fn may_tell(self) -> bool
         ensures { result ≡ may_tell self }
     {
@@ -85,6 +94,7 @@ impl CourseState {
     }
 
     /// Whether an event may come next.
+    #[inline(always)]
     pub fn may(self, event: Event) -> bool
         ensures { result ≡ may_come self event }
     {
@@ -128,6 +138,7 @@ impl CourseState {
     }
 
     /// Whether an event may come with which a message moves, what is held goes back, or a connection ends.
+    #[inline(always)]
     fn may_go_on(self, event: Event) -> bool
         ensures { goes_on_with event ≡ true → result ≡ may_come self event }
     {
@@ -171,6 +182,7 @@ impl CourseState {
     }
 
     /// Whether an event may come that ends a connection, or brings its end nearer.
+    #[inline(always)]
     fn may_end(self, event: Event) -> bool
         ensures { ends_with event ≡ true → result ≡ may_come self event }
     {

@@ -72,6 +72,7 @@ impl CourseState {
     }
 
     /// Whether what the user got makes no whole text yet, so that it would read a refusal as a part of that text.
+    #[inline(always)]
     pub fn is_mid_text(self) -> bool
         ensures { result ≡ is_mid_text self }
     {
@@ -79,6 +80,7 @@ impl CourseState {
     }
 
     /// Where what goes no further goes: to a refusal, where that stands alone.
+    #[inline(always)]
     fn phase_when_failed(self, why: RefusalCause) -> Phase
         ensures { result ≡ phase_when_failed self why }
     {
@@ -91,6 +93,7 @@ impl CourseState {
 
     /// Where a deadline leads. A message that waits fails: `Failed(RefusalCause::Deadline)`, which the proxy tells there, leads to the same
     /// phase. Any other user is let go.
+    #[inline(always)]
     fn phase_when_late(self) -> Phase
         ensures { result ≡ phase_when_late self }
     {
@@ -105,6 +108,7 @@ impl CourseState {
     }
 
     /// Where the end of the proxy leads.
+    #[inline(always)]
     fn phase_when_stopping(self) -> Phase
         ensures { result ≡ phase_when_stopping self }
     {
@@ -119,6 +123,7 @@ impl CourseState {
     }
 
     /// Where an event leads.
+    #[inline(always)]
     fn phase_after(self, event: Event) -> Phase
         ensures { result ≡ phase_after self event }
     {
@@ -158,6 +163,7 @@ impl CourseState {
     }
 
     /// What an event leaves.
+    #[inline(always)]
     pub(crate) fn after(self, event: Event) -> CourseState
         ensures { result ≡ after self event }
     {

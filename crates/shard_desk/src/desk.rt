@@ -112,6 +112,7 @@ impl<S: Shares> Desk<S> {
 
     /// The exchange under this key is served from now on. One that is open goes on by the configuration that stood when it began; another
     /// one by that which stands now.
+    #[inline(always)]
     pub fn take_up<R: Wait>(&mut self, rt: &R, key: usize)
         ensures goes { S.config_is self.new.shared (S.goes_by self.new.shared key) }
         ensures open { IsOpen self.old.reporter.notes.notes.items key → S.goes_by self.new.shared key ≡ S.goes_by self.old.shared key }

@@ -124,6 +124,7 @@ impl<'a, B: Ledgers, Q: Ledger, A: Ledger> Shares for Shared<'a, B, Q, A> {
         self.standings.seat(keys)
     }
 
+    #[inline(always)]
     fn take_up<R: Wait>(&mut self, rt: &R, key: usize, is_open: bool) {
         self.standings.take_up(rt, key, is_open);
     }

@@ -49,6 +49,7 @@ impl Standings {
 
     /// The exchange under this key is served from now on. One that is open goes on by what stood when it began; another one by what stands
     /// now.
+    #[inline(always)]
     pub fn take_up<R: Wait>(&mut self, rt: &R, key: usize, is_open: bool)
         ensures serving { self.new.serving ≡ key }
         ensures open { is_open ≡ true → goes_by self.new key ≡ goes_by self.old key }

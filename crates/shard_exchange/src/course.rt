@@ -19,6 +19,7 @@ use exchange_core::{Course, Event, Phase, RefusalCause};
 
 /// Takes an event that ends a message, where it may come. Else the message fails: its user is refused, unless a part of an answer is
 /// out.
+#[inline(always)]
 fn take_or_fail(course: &mut Course, event: Event)
     requires moves { moves course.old ≡ true }
     requires runs { course.old.stopping ≡ false }

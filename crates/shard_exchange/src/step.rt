@@ -23,6 +23,7 @@ impl<H: Holder> Exchange<H> {
     ghost use Rattle.shard_exchange.specs.Steps.{Heeds, IsDone, GoesOn, is_end, is_step};
 
     /// Does a task, and says how far that came. An exchange that only closes isn't stopped: it goes on with that.
+    #[inline(always)]
     pub fn act<P, R: Wait>(
         &mut self,
         rt: &R,
@@ -70,6 +71,7 @@ impl<H: Holder> Exchange<H> {
     }
 
     /// Does what is due, and says how far that came.
+    #[inline(always)]
     fn step<P, R: Wait>(
         &mut self,
         rt: &R,
@@ -95,6 +97,7 @@ impl<H: Holder> Exchange<H> {
     }
 
     /// Does what is due.
+    #[inline(never)]
     fn do_due<P, R: Wait>(
         &mut self,
         rt: &R,

@@ -65,6 +65,7 @@ fn begin<O: Kinds>(
 }
 
 /// Has an exchange do a task.
+#[inline(always)]
 fn act_on<P, O: Outside<P>, R: Wait>(
     rt: &R,
     at: &P,
@@ -141,6 +142,7 @@ impl<S: Shares> Exchanges for DeskExchanges<S> {
         }
     }
 
+    #[inline(always)]
     fn act<'r, R: Wait + Dial + Clock, G: Gate>(
         &mut self,
         at: &Spot<'r, R, G>,

@@ -66,6 +66,7 @@ pub(crate) fn all_pages(capacity: u64, rows: u64) -> u64
 }
 
 // Takes a step that is no Open, so that none is refused.
+#[inline(always)]
 fn apply_fitting(state: &mut BankState<Window>, step: BankStep)
     requires allowed { MaySum state.old.journal.numbers step }
     requires fits { Fits state.old step }

@@ -93,6 +93,7 @@ impl Journal for Window {
         self.steps.get(index).copied()
     }
 
+    #[inline(never)]
     fn apply(&mut self, step: BankStep) {
         self.slide();
         self.push(step);
