@@ -57,7 +57,7 @@ ci: ## the merge gate: every proof, the must-fail edits, the tests, the programs
 	@tools/check_citations
 	@tools/check_kit
 	@! command -v patch > /dev/null || patch --dry-run --fuzz=0 --silent --strip 1 < tools/undriven.patch
-	rt ci
+	tools/gate
 
 gate-cost: ## the gate's minutes of processor time by crate, as last measured; ANEW=1 runs the whole gate from nothing, and measures it
 	@tools/gate_cost $(if $(ANEW),run --anew)
