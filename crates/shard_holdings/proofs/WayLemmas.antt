@@ -43,6 +43,6 @@ pub carried_by_round : {U S O M : Type 0} (since : Outset U S O → M → Type 0
     → (given : Option S) × (given ≡ gone tx s) × since (record s { given = given }) next))
     → Carries since old new
 carried_by_round since turns becomes frees gone old turned new round freed s h =
-    let later = after_round since turns becomes frees gone old turned new (record s { line = h.line; given = h.given }) h.tx h.stands h.moves
-    round freed in
+    let later = after_round since turns becomes frees gone old turned new (record s { line = h.line; given = h.given })
+    h.tx h.stands h.moves round freed in
     record { tx = later.tx; moves = later.moves; line = later.line; given = later.given; stands = later.stands }
