@@ -325,7 +325,8 @@ head_kept old mid new P Q fault m same r t = record {
 begins_given_back : (old new : SourceSide) (read : List ℕ) → GivesBack old new → Begins read old → Begins read new
 begins_given_back old new read b s x count going =
     let one = s x count going in
-    let k : SideReads old new [] [] [] false = filled_more old new [] false b.asks b.head b.body (b.raw ∙ sym (append-nil old.raw.items)) in (
+    let k : SideReads old new [] [] [] false = filled_more old new [] false b.asks b.head b.body
+    (b.raw ∙ sym (append-nil old.raw.items)) in (
       subst (λ (t : List ℕ). SideRead x [] t false new) (append-nil read) (k.reads x [] read false one.0),
       λ len. subst (λ (t : SourceBody). Agrees x t) (sym b.body) (one.1
           (subst (λ (t : SourceBody). IfSome x.plan.len (λ n. length_of t.framing ≡ Some n)) b.body len)),

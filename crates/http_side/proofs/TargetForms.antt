@@ -163,7 +163,8 @@ pub form_of : (adapted needs : Bool) (t : List ℕ) (s a : Option (List ℕ)) (k
     → serves adapted needs t s a ≡ true → Form adapted t a
 form_of adapted needs t None None kept h e =
     let two = both adapted (slice_index t 0 == 47) e in
-    (two.0, two.1, subst IsUtf8 (sym (without_is t)) h.1.0.1.kept.utf8)
+    let path = h.1.0.1 in
+    (two.0, two.1, subst IsUtf8 (sym (without_is t)) path.kept.utf8)
 form_of adapted needs t None (Some a) kept h e = absurd (differ (sym e))
 form_of adapted needs t (Some s) None kept h e = absurd h.1
 form_of adapted needs t (Some s) (Some a) kept h e =

@@ -10,15 +10,17 @@ use Rattle.icap_chunks.proofs.pieces.read_cut.Goals as goal
 pub returns-in-Some : goal.returns-in-Some
 returns-in-Some c =
     let text = c.args.text.now in
-    let P : Option Outcome → Type 0 = λ o. IfSome o (λ outcome. IsReading text c.read_to.new.self.body.items outcome) in
-    reading_as text c.read_to.new.self.body.items c.reading.result.body.items c.in-Some.outcome c.reading.result.outcome
+    let collector = c.read_to.new.self in
+    let P : Option Outcome → Type 0 = λ o. IfSome o (λ outcome. IsReading text collector.body.items outcome) in
+    reading_as text collector.body.items c.reading.result.body.items c.in-Some.outcome c.reading.result.outcome
     (subst P c.in-Some.is c.in_ok-outcome.ensures.found) c.reading.ensures.body c.reading.ensures.outcome
 
 pub returns-in-Some-2 : goal.returns-in-Some-2
 returns-in-Some-2 c =
     let text = c.args.text.now in
-    let P : Option Outcome → Type 0 = λ o. IfSome o (λ outcome. IsReading text c.read_to-2.new.self.body.items outcome) in
-    reading_as text c.read_to-2.new.self.body.items c.reading-in-Some-2.result.body.items c.in-Some-2.outcome
+    let collector = c.read_to-2.new.self in
+    let P : Option Outcome → Type 0 = λ o. IfSome o (λ outcome. IsReading text collector.body.items outcome) in
+    reading_as text collector.body.items c.reading-in-Some-2.result.body.items c.in-Some-2.outcome
     c.reading-in-Some-2.result.outcome
     (subst P c.in-Some-2.is c.in_ok-outcome-2.ensures.found) c.reading-in-Some-2.ensures.body c.reading-in-Some-2.ensures.outcome
 

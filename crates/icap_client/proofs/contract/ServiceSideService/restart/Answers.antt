@@ -14,8 +14,10 @@ returns-clause-sent c = λ x heads came taken adapted read o a l h s. record {
 }
 
 pub returns-clause-heard : goal.returns-clause-heard
-returns-clause-heard c = λ x heads came taken adapted read o a l h s. record {
-  heard = hears_again x adapted read c.args.self.now.replies c.restart.new.self.replies c.args.self.now.replies.reader.point
-      c.restart.ensures.reader c.restart.ensures.raw a.3 s.heard;
-  answered = c.restart.ensures.marks.1 ∙ sym (none_answered x adapted read c.args.self.now.replies a.3 s.heard);
-}
+returns-clause-heard c = λ x heads came taken adapted read o a l h s.
+    let replies = c.args.self.now.replies in
+    record {
+      heard = hears_again x adapted read replies c.restart.new.self.replies replies.reader.point
+          c.restart.ensures.reader c.restart.ensures.raw a.3 s.heard;
+      answered = c.restart.ensures.marks.1 ∙ sym (none_answered x adapted read replies a.3 s.heard);
+    }

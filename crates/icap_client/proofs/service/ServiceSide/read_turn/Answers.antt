@@ -18,6 +18,7 @@ pub returns-in-Ok-clause-hears : goal.returns-in-Ok-clause-hears
 returns-in-Ok-clause-hears g c =
     let y = shows c.args.state.now in
     let room = length c.args.out.now in
+    let before = c.args.self.now in
     let new = c.drop_text.new.self in
     let side = c.read_turn.new.self in
     let P = g.W.Wire.past c.args.wire.now in
@@ -30,15 +31,15 @@ returns-in-Ok-clause-hears g c =
     ∙ ap (λ (es : List Event). is_answered (after_all y es)) slice) in
     let flushed : c.flushed-all_sent.result ≡ is_flushed new.writer =
     c.flushed-all_sent.ensures ∙ sym (flushed_still c.self.inside.writer new.writer c.drop_text.ensures.writer) in
-    hears_marked y c.args.self.now new c.args.self.now.replies.fault new.replies.fault
+    hears_marked y before new before.replies.fault new.replies.fault
     (NothingToRead y (is_flushed new.writer) room new.replies.reader.stage) (HasToWait new.replies.reader.stage new.replies.raw room) P
     Q c.read_turn.new.out result (λ e. c.drop_text.ensures.answered ∙ mark)
-    (subst (λ (s : ReadSide). Hears y (λ x adapted read. SideHeard x adapted read c.args.self.now.replies)
-    (λ x adapted read. SideHeard x adapted read s) c.args.self.now.replies.fault s.fault
+    (subst (λ (s : ReadSide). Hears y (λ x adapted read. SideHeard x adapted read before.replies)
+    (λ x adapted read. SideHeard x adapted read s) before.replies.fault s.fault
     (NothingToRead y (is_flushed new.writer) room s.reader.stage) (HasToWait s.reader.stage s.raw room)
     P Q c.read_turn.new.out result) (sym c.drop_text.ensures.replies)
-    (subst (λ (b : Bool). Hears y (λ x adapted read. SideHeard x adapted read c.args.self.now.replies)
-    (λ x adapted read. SideHeard x adapted read side) c.args.self.now.replies.fault side.fault
+    (subst (λ (b : Bool). Hears y (λ x adapted read. SideHeard x adapted read before.replies)
+    (λ x adapted read. SideHeard x adapted read side) before.replies.fault side.fault
     (NothingToRead y b room side.reader.stage) (HasToWait side.reader.stage side.raw room)
     P Q c.read_turn.new.out result) flushed
     (subst (λ (s : Service). Hears y (λ x adapted read. SideHeard x adapted read s.replies)
@@ -53,14 +54,15 @@ pub returns-in-Err-clause-hears : goal.returns-in-Err-clause-hears
 returns-in-Err-clause-hears g c =
     let y = shows c.args.state.now in
     let room = length c.args.out.now in
+    let before = c.args.self.now in
     let new = c.read_turn.new.self in
     let result : Result Turn ClientFault = Err c.in-Err.fault in
-    hears_marked y c.args.self.now _ c.args.self.now.replies.fault new.fault
+    hears_marked y before _ before.replies.fault new.fault
     (NothingToRead y (is_flushed c.self.inside.writer) room new.reader.stage) (HasToWait new.reader.stage new.raw room)
     (g.W.Wire.past c.args.wire.now) (g.W.Wire.past c.read_turn.new.wire) c.read_turn.new.out result
     (λ e. ap (λ (s : Service). s.answered) c.self.view_is ∙ e)
-    (subst (λ (b : Bool). Hears y (λ x adapted read. SideHeard x adapted read c.args.self.now.replies)
-    (λ x adapted read. SideHeard x adapted read new) c.args.self.now.replies.fault new.fault (NothingToRead y b room new.reader.stage)
+    (subst (λ (b : Bool). Hears y (λ x adapted read. SideHeard x adapted read before.replies)
+    (λ x adapted read. SideHeard x adapted read new) before.replies.fault new.fault (NothingToRead y b room new.reader.stage)
     (HasToWait new.reader.stage new.raw room)
     (g.W.Wire.past c.args.wire.now) (g.W.Wire.past c.read_turn.new.wire) c.read_turn.new.out result) c.flushed-all_sent.ensures
     (subst (λ (s : Service). Hears y (λ x adapted read. SideHeard x adapted read s.replies) (λ x adapted read. SideHeard x adapted read new)

@@ -10,7 +10,8 @@ use Rattle.proxy_config.proofs.host_table.HostTable.find.Goals as goal
 
 pub returns : goal.returns
 returns c =
-    let hosts : List AnyHost = c.args.self.now.entries.items in
+    let table = c.args.self.now in
+    let hosts : List AnyHost = table.entries.items in
     let name : List ℕ = c.args.name.now in
     let number : ℕ = c.number_of-number.result in
     let first : ℕ = c.partition_point-first.result in
