@@ -1,5 +1,5 @@
 -- What a turn answers, by what its wire answered.
-use Rattle.std.proofs.Common.{◌≡◌, ℕ, ◌+◌, ◌<◌, ◌≤◌, arith, Bool, true, false, ◌||◌, List, [], ◌++◌, length, length-append, refl, ap, sym}
+use Rattle.std.proofs.Common.{◌≡◌, ℕ, ◌+◌, ◌<◌, arith, Bool, true, false, ◌||◌, List, [], ◌++◌, length, length-append, refl, ap, sym}
 use Rattle.std.proofs.Common.{subst, ◌∙◌, append-nil, Option, Some, None, IfSome, Result, Ok, Err, ◌⊎◌, inl, inr, ◌==◌}
 use Rattle.std.proofs.lemmas.Bool.Decides.{nat_tests}
 use Rattle.std.proofs.lemmas.List.{length-take-le}
@@ -34,7 +34,7 @@ use Rattle.adapt_sides.specs.Tapes.{Follows, KeepsUndelivered}
 use Rattle.adapt_sides.specs.Turns.{events_of}
 use Rattle.http_relay.proofs.Counted.{took_body}
 use Rattle.http_relay.specs.Writing.{GoesOn, WriteTurn, FitsOffer, FitsAnswer}
-use Rattle.http_relay.proofs.Chosen.{done_means, fewer}
+use Rattle.http_relay.proofs.Chosen.{done_means}
 use Rattle.http_relay.proofs.Given.{gives_passed}
 use Rattle.http_relay.proofs.Carried.{given_on, aside_on, done_given, undelivered_done, legal_by, held_by, usr_to}
 

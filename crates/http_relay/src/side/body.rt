@@ -107,7 +107,8 @@ impl SourceSide {
         }
     }
 
-    /// Frames the raw bytes, and reads the wire once where nothing of them can be framed and there is room.
+    /// Frames the raw bytes, and reads the wire once where nothing of them can be framed and there is room. Once the end of the body was
+    /// reported there is nothing to do.
     fn frame_or_read<W: Wire>(
         &mut self,
         wire: &mut W,
@@ -119,6 +120,12 @@ impl SourceSide {
         ensures fault { self.new.fault ≡ self.old.fault }
         ensures head { self.new.head ≡ self.old.head }
     {
+        if self.body.has_ended() {
+            return Ok(Turn {
+                events: ArrayVec::new(),
+                waiting: true,
+            });
+        }
         let events = match self.frame_raw(out) {
             Ok(events) => events,
             Err(fault) => return Err(fault),
@@ -139,45 +146,6 @@ impl SourceSide {
             return self.read_straight(wire, out);
         }
         self.read_wire(wire, out, buffer)
-    }
-
-    /// Runs [`SourceSide::frame_or_read`], unless the end of the body was reported.
-    fn frame_rest<W: Wire>(
-        &mut self,
-        wire: &mut W,
-        out: &mut [u8],
-        buffer: &mut [u8; WIRE_ROOM],
-    ) -> Result<Turn, RelayFault>
-        ensures turn { ReadTurn (length out.old) self.old self.new (W.past wire.old) (W.past wire.new) out.new result }
-        ensures kept { length self.old.raw.items < length self.new.raw.items → length self.new.raw.items ≤ max MAX_READ (length out.old) }
-        ensures fault { self.new.fault ≡ self.old.fault }
-        ensures head { self.new.head ≡ self.old.head }
-    {
-        if self.body.has_ended() {
-            return Ok(Turn {
-                events: ArrayVec::new(),
-                waiting: true,
-            });
-        }
-        self.frame_or_read(wire, out, buffer)
-    }
-
-    /// Runs [`SourceSide::frame_rest`], and then keeps no empty room.
-    fn turn_once<W: Wire>(
-        &mut self,
-        wire: &mut W,
-        out: &mut [u8],
-        buffer: &mut [u8; WIRE_ROOM],
-    ) -> Result<Turn, RelayFault>
-        ensures turn { ReadTurn (length out.old) self.old self.new (W.past wire.old) (W.past wire.new) out.new result }
-        ensures kept { length self.old.raw.items < length self.new.raw.items → length self.new.raw.items ≤ max MAX_READ (length out.old) }
-        ensures fault { self.new.fault ≡ self.old.fault }
-        ensures head { self.new.head ≡ self.old.head }
-        ensures empty { self.new.raw.items ≡ [] → self.new.raw.spare ≡ 0 }
-    {
-        let result = self.frame_rest(wire, out, buffer);
-        self.free_memory();
-        result
     }
 
     /// Reads the message's body. The raw bytes come first; the wire is read once at most, if none of them can be framed and
@@ -205,12 +173,11 @@ impl SourceSide {
         if let Some(fault) = self.fault {
             return Err(fault);
         }
-        match self.turn_once(wire, out, buffer) {
-            Ok(turn) => Ok(turn),
-            Err(fault) => {
-                self.fault = Some(fault);
-                Err(fault)
-            }
+        let turned = self.frame_or_read(wire, out, buffer);
+        self.free_memory();
+        if let Err(fault) = &turned {
+            self.fault = Some(*fault);
         }
+        turned
     }
 }
