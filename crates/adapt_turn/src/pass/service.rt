@@ -114,19 +114,16 @@ fn hear<B: Ledgers, V: Service, W: Wire>(
     ensures unbroken { (cause : Cause) → result.failed ≡ Some cause → Breaks hold.old.history reused (V.fault service.new) → ⊥ }
     ensures breaks { result.broken ≡ true → Breaks hold.new.history reused (V.fault service.new) }
 {
-    // For the proof alone: a state is that of its history.
-    let _state = hold.state();
+    let state = hold.state();
     let room = hold.adapted_room() as usize;
-    take_service(
-        rt,
-        bank,
-        hold,
-        service,
-        wire,
-        &mut body[..room],
-        buffer,
-        reused,
-    )
+    let out = &mut body[..room];
+    match service.read_turn(state, wire, out, buffer) {
+        Ok(turn) => {
+            step_all(rt, bank, hold, turn.events.as_slice(), out);
+            went_on(turn.waiting)
+        }
+        Err(fault) => service_failed(rt, bank, hold, fault, reused),
+    }
 }
 
 /// Writes what is due to the service.
@@ -156,40 +153,6 @@ pub(crate) fn send<B: Ledgers, V: Service, W: Wire>(
     match service.write_turn(state, tape, wire, buffer) {
         Ok(turn) => {
             step_all(rt, bank, hold, turn.events.as_slice(), &[]);
-            went_on(turn.waiting)
-        }
-        Err(fault) => service_failed(rt, bank, hold, fault, reused),
-    }
-}
-
-/// Takes what the service gives, into a buffer of the room's length.
-pub(crate) fn take_service<B: Ledgers, V: Service, W: Wire>(
-    rt: &impl Wait,
-    bank: &Bank<B>,
-    hold: &mut Hold<B>,
-    service: &mut V,
-    wire: &mut W,
-    out: &mut [u8],
-    buffer: &mut [u8; WIRE_ROOM],
-    reused: bool,
-) -> PassAnswer
-    requires running { (shows hold.old.history).closed ≡ false }
-    requires roomy { IsRoomy hold.old }
-    requires room { length out.old ≡ service_room hold.old }
-    ensures reports { HearReported V.Service W.Wire (lending hold.old service.old wire.old) (lending hold.new service.new wire.new) result }
-    ensures reason { HasFaultReason (V.fault service.old) (V.fault service.new) (λ fault. V.has_reason fault (shows hold.old.history) service.new) }
-    ensures sent { (request came taken : List ℕ) → V.has_sent request (shows hold.old.history) came taken service.old → V.has_sent request (shows hold.old.history) came taken service.new }
-    ensures rests { (x : Seen) → V.rests_writing x service.old → V.rests_writing x service.new }
-    ensures head { (shows hold.old.history).modified ≡ true → V.adapted_head service.new ≡ V.adapted_head service.old }
-    ensures response { (shows hold.old.history).modified ≡ true → V.is_response service.new ≡ V.is_response service.old }
-    ensures roomy { IsRoomy hold.new }
-    ensures unbroken { (cause : Cause) → result.failed ≡ Some cause → Breaks hold.old.history reused (V.fault service.new) → ⊥ }
-    ensures breaks { result.broken ≡ true → Breaks hold.new.history reused (V.fault service.new) }
-{
-    let state = hold.state();
-    match service.read_turn(state, wire, out, buffer) {
-        Ok(turn) => {
-            step_all(rt, bank, hold, turn.events.as_slice(), out);
             went_on(turn.waiting)
         }
         Err(fault) => service_failed(rt, bank, hold, fault, reused),

@@ -66,31 +66,7 @@ fn read_source<B: Ledgers, S: Source, A: Wire>(
     // For the proof alone: a state is that of its history.
     let _state = hold.state();
     let room = hold.original_room() as usize;
-    take_source(rt, bank, hold, source, wire, &mut body[..room], buffer)
-}
-
-/// Takes what the source gives, into a buffer of the room's length.
-pub(crate) fn take_source<B: Ledgers, S: Source, A: Wire>(
-    rt: &impl Wait,
-    bank: &Bank<B>,
-    hold: &mut Hold<B>,
-    source: &mut S,
-    wire: &mut A,
-    out: &mut [u8],
-    buffer: &mut [u8; WIRE_ROOM],
-) -> PassAnswer
-    requires running { (shows hold.old.history).closed ≡ false }
-    requires roomy { IsRoomy hold.old }
-    requires agrees { S.agrees (shows hold.old.history) source.old }
-    requires room { length out.old ≡ source_room hold.old }
-    ensures reports { SourceReported S.Source A.Wire (lending hold.old source.old wire.old) (lending hold.new source.new wire.new) result }
-    ensures reason { HasFaultReason (S.fault source.old) (S.fault source.new) (λ fault. S.has_reason fault source.new) }
-    ensures head { S.head source.new ≡ S.head source.old }
-    ensures whole { result.broken ≡ false }
-    ensures roomy { IsRoomy hold.new }
-{
-    // For the proof alone: a state is that of its history.
-    let _state = hold.state();
+    let out = &mut body[..room];
     match source.read_turn(wire, out, buffer) {
         Ok(turn) => {
             step_all(rt, bank, hold, turn.events.as_slice(), out);
