@@ -20,7 +20,7 @@ impl<H: Holder> Exchange<H> {
     ghost use Rattle.exchange_core.specs.Course.{after};
     ghost use Rattle.exchange_core.specs.May.{may_come, is_gone, is_moving, is_refusing, is_withdrawing};
     ghost use Rattle.exchange_core.specs.declared.due.Due.TheVariants as dues;
-    ghost use Rattle.exchange_core.specs.declared.event.Event.TheVariants.{Begun, Renewed, Withdrawn};
+    ghost use Rattle.exchange_core.specs.declared.event.Event.TheVariants.{Begun, Withdrawn};
     ghost use Rattle.shard_exchange.specs.EndedBy.{MayEnd};
     ghost use Rattle.shard_exchange.specs.Ends.{moves, begun_with, served_with, Halts, IsEnded, IsServedBy};
     ghost use Rattle.shard_exchange.specs.Outcomes.{has_answer, IsGated, IsStarted, IsTurned};
@@ -59,7 +59,8 @@ impl<H: Holder> Exchange<H> {
         }
     }
 
-    /// A round of turns of the message's transaction.
+    /// A round of turns of the message's transaction. Where the service's connection broke, the request begins anew on a fresh one, or fails
+    /// without one.
     pub(crate) fn turn<P, R: Wait>(
         &mut self,
         rt: &R,
@@ -79,45 +80,26 @@ impl<H: Holder> Exchange<H> {
         ensures rests { result ≡ Step.Waits → (turned : H) × (later : H.Outside) × H.rounds self.old.holdings turned out.old later at.now Round.Waiting
             × H.frees turned self.new.holdings None }
     {
-        match self.round(rt, at, out, scratch) {
+        let may_renew = self.course.may(Event::Renewed);
+        match self.holdings.round(rt, at, out, scratch, may_renew) {
             Round::Over => self.settle(rt, at, out, EndedBy::Itself),
-            Round::Waiting if H::is_late(at, out) => self.settle(rt, at, out, EndedBy::Deadline),
+            Round::Waiting => {
+                if H::is_late(at, out) {
+                    self.settle(rt, at, out, EndedBy::Deadline);
+                } else if !self.note_round() {
+                    return Step::Waits;
+                }
+            }
             Round::Moved { framing } => {
                 self.note_round();
                 return Step::Turned { framing };
             }
-            round => {
-                if !self.note_round() && round == Round::Waiting {
-                    return Step::Waits;
-                }
+            Round::Broken => {
+                self.course.take(Event::Renewed);
+                self.note_round();
             }
         }
         Step::On
-    }
-
-    /// Turns each side. Where the service's connection broke, the request begins anew on a fresh one, or fails without one.
-    fn round<P, R: Wait>(
-        &mut self,
-        rt: &R,
-        at: &P,
-        out: &mut H::Outside,
-        scratch: &mut Scratch,
-    ) -> Round
-    where
-        H: Effects<P>,
-        requires { is_moving self.old.course.phase ≡ true }
-        ensures goes { Goes self.old.course self.new.course }
-        ensures rounds { H.rounds self.old.holdings self.new.holdings out.old out.new at.now result }
-        ensures still { (result ≡ Round.Broken → ⊥) → self.new.course ≡ self.old.course }
-        ensures anew { result ≡ Round.Broken → self.new.course ≡ after self.old.course Renewed }
-        ensures moves { is_moving self.new.course.phase ≡ true }
-    {
-        let may_renew = self.course.may(Event::Renewed);
-        let round = self.holdings.round(rt, at, out, scratch, may_renew);
-        if round == Round::Broken {
-            self.course.take(Event::Renewed);
-        }
-        round
     }
 
     /// Reports the first byte of an answer, where it went out now. Says whether it did.

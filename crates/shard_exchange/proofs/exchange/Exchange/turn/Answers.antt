@@ -1,13 +1,16 @@
 -- After a round the message moves on, or is over as its transaction ended, or as the deadline passed with nothing moved.
-use Rattle.std.proofs.Common.{◌≡◌, ◌⊎◌, inl, inr, Bool, Option, true, false, ◌&&◌, ◌||◌, subst, sym, ap, ◌∙◌, refl, rules}
+use Rattle.std.proofs.Common.{◌≡◌, ◌⊎◌, inl, inr, Bool, Option, true, false, ◌&&◌, ◌||◌, subst, sym, ap, ◌∙◌, refl, arith}
 use Rattle.std.proofs.lemmas.Bool.{false≢true}
+use Rattle.std.proofs.lemmas.Bool.Decides.{nat_tests}
 use Rattle.exchange_core.specs.declared.connection.Connection.{Connection}
 use Rattle.exchange_core.specs.declared.connection.Connection.TheVariants.{Absent, Ready, InUse, Spent}
 use Rattle.exchange_core.specs.declared.state.CourseState.{CourseState}
+use Rattle.exchange_core.specs.declared.due.Due.TheVariants.{Turn}
 use Rattle.exchange_core.specs.declared.event.Event.TheVariants.{Renewed, Withdrawn}
 use Rattle.exchange_core.specs.declared.phase.Phase.{Phase}
 use Rattle.exchange_core.specs.declared.phase.Phase.TheVariants.{Moving}
 use Rattle.exchange_core.specs.Course.{after, renewed}
+use Rattle.exchange_core.specs.Dues.{due_of}
 use Rattle.exchange_core.specs.May.{may_come, is_at_gate, is_moving, is_refusing, is_withdrawing}
 use Rattle.exchange_core.proofs.Stepping.{goes_on}
 use Rattle.shard_exchange.specs.declared.answers.Round.{Round}
@@ -17,14 +20,9 @@ use Rattle.shard_exchange.specs.Ends.{moves, begun_with, served_with, IsServedBy
 use Rattle.shard_exchange.specs.Outcomes.{anew_with, has_answer, is_last, IsOver, IsOverdue, IsTurned}
 use Rattle.shard_exchange.proofs.exchange.Exchange.turn.Goals as goal
 
-pub returns-in-Over-clause-goes : goal.returns-in-Over-clause-goes
-returns-in-Over-clause-goes g c = goes_on _ _ _ c.round.ensures.goes c.settle.ensures.goes
-
-pub returns-in-Moved-clause-goes : goal.returns-in-Moved-clause-goes
-returns-in-Moved-clause-goes g c = goes_on _ _ _ c.round.ensures.goes c.note_round.ensures.goes
-
-pub returns-else-not-note_round-clause-goes : goal.returns-else-not-note_round-clause-goes
-returns-else-not-note_round-clause-goes g c = goes_on _ _ _ c.round.ensures.goes c.note_round-in_default.ensures.goes
+-- the connection broke, and that was told before what the round came to
+pub returns-in-Broken-clause-goes : goal.returns-in-Broken-clause-goes
+returns-in-Broken-clause-goes g c = goes_on _ _ _ c.take.ensures.goes c.note_round-in-Broken.ensures.goes
 
 -- a connection that broke was in use, and so is the fresh one in its place
 served_anew : (usable : Bool) (old new : Connection) → IsServedBy usable (renewed old) new → IsServedBy usable old new
@@ -51,9 +49,12 @@ still_moves : (gate moving : Bool) → moving ≡ true → (gate || moving) ≡ 
 still_moves true moving h k = sym k
 still_moves false moving h k = sym k ∙ h
 
+-- where a round of turns is due, the message moves
+turning : (c : CourseState) → due_of c ≡ Turn → is_moving c.phase ≡ true
+turning c due = grind (arith, nat_tests)
+
 -- what a round came to that isn't over
 record Noted (answered usable : Bool) (mid new : CourseState) : Type 0 where
-  moves : is_moving mid.phase ≡ true
   phase : new.phase ≡ mid.phase
   begun : new.begun ≡ (mid.begun || (answered && has_answer mid.phase))
   served : IsServedBy usable mid.connection new.connection
@@ -62,7 +63,6 @@ record Noted (answered usable : Bool) (mid new : CourseState) : Type 0 where
 noted_anew : (answered usable : Bool) (old new : CourseState) → Noted answered usable (after old Renewed) new
     → Noted answered usable old new
 noted_anew answered usable old new n = record {
-  moves = n.moves;
   phase = n.phase;
   begun = n.begun;
   served = served_anew usable old.connection new.connection n.served;
@@ -76,27 +76,31 @@ from_round answered usable (came.Moved framing) old new n = n
 from_round answered usable came.Waiting old new n = n
 from_round answered usable came.Over old new n = n
 
--- where the connection broke the course is told so, and else it is as before
-anew_is : (round : Round) (old mid : CourseState) → (round ≡ came.Broken → mid ≡ after old Renewed)
-    → ((round ≡ came.Broken → ⊥) → mid ≡ old) → mid ≡ anew_with round old
-anew_is came.Broken old mid anew still = anew refl
-anew_is (came.Moved framing) old mid anew still = still (λ e. cc)
-anew_is came.Waiting old mid anew still = still (λ e. cc)
-anew_is came.Over old mid anew still = still (λ e. cc)
+-- where the connection didn't break, the course is as before
+still_is : (round : Round) (old : CourseState) → (round ≡ came.Broken → ⊥) → old ≡ anew_with round old
+still_is came.Broken old on = absurd (on refl)
+still_is (came.Moved framing) old on = refl
+still_is came.Waiting old on = refl
+still_is came.Over old on = refl
+
+-- where it broke, the course is told so
+anew_is : (round : Round) (old mid : CourseState) → round ≡ came.Broken → mid ≡ after old Renewed → mid ≡ anew_with round old
+anew_is came.Broken old mid broke anew = anew
+anew_is _ old mid broke anew = cc
 
 -- a round that isn't the last, and after which the message moves, is a turn of that message
 moving_on : {H O : Type 0} (rounds : H → H → O → Round → Type 0) (frees : H → Option Bool → Type 0) (answered reusable : H → Bool)
     (ends : H → Bool → End → Type 0) (follows : H → O → End → Type 0) (repeats : H → Type 0) (late : O → Bool) (held turned : H) (later : O)
     (round : Round)
     (old mid new : CourseState)
-    → rounds held turned later round → (is_last (late later) round ≡ true → ⊥) → mid ≡ anew_with round old
+    → is_moving old.phase ≡ true → rounds held turned later round → (is_last (late later) round ≡ true → ⊥) → mid ≡ anew_with round old
     → (usable : Option Bool) × frees turned usable × (new ≡ served_with usable (begun_with (answered turned) mid))
     → Noted (answered turned) (reusable turned) mid new
     → IsTurned rounds frees answered reusable ends follows repeats late held old new
-moving_on rounds frees answered reusable ends follows repeats late held turned later round old mid new r on same f here =
+moving_on rounds frees answered reusable ends follows repeats late held turned later round old mid new moved r on same f here =
     let n = from_round (answered turned) (reusable turned) round old new
     (subst (λ (c : CourseState). Noted (answered turned) (reusable turned) c new) same here) in
-    let moves = ap (λ (p : Phase). is_moving p) n.phase ∙ n.moves in
+    let moves = ap (λ (p : Phase). is_moving p) n.phase ∙ moved in
     record {
       turned = turned;
       later = later;
@@ -114,73 +118,74 @@ moving_on rounds frees answered reusable ends follows repeats late held turned l
 
 pub returns-in-Moved-clause-turned : goal.returns-in-Moved-clause-turned
 returns-in-Moved-clause-turned g c =
-    moving_on _ _ _ _ _ _ _ (λ out. g.H.Effects.is_late out c.args.at.now) _ c.round.new.self.holdings c.round.new.out c.round.result _ _ _
-    c.round.ensures.rounds
+    let noted = c.note_round-in-Moved.ensures in
+    moving_on _ _ _ _ _ _ _ (λ out. g.H.Effects.is_late out c.args.at.now) _ c.round.new.self c.round.new.out c.round.result _ _ _
+    (turning c.args.self.now.course c.requires.due) c.round.ensures.rounds
     (subst (λ (r : Round). is_last (g.H.Effects.is_late c.round.new.out c.args.at.now) r ≡ true → ⊥) (sym c.in-Moved.is) (λ e. cc))
-    (anew_is c.round.result c.args.self.now.course c.round.new.self.course c.round.ensures.anew c.round.ensures.still)
-    c.note_round.ensures.freed
-    (record {
-      moves = c.round.ensures.moves;
-      phase = c.note_round.ensures.phase;
-      begun = c.note_round.ensures.begun;
-      served = c.note_round.ensures.served;
-    })
+    (still_is c.round.result c.args.self.now.course (subst (λ (r : Round). r ≡ came.Broken → ⊥) (sym c.in-Moved.is) (λ e. cc)))
+    noted.freed
+    (record { phase = noted.phase; begun = noted.begun; served = noted.served })
 
+pub returns-in-Broken-clause-turned : goal.returns-in-Broken-clause-turned
+returns-in-Broken-clause-turned g c =
+    let noted = c.note_round-in-Broken.ensures in
+    moving_on _ _ _ _ _ _ _ (λ out. g.H.Effects.is_late out c.args.at.now) _ c.round.new.self c.round.new.out c.round.result _ _ _
+    (turning c.args.self.now.course c.requires.due) c.round.ensures.rounds
+    (subst (λ (r : Round). is_last (g.H.Effects.is_late c.round.new.out c.args.at.now) r ≡ true → ⊥) (sym c.in-Broken.is) (λ e. cc))
+    (anew_is c.round.result c.args.self.now.course c.take.new.self c.in-Broken.is c.take.ensures.after)
+    noted.freed
+    (record { phase = noted.phase; begun = noted.begun; served = noted.served })
+
+-- each wire waits, and the deadline hasn't passed
 pub returns-else-not-note_round-clause-turned : goal.returns-else-not-note_round-clause-turned
 returns-else-not-note_round-clause-turned g c =
-    moving_on _ _ _ _ _ _ _ (λ out. g.H.Effects.is_late out c.args.at.now) _ c.round.new.self.holdings c.round.new.out c.round.result _ _ _
-    c.round.ensures.rounds (search rules)
-    (anew_is c.round.result c.args.self.now.course c.round.new.self.course c.round.ensures.anew c.round.ensures.still)
-    c.note_round-in_default.ensures.freed
-    (record {
-      moves = c.round.ensures.moves;
-      phase = c.note_round-in_default.ensures.phase;
-      begun = c.note_round-in_default.ensures.begun;
-      served = c.note_round-in_default.ensures.served;
-    })
+    let noted = c.note_round.ensures in
+    let early : g.H.Effects.is_late c.round.new.out c.args.at.now ≡ false = sym c.is_late.ensures ∙ c.if-is_late.false in
+    moving_on _ _ _ _ _ _ _ (λ out. g.H.Effects.is_late out c.args.at.now) _ c.round.new.self c.round.new.out c.round.result _ _ _
+    (turning c.args.self.now.course c.requires.due) c.round.ensures.rounds
+    (subst (λ (r : Round). is_last (g.H.Effects.is_late c.round.new.out c.args.at.now) r ≡ true → ⊥) (sym c.in-Waiting.is)
+    (λ late. absurd (false≢true (sym early ∙ late))))
+    (still_is c.round.result c.args.self.now.course (subst (λ (r : Round). r ≡ came.Broken → ⊥) (sym c.in-Waiting.is) (λ e. cc)))
+    noted.freed
+    (record { phase = noted.phase; begun = noted.begun; served = noted.served })
 
--- what a message came to that is over: the course is as before where it is told
+-- what a message came to that is over
 ended_there : {H O : Type 0} (rounds : H → H → O → Round → Type 0) (frees : H → Option Bool → Type 0) (answered reusable : H → Bool)
     (ends : H → Bool → End → Type 0) (follows : H → O → End → Type 0) (repeats : H → Type 0) (late : O → Bool) (held turned : H) (later : O)
-    (round : Round) (old mid new : CourseState)
-    → mid ≡ old → rounds held turned later round → moves new ≡ false → IsServedBy (reusable turned) mid.connection new.connection
+    (round : Round) (old new : CourseState)
+    → rounds held turned later round → moves new ≡ false → IsServedBy (reusable turned) old.connection new.connection
     → (answered turned ≡ true → is_refusing new.phase ≡ false)
-    → (is_withdrawing new.phase ≡ true → repeats turned × (answered turned ≡ false) × (may_come mid Withdrawn ≡ true))
-    → IsOver (ends turned (may_come mid Withdrawn)) (follows turned later) (answered turned) (reusable turned) round mid new
-    ⊎ IsOverdue late (follows turned later) (answered turned) (reusable turned) round mid new
+    → (is_withdrawing new.phase ≡ true → repeats turned × (answered turned ≡ false) × (may_come old Withdrawn ≡ true))
+    → IsOver (ends turned (may_come old Withdrawn)) (follows turned later) (answered turned) (reusable turned) round old new
+    ⊎ IsOverdue late (follows turned later) (answered turned) (reusable turned) round old new
     → IsTurned rounds frees answered reusable ends follows repeats late held old new
-ended_there rounds frees answered reusable ends follows repeats late held turned later round old mid new same r over s a w e =
-    subst (λ (c : CourseState). IsTurned rounds frees answered reusable ends follows repeats late held c new) same
-    (record {
-      turned = turned;
-      later = later;
-      round = round;
-      taken = r;
-      freed = λ m. absurd (false≢true (sym over ∙ m));
-      begun = λ m. absurd (false≢true (sym over ∙ m));
-      alone = a;
-      served = s;
-      withdrawn = w;
-      last = λ l. over;
-      over = λ m. e;
-    })
+ended_there rounds frees answered reusable ends follows repeats late held turned later round old new r over s a w e = record {
+  turned = turned;
+  later = later;
+  round = round;
+  taken = r;
+  freed = λ m. absurd (false≢true (sym over ∙ m));
+  begun = λ m. absurd (false≢true (sym over ∙ m));
+  alone = a;
+  served = s;
+  withdrawn = w;
+  last = λ l. over;
+  over = λ m. e;
+}
 
 -- it ended as its transaction did
 pub returns-in-Over-clause-turned : goal.returns-in-Over-clause-turned
 returns-in-Over-clause-turned g c =
     let told = c.settle.ensures in
-    ended_there _ _ _ _ _ _ _ _ _ c.round.new.self.holdings c.round.new.out c.round.result _ c.round.new.self.course _
-    (c.round.ensures.still (subst (λ (r : Round). r ≡ came.Broken → ⊥) (sym c.in-Over.is) (λ e. cc)))
-    c.round.ensures.rounds told.over told.served told.ended.alone told.withdrawn
-    (inl (record { last = c.in-Over.is; ended = told.ended }))
+    ended_there _ _ _ _ _ _ _ _ _ c.round.new.self c.round.new.out c.round.result _ _ c.round.ensures.rounds told.over told.served
+    told.ended.alone told.withdrawn (inl (record { last = c.in-Over.is; ended = told.ended }))
 
 -- or the deadline passed
-pub returns-in-Waiting-clause-turned : goal.returns-in-Waiting-clause-turned
-returns-in-Waiting-clause-turned g c =
-    let told = c.settle-in-Waiting.ensures in
-    ended_there _ _ _ _ _ _ _ _ _ c.round.new.self.holdings c.round.new.out c.round.result _ c.round.new.self.course _
-    (c.round.ensures.still (subst (λ (r : Round). r ≡ came.Broken → ⊥) (sym c.in-Waiting.is) (λ e. cc)))
-    c.round.ensures.rounds told.over told.served told.ended.alone told.withdrawn
+pub returns-then-is_late-clause-turned : goal.returns-then-is_late-clause-turned
+returns-then-is_late-clause-turned g c =
+    let told = c.settle-then-is_late.ensures in
+    ended_there _ _ _ _ _ _ _ _ _ c.round.new.self c.round.new.out c.round.result _ _ c.round.ensures.rounds told.over told.served
+    told.ended.alone told.withdrawn
     (inr (record {
       out = c.round.new.out;
       is_late = sym c.is_late.ensures ∙ c.if-is_late.true;

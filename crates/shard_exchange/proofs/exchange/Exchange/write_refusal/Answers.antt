@@ -1,5 +1,4 @@
 -- Where nothing of the refusal goes out now, the exchange waits on, or lets its user go once the deadline has passed.
-use Rattle.std.proofs.Common.{◌≡◌}
 use Rattle.adapt_sides.specs.declared.saying.Said.TheVariants.{Nothing}
 use Rattle.shard_exchange.proofs.exchange.Exchange.write_refusal.Goals as goal
 
