@@ -1,6 +1,6 @@
 //! The steps of an exchange: what is due is done.
 
-ghost use Rattle.std.specs.Prelude.{◌≡◌, ◌↔◌, ◌⊎◌, ℕ, true, false};
+ghost use Rattle.std.specs.Prelude.{◌≡◌, ◌⊎◌, ℕ, true, false};
 ghost use Rattle.shard_exchange.specs.Resting.{RestsOn};
 ghost use Rattle.exchange_core.specs.declared.due.Due.TheVariants as dues;
 ghost use Rattle.shard_exchange.specs.Ends.{is_closing, is_stopped, moves};
@@ -66,33 +66,10 @@ impl<H: Holder> Exchange<H> {
             Task::Halt if self.phase() == Phase::Closing => Step::On,
             Task::Halt => self.halt(rt, at, out),
             Task::TakeLeave if self.is_stopped() => self.take_leave(rt, at, out),
-            Task::Step | Task::TakeLeave => self.step(rt, at, out, scratch),
-        }
-    }
-
-    /// Does what is due, and says how far that came.
-    #[inline(always)]
-    fn step<P, R: Wait>(
-        &mut self,
-        rt: &R,
-        at: &P,
-        out: &mut H::Outside,
-        scratch: &mut Scratch,
-    ) -> Step
-    where
-        H: Effects<P>,
-        ensures goes { GoesOn self.old.course self.new.course }
-        ensures late { result ≡ Step.Waits → H.is_late out.new at.now ≡ false }
-        ensures waits { result ≡ Step.Waits → is_wait (due_of self.new.course) ≡ true }
-        ensures rests { result ≡ Step.Waits → RestsOn (⟦<Self as Stepping<P, H::Outside>>⟧.tried self.old out.old self.new out.new at.now) (due_of self.old.course) }
-        ensures over { result ≡ Step.Over ↔ is_over self.new.course ≡ true }
-        ensures does { Does (⟦<Self as Stepping<P, H::Outside>>⟧.does self.old out.old self.new out.new at.now) (due_of self.old.course) }
-    {
-        let step = self.do_due(rt, at, out, scratch);
-        if self.course.state().is_over() {
-            Step::Over
-        } else {
-            step
+            Task::Step | Task::TakeLeave => {
+                let step = self.do_due(rt, at, out, scratch);
+                self.over_or(step)
+            }
         }
     }
 
@@ -138,5 +115,17 @@ impl<H: Holder> Exchange<H> {
             Due::Nothing => {}
         }
         Step::On
+    }
+
+    /// Says that the exchange is over where it is by its course, and else how far the step came.
+    fn over_or(&self, step: Step) -> Step
+        ensures over { is_over self.now.course ≡ true → result ≡ Step.Over }
+        ensures on { is_over self.now.course ≡ false → result ≡ step }
+    {
+        if self.course.state().is_over() {
+            Step::Over
+        } else {
+            step
+        }
     }
 }

@@ -64,9 +64,9 @@ returns-in-Step-clause-same g c =
     let course = c.args.self.now.course in
     λ moved moving.
     let held = c.args.self.now.holdings in
-    let holds = c.step.new.self.holdings in
+    let holds = c.do_due-step.new.self.holdings in
     moving_on g.H.Holder.stays (λ held turned later round. g.H.Effects.rounds held turned c.args.out.now later c.args.at.now round)
     (λ turned usable. g.H.Holder.frees turned holds usable) held holds _ course.phase course moved
     (λ gated. passed (λ later passes. g.H.Effects.lets_pass c.args.out.now later c.args.at.now passes) _ _ _ _ _ _ _ _ gated moving)
-    (λ given. went_back _ _ _ (g.H.Holder.has_line held) course c.step.new.self.course given)
-    (λ turned. took_turns _ _ _ _ _ _ _ _ _ _ _ turned moving) c.step.ensures.does
+    (λ given. went_back _ _ _ (g.H.Holder.has_line held) course c.do_due-step.new.self.course given)
+    (λ turned. took_turns _ _ _ _ _ _ _ _ _ _ _ turned moving) c.do_due-step.ensures.does
