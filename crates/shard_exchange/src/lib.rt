@@ -3,7 +3,7 @@
 //! The exchange asks its course what is due, has it done over what it holds, and tells the course what came of it. What it holds is one
 //! value to it, which holds just what the course counts, and says what is in hand of that. It has no sockets, no clock and no threads.
 //!
-//! It stands apart from `shard_holdings` for the proof's sake alone: what it asks of what it holds are traits, each with one
+//! It stands apart from `shard_message` for the proof's sake alone: what it asks of what it holds are traits, each with one
 //! implementer, so an exchange is proved by these alone.
 #![tactic(auto)]
 

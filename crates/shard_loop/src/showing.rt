@@ -18,8 +18,7 @@ use exchange_report::{
 };
 use shard_desk::{Desk, Noted, SECOND, Shares};
 use shard_exchange::Exchange;
-use shard_holdings::Holdings;
-use shard_message::{Kinds, Moving, OnShow, Shown};
+use shard_message::{Holdings, Kinds, Moving, OnShow, Shown};
 use shard_report::{address_of, elapsed_of, moment};
 use std::alloc::AllocError;
 use std::net::SocketAddrV4;

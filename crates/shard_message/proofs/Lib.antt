@@ -4,3 +4,4 @@ pub mod NextLemmas
 pub mod OutsetLemmas
 pub mod RoundLemmas
 pub mod WaitLemmas
+pub mod WayLemmas

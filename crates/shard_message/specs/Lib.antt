@@ -12,3 +12,9 @@ pub mod Outset
 pub mod Rounds
 pub mod Told
 pub mod Waits
+pub mod Borne
+pub mod Freed
+pub mod Message
+pub mod Withdrawals
+pub mod Started
+pub mod Way

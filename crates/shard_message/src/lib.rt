@@ -1,10 +1,14 @@
-//! One message of an exchange on its way: its transaction from the first turn to the last, and what comes of it.
+//! What an exchange holds, and one message of it on its way: its transaction from the first turn to the last, and what comes of it.
+//!
+//! The course of an exchange says what is due. `Holdings` does it, over the connections, the lease, the reservation and the transaction
+//! that it holds: each function does one thing, and says what came of it. The exchange sees all this as one value (`Effects` of
+//! `shard_exchange`), so that it can do nothing else.
 //!
 //! What an exchange asks of its surroundings is the trait `Outside`: its connections, the budget, the clock and all notes, over sockets,
 //! or over memory in a test. What is decided by their answers is here too: the plan, what a service's options say, and what the proxy
 //! itself says to a user. Here are no sockets and no clock.
 //!
-//! It stands apart from `shard_holdings` for the proof's sake alone: a transaction over the wires of a running proxy is proved here, and
+//! It stands apart from `shard_exchange` for the proof's sake alone: a transaction over the wires of a running proxy is proved here, and
 //! the crates above see only what comes of it.
 #![tactic(auto)]
 
@@ -13,8 +17,11 @@ mod asking;
 mod carried;
 mod connection;
 mod connections;
+mod doing;
 mod ended;
 mod heads;
+mod holding;
+mod holdings;
 mod lasting;
 pub mod laws;
 mod moving;
@@ -41,6 +48,7 @@ pub use asking::{begin_anew, hear_on, is_fresh};
 pub use connection::{ServiceConnection, lay_wire};
 pub use connections::{Connections, Remains, take_connections};
 pub use heads::{fault_of, turn_on};
+pub use holdings::{Held, Holdings};
 pub use lasting::LastingOrigin;
 pub use moving::{Moves, Moving, OnItsWay};
 pub use options::{begin_asking, hear_turn, is_reusable, keep};

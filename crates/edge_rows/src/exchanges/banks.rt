@@ -9,7 +9,7 @@ use crate::stage::{
 };
 use proxy_config::{Config, ConfigFault, read_config};
 use proxy_rules::Incoming;
-use shard_holdings::{Held, Holdings};
+use shard_message::{Held, Holdings};
 use span_bank::{Bank, Blanks, Ledgers, Pages};
 use std::alloc::Global;
 use std::boxed::Box;

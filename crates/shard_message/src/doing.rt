@@ -8,9 +8,9 @@ ghost use Rattle.shard_message.specs.Dialed.{LeadsAsPlanned};
 ghost use Rattle.shard_message.specs.Ended.{HasGiven};
 ghost use Rattle.shard_message.specs.Lines.{HasLine, IsRenewed};
 ghost use Rattle.shard_message.specs.Outset.{BeginsClean, IsLineAfter, Outset, SetsOut};
-ghost use Rattle.shard_holdings.specs.Borne.{plan_of};
-ghost use Rattle.shard_holdings.specs.Settled.{LaysOrNot};
-ghost use Rattle.shard_holdings.specs.Started.{Starts};
+ghost use Rattle.shard_message.specs.Borne.{plan_of};
+ghost use Rattle.shard_message.specs.Withdrawals.{LaysOrNot};
+ghost use Rattle.shard_message.specs.Started.{Starts};
 ghost use Rattle.shard_message.specs.Learning.{IsAsking, IsLearned};
 ghost use Rattle.proxy_config.specs.declared.config.Config.{Config as AnyConfig};
 ghost use Rattle.shard_message.specs.Planning.{PlansBy};
@@ -18,20 +18,30 @@ ghost use Rattle.shard_exchange.specs.Saying.{past_of};
 ghost use Rattle.shard_message.specs.Taking.{taken_if};
 ghost use Rattle.shard_message.specs.Waits.{GivesNone};
 
+use crate::accounts::Accounted;
+use crate::asking::{begin_anew, is_fresh};
+use crate::connection::ServiceConnection;
+use crate::connections::take_connections;
 use crate::holdings::Holdings;
+use crate::lasting::LastingOrigin;
+use crate::moving::{Moves, Moving, OnItsWay};
+use crate::options::{begin_asking, is_reusable, keep};
+use crate::outside::{Dialed, Outside};
+use crate::planning::keep_plan;
+use crate::reusable::Reusable;
+use crate::room::{dial_for, make_room};
+use crate::saying::{lay_page, refusal_by, say_to};
+use crate::settled::Settled;
+use crate::slots::{clear, lay, put_in, take_out};
+use crate::start::manner_of;
+use crate::users::{finish_user, leave_queue, linger_on, note_refused, note_stopped};
+use crate::withdrawal::{has_given_none, request_again};
 use adapt_sides::{ClientFault, Said, Scratch};
 use exchange_core::{Course, CourseState, Dialing};
 use icap_head::IcapResponse;
 use service_lines::LendFault;
 use shard_exchange::{
     Effects, End, EndedBy, Lingered, Marks, Reason, Report, Round, Started, Unplanned, Withdrawal,
-};
-use shard_message::{
-    Accounted, Dialed, LastingOrigin, Moves, Moving, OnItsWay, Outside, Reusable,
-    ServiceConnection, Settled, begin_anew, begin_asking, clear, dial_for, finish_user,
-    has_given_none, is_fresh, is_reusable, keep, keep_plan, lay, lay_page, leave_queue, linger_on,
-    make_room, manner_of, note_refused, note_stopped, put_in, refusal_by, request_again, say_to,
-    take_connections, take_out,
 };
 use span_bank::Pages;
 use std::sync::Wait;

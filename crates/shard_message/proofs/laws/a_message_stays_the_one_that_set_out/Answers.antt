@@ -1,7 +1,7 @@
 -- A message that was started is accounted for since it set out, and stays so through each step after which it moves.
 use Rattle.std.proofs.Common.{inl, inr, ap}
-use Rattle.shard_holdings.proofs.WayLemmas.{carried_as_it_is, carried_by_round, carried_by_steps}
-use Rattle.shard_holdings.proofs.laws.a_message_stays_the_one_that_set_out.Goals as goal
+use Rattle.shard_message.proofs.WayLemmas.{carried_as_it_is, carried_by_round, carried_by_steps}
+use Rattle.shard_message.proofs.laws.a_message_stays_the_one_that_set_out.Goals as goal
 
 pub returns-clause-began : goal.returns-clause-began
 returns-clause-began g c = λ set s sets.

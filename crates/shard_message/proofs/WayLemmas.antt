@@ -1,7 +1,7 @@
 -- What stays so of a message on its way.
 use Rattle.std.proofs.Common.{◌≡◌, ℕ, zero, suc, Option, Some, None, IfSome, IsSomeAnd, refl, sym, subst, ◌∙◌}
 use Rattle.shard_message.specs.Outset.{Outset}
-use Rattle.shard_holdings.specs.Way.{AreSteps, Carries, IsSince}
+use Rattle.shard_message.specs.Way.{AreSteps, Carries, IsSince}
 
 -- what each step carries, many carry
 pub carried_by_steps : {U S O M H : Type 0} (since : Outset U S O → M → Type 0) (tx : H → Option M) (step : H → H → Type 0)

@@ -1,7 +1,7 @@
 -- The user gets what is left of its refusal: the one with a page where one was laid, else the plain one.
-use Rattle.std.proofs.Common.{◌≡◌, ℕ, List, subst}
+use Rattle.std.proofs.Common.{ℕ, List, subst}
 use Rattle.shard_exchange.specs.Saying.{SaysOn, past_of}
-use Rattle.shard_holdings.proofs.doing.HoldingsEffects.refuse.Goals as goal
+use Rattle.shard_message.proofs.doing.HoldingsEffects.refuse.Goals as goal
 
 pub returns-clause-says : goal.returns-clause-says
 returns-clause-says g c =

@@ -15,21 +15,26 @@ ghost use Rattle.shard_message.specs.Told.{IsRequestAgain};
 ghost use Rattle.shard_message.specs.Usable.{usable_by};
 ghost use Rattle.shard_message.specs.Waits.{GivesNone, MovesNone};
 ghost use Rattle.proxy_rules.specs.Since.{held_or};
-ghost use Rattle.shard_holdings.specs.Borne.{plan_of};
-ghost use Rattle.shard_holdings.specs.Freed.{IsFreed, freed_of};
-ghost use Rattle.shard_holdings.specs.Message.{has_come};
-ghost use Rattle.shard_holdings.specs.Settled.{WithdrawsAs};
+ghost use Rattle.shard_message.specs.Borne.{plan_of};
+ghost use Rattle.shard_message.specs.Freed.{IsFreed, freed_of};
+ghost use Rattle.shard_message.specs.Message.{has_come};
+ghost use Rattle.shard_message.specs.Withdrawals.{WithdrawsAs};
 
+use crate::accounts::Accounted;
+use crate::asking::hear_on;
+use crate::connection::lay_wire;
+use crate::heads::{fault_of, turn_on};
 use crate::holdings::Holdings;
+use crate::moving::{Moving, OnItsWay};
+use crate::outside::Kinds;
+use crate::saying::say_to;
+use crate::slots::clear;
 use adapt_sides::{Said, WIRE_ROOM};
 use adapt_turn::FreedConnection;
 use exchange_core::Course;
 use http_side::HttpFault;
 use proxy_rules::interim_continue;
 use shard_exchange::{HeadTurn, Holder, InHand, OptionsTurn};
-use shard_message::{
-    Accounted, Kinds, Moving, OnItsWay, clear, fault_of, hear_on, lay_wire, say_to, turn_on,
-};
 
 impl<O: Kinds> InHand for Holdings<O> {
     ghost hand = { λ held. hand_of (is_some held.connection) (is_some held.room) (is_some held.origin) (is_some held.tx) held.told (refused_of (option_map (λ text. text.items) held.page) held.refused) held.is_finished };

@@ -1,6 +1,6 @@
 -- What begins to move is the message that was held, by its plan, over the connections that were held.
 use Rattle.std.proofs.Common.{rules}
-use Rattle.shard_holdings.proofs.doing.HoldingsEffects.start.Goals as goal
+use Rattle.shard_message.proofs.doing.HoldingsEffects.start.Goals as goal
 
 pub returns-in-Ok-clause-begins : goal.returns-in-Ok-clause-begins
 returns-in-Ok-clause-begins g c = λ moves. (

@@ -5,12 +5,17 @@ ghost use Rattle.std.specs.Option.{ForSome};
 ghost use Rattle.shard_exchange.specs.Hand.{IsEmpty};
 ghost use Rattle.shard_message.specs.Lines.{HasLine};
 
+use crate::connection::ServiceConnection;
+use crate::connections::Remains;
+use crate::moving::Moving;
+use crate::outside::Kinds;
+use crate::planning::Planned;
+use crate::room::MessageRoom;
+use crate::shown::{OnShow, Shown};
+use crate::slots::put_in;
 use icap_client::OptionsSide;
 use proxy_rules::Incoming;
 use shard_exchange::InHand;
-use shard_message::{
-    Kinds, MessageRoom, Moving, OnShow, Planned, Remains, ServiceConnection, Shown, put_in,
-};
 use span_bank::{Bank, Stake};
 use std::boxed::Box;
 use std::sync::Wait;

@@ -1,7 +1,7 @@
 -- A service's connection that comes out lies beside its lease; where none does, the message is as it was.
 use Rattle.std.proofs.Common.{refl, ap, sym}
 use Rattle.proxy_rules.specs.Since.{held_or}
-use Rattle.shard_holdings.proofs.holding.HoldingsHolder.free_service.Goals as goal
+use Rattle.shard_message.proofs.holding.HoldingsHolder.free_service.Goals as goal
 
 -- none came out, and the message is as it was
 pub returns-in_err-wire-clause-freed : goal.returns-in_err-wire-clause-freed

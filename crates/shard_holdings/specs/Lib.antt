@@ -1,6 +1,0 @@
-pub mod Borne
-pub mod Freed
-pub mod Message
-pub mod Settled
-pub mod Started
-pub mod Way
