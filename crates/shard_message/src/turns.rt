@@ -69,25 +69,19 @@ fn body_bytes(seen: &Seen) -> u64 {
     offered.saturating_add(delivered)
 }
 
-/// A turn of one side. `bodies` is what `body_bytes` says before it, and says after it where bytes moved.
-fn turn_side<B: Ledgers, W: Wires, R: Wait>(
-    rt: &R,
-    bank: &Bank<B>,
-    tx: &mut Running<B, W>,
-    scratch: &mut Scratch,
-    side: Side,
-    now: u64,
+/// What a turn comes to that answered this. `bodies` is what `body_bytes` says before it, and says after it where bytes moved.
+fn after_turn<B: Ledgers, W: Wires>(
+    tx: &Running<B, W>,
+    answer: TurnAnswer,
     bodies: &mut u64,
 ) -> Round
-    ensures turned { (answer : AnyAnswer) × ⟦<Running<B, W> as Turning>⟧.turned now tx.old side answer tx.new × IsTurned (⟦<Running<B, W> as Turning>⟧.is_over tx.new) answer result }
-    ensures broken { result ≡ Round.Broken → MayRenew tx.new.tx.pace tx.new.tx.hold }
-    ensures lasts { ⟦<Tx<B, OwnEnds<W>> as Lasting<W>>⟧.lasts (λ s. s) tx.old.tx tx.new.tx }
+    ensures turned { IsTurned (⟦<Running<B, W> as Turning>⟧.is_over tx.now) answer result }
+    ensures broken { result ≡ Round.Broken → answer ≡ TurnAnswer.Broken }
 {
-    let turned = tx.turn(rt, bank, scratch, side, now);
     if tx.outcome().is_some() {
         return Round::Over;
     }
-    match turned {
+    match answer {
         TurnAnswer::Moved(count) => {
             let before = *bodies;
             *bodies = body_bytes(&tx.seen());
@@ -142,7 +136,8 @@ fn turn_each<B: Ledgers, W: Wires, R: Wait>(
     match sides {
         [] => Round::Waiting,
         [side, later @ ..] => {
-            let turned = turn_side(rt, bank, tx, scratch, *side, now, bodies);
+            let answer = tx.turn(rt, bank, scratch, *side, now);
+            let turned = after_turn(tx, answer, bodies);
             if ends(turned) {
                 return turned;
             }
