@@ -122,34 +122,6 @@ fn watch<R, G>(seats: &mut Seats, at: &Spot<'_, R, G>, phase: Phase) {
     seats.await_connections(at.key, at.now, moves, moves || asks);
 }
 
-/// A step of an exchange in this phase. Its seat is touched where it went on, and something moved; but what the proxy itself says at
-/// the end is written, and the connection closed after it, within one deadline.
-fn take_step<E: Exchanges, R: Wait + Dial + Clock, G: Gate>(
-    exchanges: &mut E,
-    at: &Spot<'_, R, G>,
-    exchange: &mut E::Exchange,
-    phase: Phase,
-    noted: &mut Happened,
-) -> Step
-    requires { phase ≡ E.Exchange.phase_of exchange.old }
-    ensures past { Adds (E.Exchange.past exchange.old) (E.Exchange.past exchange.new) (Did phase Task.Step result) }
-    ensures rounds { noted.new.rounds ≡ noted.old.rounds }
-    ensures over { result ≡ Step.Over → E.Exchange.is_over exchange.new ≡ true }
-{
-    watch(exchanges.users_mut().seats_mut(), at, phase);
-    let step = exchanges.act(at, exchange, Task::Step);
-    if has_moved(step) && !noted.went_on && !is_ending(phase) {
-        noted.went_on = true;
-        exchanges.users_mut().seats_mut().touch(at.key, at.now);
-    }
-    let next = exchange.phase();
-    note_stay(exchanges.users_mut(), at, next, noted);
-    if next == Phase::Head && (step == Step::On || phase == Phase::Idle) {
-        exchanges.users_mut().seats_mut().begin_head(at.key, at.now);
-    }
-    step
-}
-
 /// Whether somebody waits in the queue for a connection to a service, and the exchange under this key has one.
 fn is_awaited<S: Seating, R: Wait>(users: &S, rt: &R, key: usize) -> bool {
     match users.seats().leases(key) {
@@ -198,8 +170,9 @@ fn in_way<S: Seating, R: Wait, G>(users: &S, at: &Spot<'_, R, G>, phase: Phase) 
     }
 }
 
-/// A step of an exchange in this phase. One at a connection is counted.
-fn take_next<E: Exchanges, R: Wait + Dial + Clock, G: Gate>(
+/// A step of an exchange in this phase. One at a connection is counted. Its seat is touched where it went on, and something moved; but
+/// what the proxy itself says at the end is written, and the connection closed after it, within one deadline.
+fn take_step<E: Exchanges, R: Wait + Dial + Clock, G: Gate>(
     exchanges: &mut E,
     at: &Spot<'_, R, G>,
     exchange: &mut E::Exchange,
@@ -212,9 +185,19 @@ fn take_next<E: Exchanges, R: Wait + Dial + Clock, G: Gate>(
     ensures counted { noted.new.rounds ≡ cond (is_round phase) (noted.old.rounds + weight result) noted.old.rounds }
     ensures over { result ≡ Step.Over → E.Exchange.is_over exchange.new ≡ true }
 {
-    let step = take_step(exchanges, at, exchange, phase, noted);
+    watch(exchanges.users_mut().seats_mut(), at, phase);
+    let step = exchanges.act(at, exchange, Task::Step);
     if is_round(phase) {
         noted.count(step);
+    }
+    if has_moved(step) && !noted.went_on && !is_ending(phase) {
+        noted.went_on = true;
+        exchanges.users_mut().seats_mut().touch(at.key, at.now);
+    }
+    let next = exchange.phase();
+    note_stay(exchanges.users_mut(), at, next, noted);
+    if next == Phase::Head && (step == Step::On || phase == Phase::Idle) {
+        exchanges.users_mut().seats_mut().begin_head(at.key, at.now);
     }
     step
 }
@@ -247,7 +230,7 @@ pub(crate) fn drive_on<E: Exchanges, R: Wait + Dial + Clock, G: Gate>(
         if noted.is_spent(phase) {
             return Driven::CutShort;
         }
-        match take_next(exchanges, at, exchange, phase, &mut noted) {
+        match take_step(exchanges, at, exchange, phase, &mut noted) {
             Step::On | Step::Turned { .. } | Step::Unmoved => {}
             Step::Waits => return Driven::Waiting,
             Step::Over => return Driven::Over,

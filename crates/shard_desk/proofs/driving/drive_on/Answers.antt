@@ -32,7 +32,7 @@ pub returns-in-Waits-clause-drives : goal.returns-in-Waits-clause-drives
 returns-in-Waits-clause-drives g c =
     let most = c.loop-taken-test.true in
     drives_waiting (g.E.Exchange.Slotted.past c.args.exchange.now) (g.E.Exchange.Slotted.past c.loop-taken.exchange)
-    (g.E.Exchange.Slotted.past c.take_next.new.exchange)
+    (g.E.Exchange.Slotted.past c.take_step.new.exchange)
     c.loop-taken._taken c.loop-taken.noted.rounds c.phase-phase.result
     c.loop-taken.invariant (omega (arith, most)) (c.is_spent.ensures.room c.if-is_spent.false) c.in-Waits.ensures.past
 
@@ -40,24 +40,24 @@ pub returns-in-Over-clause-drives : goal.returns-in-Over-clause-drives
 returns-in-Over-clause-drives g c =
     let most = c.loop-taken-test.true in
     drives_over (g.E.Exchange.Slotted.past c.args.exchange.now) (g.E.Exchange.Slotted.past c.loop-taken.exchange)
-    (g.E.Exchange.Slotted.past c.take_next.new.exchange)
+    (g.E.Exchange.Slotted.past c.take_step.new.exchange)
     c.loop-taken._taken c.loop-taken.noted.rounds c.phase-phase.result
     c.loop-taken.invariant (omega (arith, most)) (c.is_spent.ensures.room c.if-is_spent.false) c.in-Over.ensures.past
 
 pub loop-taken-preserved : goal.loop-taken-preserved
 loop-taken-preserved g c =
-    let on : leads_on c.take_next.result ≡ true = elim c.in-On.is [
+    let on : leads_on c.take_step.result ≡ true = elim c.in-On.is [
       | inl on ↦ ap leads_on on
       | inr other ↦ elim other [ inl turned ↦ ap leads_on turned.1 | inr unmoved ↦ ap leads_on unmoved ]
     ] in
     subst
-    (λ (n : ℕ). Led (g.E.Exchange.Slotted.past c.args.exchange.now) (g.E.Exchange.Slotted.past c.take_next.new.exchange)
+    (λ (n : ℕ). Led (g.E.Exchange.Slotted.past c.args.exchange.now) (g.E.Exchange.Slotted.past c.take_step.new.exchange)
     (c.loop-taken._taken + 1) n)
-    (sym c.take_next.ensures.counted)
+    (sym c.take_step.ensures.counted)
     (led_more (g.E.Exchange.Slotted.past c.args.exchange.now) (g.E.Exchange.Slotted.past c.loop-taken.exchange)
-    (g.E.Exchange.Slotted.past c.take_next.new.exchange)
-    c.loop-taken._taken c.loop-taken.noted.rounds c.phase-phase.result c.take_next.result
-    c.loop-taken.invariant (c.is_spent.ensures.room c.if-is_spent.false) c.take_next.ensures.past on)
+    (g.E.Exchange.Slotted.past c.take_step.new.exchange)
+    c.loop-taken._taken c.loop-taken.noted.rounds c.phase-phase.result c.take_step.result
+    c.loop-taken.invariant (c.is_spent.ensures.room c.if-is_spent.false) c.take_step.ensures.past on)
 
 pub returns-clause-drives : goal.returns-clause-drives
 returns-clause-drives g c =
