@@ -1,6 +1,6 @@
 //! The work of one thread: its exchanges, each in a slot.
 
-ghost use Rattle.std.specs.Prelude.{◌≡◌, ◌<◌, true, Some, None, ⊤, length, slice_get};
+ghost use Rattle.std.specs.Prelude.{◌≡◌, ◌<◌, false, true, IfSome, Some, None, ⊤, length, slice_get};
 ghost use Rattle.event_loop.specs.Deeds.{has_more};
 ghost use Rattle.trace_core.specs.declared.history.Point.{Point as AnyPoint};
 ghost use Rattle.shard_desk.specs.Driving.{IfBlocked};
@@ -173,11 +173,15 @@ impl<'a, E: Exchanges + Drop, G: Gate> Shard<'a, E, G> {
         }
     }
 
-    /// Reads the header of the connection under this key. It is closed where that isn't one, or isn't whole in time.
-    fn hear<R: Wait + Dial + Clock>(&mut self, at: &Spot<'_, R, G>, user: UserWire) -> Driven
+    /// Reads the header of the connection under this key. `None` where that is whole: its exchange has begun, and is to be driven. The
+    /// connection is closed where it isn't a header, or isn't whole in time; then, and while it isn't whole yet, there is no more to do.
+    fn hear<R: Wait + Dial + Clock>(
+        &mut self,
+        at: &Spot<'_, R, G>,
+        user: UserWire,
+    ) -> Option<Driven>
         ensures only { ChangesOnly at.entry.now.key self.old.slots.all.items self.new.slots.all.items }
-        ensures there { has_more result ≡ true → at.entry.now.key < length self.old.slots.all.items }
-        ensures blocked { IfBlocked result (λ other. (point : AnyPoint) × GivesWay (E.Seating.seats_of (E.users_of self.new.exchanges)) point other) }
+        ensures rests { IfSome result (λ driven. (has_more driven ≡ false)) }
         ensures queues { self.new.queues ≡ self.old.queues }
     {
         let mut user = user;
@@ -188,41 +192,33 @@ impl<'a, E: Exchanges + Drop, G: Gate> Shard<'a, E, G> {
         match hearing {
             Hearing::Waits if self.serving == Serving::Full => {
                 let _ = self.unannounced.place(at.key, user);
-                return Driven::Waiting;
+                return Some(Driven::Waiting);
             }
             Hearing::Begins(purpose) => {
                 if self.begin(at, user, purpose) {
-                    return self.drive_slot(at);
+                    return None;
                 }
             }
             Hearing::Full => turn_away(user.into_stream()),
             Hearing::Waits | Hearing::Ends => {}
         }
         self.exchanges.users_mut().leave(at.rt, at.key);
-        Driven::Over
+        Some(Driven::Over)
     }
 
-    /// Drives the exchange under this key, or reads the header of its connection, where that isn't whole yet.
-    fn drive_key<R: Wait + Dial + Clock>(&mut self, at: &Spot<'_, R, G>) -> Driven
-        ensures only { ChangesOnly at.entry.now.key self.old.slots.all.items self.new.slots.all.items }
-        ensures there { has_more result ≡ true → at.entry.now.key < length self.old.slots.all.items }
-        ensures blocked { IfBlocked result (λ other. (point : AnyPoint) × GivesWay (E.Seating.seats_of (E.users_of self.new.exchanges)) point other) }
-        ensures queues { self.new.queues ≡ self.old.queues }
-    {
-        match self.unannounced.take(at.key) {
-            Some(user) => self.hear(at, user),
-            None => self.drive_slot(at),
-        }
-    }
-
-    /// Drives the exchange under this key, which is the last one of its connection where users are let go. No other exchange is
-    /// touched.
+    /// Drives the exchange under this key, which is the last one of its connection where users are let go. Where the header of its
+    /// connection isn't whole yet, that is read first. No other exchange is touched.
     fn drive_slot<R: Wait + Dial + Clock>(&mut self, at: &Spot<'_, R, G>) -> Driven
         ensures only { ChangesOnly at.entry.now.key self.old.slots.all.items self.new.slots.all.items }
         ensures blocked { IfBlocked result (λ other. (point : AnyPoint) × GivesWay (E.Seating.seats_of (E.users_of self.new.exchanges)) point other) }
         ensures there { has_more result ≡ true → at.entry.now.key < length self.old.slots.all.items }
         ensures queues { self.new.queues ≡ self.old.queues }
     {
+        if let Some(user) = self.unannounced.take(at.key)
+            && let Some(driven) = self.hear(at, user)
+        {
+            return driven;
+        }
         let Some(exchange) = self.slots.take(at.key) else {
             return Driven::Over;
         };

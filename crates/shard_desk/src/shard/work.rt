@@ -120,7 +120,7 @@ impl<'a, E: Exchanges + Drop, G: Gate> Work for Shard<'a, E, G> {
             now,
         };
         match self.serving {
-            Serving::Full | Serving::Draining => self.drive_key(&at),
+            Serving::Full | Serving::Draining => self.drive_slot(&at),
             Serving::Stopped => self.take_leave(&at),
         }
     }
