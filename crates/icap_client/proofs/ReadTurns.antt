@@ -282,7 +282,7 @@ cause_kept x a fault reader kept raw still e f c = subst (λ (r : Reader). IsCau
     (subst (λ (t : List ℕ). IsCause fault x a reader t) (sym f) c)
 
 -- the fault is kept
-pub turn_kept : (x : Seen) (a : Bool) (room : ℕ) (old new kept : ReadSide) (P Q : Past → Type 0) (out : List ℕ) (fault : ClientFault)
+turn_kept : (x : Seen) (a : Bool) (room : ℕ) (old new kept : ReadSide) (P Q : Past → Type 0) (out : List ℕ) (fault : ClientFault)
     → kept.reader ≡ new.reader → kept.raw ≡ new.raw → ReadTurn x a room old new P Q out (Err fault)
     → ReadTurn x a room old kept P Q out (Err fault)
 turn_kept x a room old new kept P Q out fault e r t = record {
@@ -293,6 +293,16 @@ turn_kept x a room old new kept P Q out fault e r t = record {
   fits = subst (λ (r : Reader). FitsGot x a room r.stage t.answer (Err fault)) (sym e) t.fits;
   came = (other_fault x old new kept [] t.given [] e r t.came.0, cause_kept x a fault new.reader kept.reader new.raw kept.raw e r t.came.1);
 }
+
+-- so it does where it is told by its answer
+pub turn_faulted : (x : Seen) (a : Bool) (room : ℕ) (old new kept : ReadSide) (P Q : Past → Type 0) (out : List ℕ)
+    (result : Result Turn ClientFault) (fault : ClientFault) → result ≡ Err fault → kept.reader ≡ new.reader → kept.raw ≡ new.raw
+    → ReadTurn x a room old new P Q out result → ReadTurn x a room old kept P Q out result
+turn_faulted x a room old new kept P Q out result fault is e r t =
+    let failed : ReadTurn x a room old new P Q out (Err fault) =
+    subst (λ (answer : Result Turn ClientFault). ReadTurn x a room old new P Q out answer) is t in
+    subst (λ (answer : Result Turn ClientFault). ReadTurn x a room old kept P Q out answer) (sym is)
+    (turn_kept x a room old new kept P Q out fault e r failed)
 
 -- what came of a turn stays so if room is given back after it
 came_given_back : (x : Seen) (a : Bool) (old new kept : ReadSide) (room : ℕ) (out delta : List ℕ) (result : Result Turn ClientFault)

@@ -337,26 +337,6 @@ impl ReplySide {
         self.raw.free_memory(self.reader.allocator());
     }
 
-    /// Runs [`ReplySide::frame_or_read`], and then keeps no empty room.
-    fn turn_once<W: Wire>(
-        &mut self,
-        state: &State,
-        all_sent: bool,
-        wire: &mut W,
-        out: &mut [u8],
-        buffer: &mut [u8; WIRE_ROOM],
-    ) -> Result<Turn, ClientFault>
-        ensures turn { ReadTurn (shows state.now) all_sent (length out.old) self.old self.new (W.past wire.old) (W.past wire.new) out.new result }
-        ensures fault { self.new.fault ≡ self.old.fault }
-        ensures head { KeepsHead (shows state.now) self.old.reader self.new.reader }
-        ensures few { length self.old.raw < length self.new.raw → length self.new.raw ≤ max MAX_HEAD (length out.old) }
-        ensures empty { self.new.raw ≡ [] → self.new.room ≡ 0 }
-    {
-        let result = self.frame_or_read(state, all_sent, wire, out, buffer);
-        self.free_memory();
-        result
-    }
-
     /// Reads what the service answers. The raw bytes come first; the wire is read once at most, if none of them can be
     /// framed. `all_sent` says that all text that was fixed for the service is out. The bytes of the adapted body go to the
     /// beginning of `out`; the events give their number, and the caller steps them.
@@ -387,12 +367,11 @@ impl ReplySide {
         if let Some(fault) = self.fault {
             return Err(fault);
         }
-        match self.turn_once(state, all_sent, wire, out, buffer) {
-            Ok(turn) => Ok(turn),
-            Err(fault) => {
-                self.fault = Some(fault);
-                Err(fault)
-            }
+        let turned = self.frame_or_read(state, all_sent, wire, out, buffer);
+        self.free_memory();
+        if let Err(fault) = &turned {
+            self.fault = Some(*fault);
         }
+        turned
     }
 }
