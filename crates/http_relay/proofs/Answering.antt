@@ -21,8 +21,8 @@ use Rattle.chunk_writer.specs.Moves.{Moves, IsStill}
 use Rattle.chunk_writer.proofs.Moving.{Reaches, reaches}
 use Rattle.adapt_sides.specs.declared.turn.Turn.{Turn}
 use Rattle.http_side.specs.declared.body.Framing.{Framing}
-use Rattle.http_relay.specs.declared.hop.Stage.{Stage}
-use Rattle.http_relay.specs.declared.hop.Stage.TheVariants as at
+use Rattle.http_relay.specs.declared.hop.HopStage.{HopStage}
+use Rattle.http_relay.specs.declared.hop.HopStage.TheVariants as at
 use Rattle.adapt_sides.specs.declared.fault.RelayFault.{RelayFault}
 use Rattle.adapt_sides.specs.declared.fault.RelayFault.TheVariants.{Length}
 use Rattle.adapt_sides.specs.Tapes.{chosen_delivered}
@@ -44,7 +44,7 @@ all_then x n true e = rw e refl
 all_then x n false e = rw e refl
 
 -- what is given after the bytes of a turn is given after its events, with Done or without
-with_done : (stage : Stage) (x : Seen) (f : Framing) (head body taken : List ℕ) (w : Writer) (n : ℕ) (done : Bool)
+with_done : (stage : HopStage) (x : Seen) (f : Framing) (head body taken : List ℕ) (w : Writer) (n : ℕ) (done : Bool)
     → GivenAt stage (usr_to x n) f head body taken w → GivenAt stage (after_all x (hop_events n done)) f head body taken w
 with_done stage x f head body taken w n true g = subst (λ (y : Seen). GivenAt stage y f head body taken w)
     (sym (all_then x n (n == 0) refl)) (done_given stage (usr_to x n) f head body taken w g)
@@ -88,7 +88,7 @@ given_by : (x : Seen) (tape : Tape) (next : Next) (old new : Hop) (k : ℕ) (e d
     → HasGiven (after_all x (hop_events k done)) head body (taken ++ d) new
 given_by x tape next old new k e done d head body taken s u c m t i h =
     record {
-      given = subst (λ (stage : Stage). GivenAt stage (after_all x (hop_events k done)) new.framing head body (taken ++ d) new.writer)
+      given = subst (λ (stage : HopStage). GivenAt stage (after_all x (hop_events k done)) new.framing head body (taken ++ d) new.writer)
           (sym t.stage)
           (subst (λ (f : Framing). GivenAt (stage_then old.stage e) (after_all x (hop_events k done)) f head body (taken ++ d) new.writer)
           (sym t.framing)
@@ -106,7 +106,7 @@ aside_by : (x : Seen) (tape : Tape) (next : Next) (old new : Hop) (k : ℕ) (e d
     → Decides old.turn x old.writer old.framing old.stage next
     → Moves tape next old.writer k e d new.writer → Settles x next old new k e done d → IsAside taken old → IsAside (taken ++ d) new
 aside_by x tape next old new k e done d taken c m t h = record {
-  text = subst (λ (stage : Stage). AsideAt stage (taken ++ d) new.writer) (sym t.stage)
+  text = subst (λ (stage : HopStage). AsideAt stage (taken ++ d) new.writer) (sym t.stage)
       (aside_on old.stage x tape old.framing old.writer new.writer next taken k e d c m h.text);
   untouched = λ n.
       let q = t.touched n in
@@ -115,7 +115,7 @@ aside_by x tape next old new k e done d taken c m t h = record {
 }
 
 -- the end of a body is fixed of a message alone
-gift_then : (stage : Stage) (e : Bool) → (e ≡ true → is_message stage ≡ true) → gift_of (stage_then stage e) ≡ gift_of stage
+gift_then : (stage : HopStage) (e : Bool) → (e ≡ true → is_message stage ≡ true) → gift_of (stage_then stage e) ≡ gift_of stage
 gift_then stage false h = refl
 gift_then at.Empty true h = let odd : false ≡ true = h refl in cc
 gift_then at.Message true h = refl
@@ -151,7 +151,7 @@ goes_same x tape old new w f s t = record {
   legal = tt;
   given = λ head body taken i h. record {
     given = subst (λ (xs : List ℕ). GivenAt new.stage x new.framing head body xs new.writer) (sym (append-nil taken))
-        (subst (λ (stage : Stage). GivenAt stage x new.framing head body taken new.writer) (sym s)
+        (subst (λ (stage : HopStage). GivenAt stage x new.framing head body taken new.writer) (sym s)
         (subst (λ (f' : Framing). GivenAt old.stage x f' head body taken new.writer) (sym f)
         (subst (λ (v : Writer). GivenAt old.stage x old.framing head body taken v) (sym w) h.given)));
     untouched = λ n. (append-nil taken ∙ (h.untouched (sym t ∙ n)).0, (h.untouched (sym t ∙ n)).1);
@@ -159,7 +159,7 @@ goes_same x tape old new w f s t = record {
   };
   aside = λ taken h. record {
     text = subst (λ (xs : List ℕ). AsideAt new.stage xs new.writer) (sym (append-nil taken))
-        (subst (λ (stage : Stage). AsideAt stage taken new.writer) (sym s)
+        (subst (λ (stage : HopStage). AsideAt stage taken new.writer) (sym s)
         (subst (λ (v : Writer). AsideAt old.stage taken v) (sym w) h.text));
     untouched = λ n. append-nil taken ∙ h.untouched (sym t ∙ n);
     touched = λ n. some_taken taken [] (inl (h.touched (sym t ∙ n)));
@@ -174,8 +174,8 @@ goes_same x tape old new w f s t = record {
 }
 
 -- what was given at a stage stays so for a writer with the same text waiting and as much left of its chunk
-drop_text_at : (stage : Stage) (x : Seen) (f : Framing) (head body taken : List ℕ) (v w : Writer) → waiting w ≡ waiting v → w.left ≡ v.left
-    → GivenAt stage x f head body taken v → GivenAt stage x f head body taken w
+drop_text_at : (stage : HopStage) (x : Seen) (f : Framing) (head body taken : List ℕ) (v w : Writer) → waiting w ≡ waiting v
+    → w.left ≡ v.left → GivenAt stage x f head body taken v → GivenAt stage x f head body taken w
 drop_text_at at.Empty x f head body taken v w e l g = (ap (λ (xs : List ℕ). taken ++ xs) e ∙ g.0, g.1)
 drop_text_at at.Message x f head body taken v w e l g =
     subst (λ (xs : List ℕ). GivesMessage x f false head body xs w) (append-nil taken) (gives_passed x f false head body taken [] v w e l g)
@@ -184,7 +184,8 @@ drop_text_at at.Whole x f head body taken v w e l g =
 drop_text_at (at.Refusal status) x f head body taken v w e l g = absurd g
 
 -- what was taken while no message is written stays so for a writer with the same text waiting
-aside_drop_text_at : (stage : Stage) (taken : List ℕ) (v w : Writer) → waiting w ≡ waiting v → AsideAt stage taken v → AsideAt stage taken w
+aside_drop_text_at : (stage : HopStage) (taken : List ℕ) (v w : Writer) → waiting w ≡ waiting v → AsideAt stage taken v
+    → AsideAt stage taken w
 aside_drop_text_at at.Empty taken v w e a = ap (λ (xs : List ℕ). taken ++ xs) e ∙ a
 aside_drop_text_at at.Message taken v w e a = absurd a
 aside_drop_text_at at.Whole taken v w e a = absurd a
@@ -194,7 +195,7 @@ aside_drop_text_at (at.Refusal status) taken v w e a = ap (λ (xs : List ℕ). t
 drop_text_given : (x : Seen) (head body taken : List ℕ) (old new : Hop) → DropsText old new → HasGiven x head body taken old
     → HasGiven x head body taken new
 drop_text_given x head body taken old new l h = record {
-  given = subst (λ (stage : Stage). GivenAt stage x new.framing head body taken new.writer) (sym l.stage)
+  given = subst (λ (stage : HopStage). GivenAt stage x new.framing head body taken new.writer) (sym l.stage)
       (subst (λ (f : Framing). GivenAt old.stage x f head body taken new.writer) (sym l.framing)
       (drop_text_at old.stage x old.framing head body taken old.writer new.writer l.waiting_is l.left h.given));
   untouched = λ n. h.untouched (sym l.touched ∙ n);
@@ -204,7 +205,7 @@ drop_text_given x head body taken old new l h = record {
 -- memory that is given back changes nothing of what was taken while no message is written
 drop_text_aside : (taken : List ℕ) (old new : Hop) → DropsText old new → IsAside taken old → IsAside taken new
 drop_text_aside taken old new l a = record {
-  text = subst (λ (stage : Stage). AsideAt stage taken new.writer) (sym l.stage)
+  text = subst (λ (stage : HopStage). AsideAt stage taken new.writer) (sym l.stage)
       (aside_drop_text_at old.stage taken old.writer new.writer l.waiting_is a.text);
   untouched = λ n. a.untouched (sym l.touched ∙ n);
   touched = λ n. a.touched (sym l.touched ∙ n);
@@ -232,7 +233,7 @@ due_drop_text x old new l d = record {
   one = d.one;
   flushed = l.waiting_is ∙ d.flushed;
   none = λ m. d.none (ap is_message (sym l.stage) ∙ m);
-  no_done = λ m. d.no_done (ap (λ (stage : Stage). is_message stage || is_whole stage) (sym l.stage) ∙ m);
+  no_done = λ m. d.no_done (ap (λ (stage : HopStage). is_message stage || is_whole stage) (sym l.stage) ∙ m);
 }
 
 -- a result that fits what was offered still fits once memory was given back
@@ -261,16 +262,16 @@ turned_drop_text x tape old mid new before after' result l t = record {
 }
 
 -- what is decided over the parts of a side is decided over the side
-pub decides_at : (x : Seen) (old : Hop) (v : Writer) (f : Framing) (stage : Stage) (turn : ℕ) (next : Next) → v ≡ old.writer
+pub decides_at : (x : Seen) (old : Hop) (v : Writer) (f : Framing) (stage : HopStage) (turn : ℕ) (next : Next) → v ≡ old.writer
     → f ≡ old.framing → stage ≡ old.stage → turn ≡ old.turn → Decides turn x v f stage next
     → Decides old.turn x old.writer old.framing old.stage next
 decides_at x old v f stage turn next w fe se te c =
     subst (λ (v' : Writer). Decides old.turn x v' old.framing old.stage next) w
     (subst (λ (f' : Framing). Decides old.turn x v f' old.stage next) fe
-    (subst (λ (s' : Stage). Decides old.turn x v f s' next) se (subst (λ (n : ℕ). Decides n x v f stage next) te c)))
+    (subst (λ (s' : HopStage). Decides old.turn x v f s' next) se (subst (λ (n : ℕ). Decides n x v f stage next) te c)))
 
 -- the writer and the rest of the side, by their parts
-pub turned : (x : Seen) (tape : Tape) (next : Next) (old new : Hop) (v : Writer) (f : Framing) (stage : Stage) (bytes : ℕ)
+pub turned : (x : Seen) (tape : Tape) (next : Next) (old new : Hop) (v : Writer) (f : Framing) (stage : HopStage) (bytes : ℕ)
     (before after' : Past → Type 0) (result : Result Turn RelayFault) (answer : Option Put) (k : ℕ) (e done : Bool)
     → v ≡ old.writer → f ≡ old.framing → stage ≡ old.stage → bytes ≡ old.turn → Sound x → KeepsUndelivered x tape
     → Decides bytes x v f stage next → Offers before after' (offered v tape next) answer → (answer ≡ None → offered v tape next ≡ [])
@@ -407,19 +408,19 @@ no_done true e = cc
 no_done false e = refl
 
 -- where no byte and no end comes next of a message, nor Done after its end, Done may not follow
-due_by : (stage : Stage) (x : Seen) (old : Hop) (next : Next) (e : Bool) → stage ≡ old.stage → Sound x
+due_by : (stage : HopStage) (x : Seen) (old : Hop) (next : Next) (e : Bool) → stage ≡ old.stage → Sound x
     → Decides old.turn x old.writer old.framing old.stage next → next.count ≡ 0 → e ≡ is_ending next.end → e ≡ false
     → (is_whole old.stage ≡ true → x.closed ≡ false → Allows x Done → ⊥) → is_message old.stage || is_whole old.stage ≡ true
     → x.closed ≡ false → Allows x Done → ⊥
 due_by at.Empty x old next e s v c z i n m b o a = let t : (is_message at.Empty || is_whole at.Empty) ≡ true =
-    ap (λ (st : Stage). is_message st || is_whole st) s ∙ b in cc
+    ap (λ (st : HopStage). is_message st || is_whole st) s ∙ b in cc
 due_by at.Message x old next e s v c z i n m b o a =
     let all = done_means x v a in
     c.no_end (ap is_message (sym s)) (sym i ∙ n) o all.0 (ap (λ (k : ℕ). chosen_delivered x + k) z ∙ (omega arith ∙ all.1))
 due_by at.Whole x old next e s v c z i n m b o a = m (ap is_whole (sym s)) o a
 due_by (at.Refusal status) x old next e s v c z i n m b o a =
     let t : (is_message (at.Refusal status) || is_whole (at.Refusal status)) ≡ true =
-    ap (λ (st : Stage). is_message st || is_whole st) s ∙ b in cc
+    ap (λ (st : HopStage). is_message st || is_whole st) s ∙ b in cc
 
 -- where no byte comes next none may go
 no_usr : (x : Seen) (old : Hop) (next : Next) → Decides old.turn x old.writer old.framing old.stage next → is_message old.stage ≡ true
@@ -446,7 +447,7 @@ fits_none x old new next answer k e done turn a v c i h ne nm t f out st = recor
         flushed = out;
         none = λ m. no_usr x old next c (ap is_message (sym same) ∙ m) i.none;
         no_done = λ m. due_by old.stage x old next e refl v c i.none i.end_fixed going (nm no)
-            (ap (λ (stage : Stage). is_message stage || is_whole stage) (sym same) ∙ m);
+            (ap (λ (stage : HopStage). is_message stage || is_whole stage) (sym same) ∙ m);
       };
   waiting_is = λ b. (t b, inr a);
   moved = λ b n none. f b n;
@@ -468,7 +469,7 @@ may_by x e may k s a z (inl i) = inl i
 may_by x e may k s a z (inr i) = inr ((a i.0).0, (a i.0).1, z i.1)
 
 -- a side made of its parts settles what its turn counts, if each part fits
-pub settles_by : (x : Seen) (next : Next) (old new : Hop) (w : Writer) (f : Framing) (stage : Stage) (touched : Bool)
+pub settles_by : (x : Seen) (next : Next) (old new : Hop) (w : Writer) (f : Framing) (stage : HopStage) (touched : Bool)
     (fault : Option RelayFault) (turn k s : ℕ) (e done may : Bool) (d : List ℕ)
     → new ≡ record { writer = w; framing = f; stage = stage_then stage e; touched = touched; fault = fault; turn = turn } → f ≡ old.framing
     → stage ≡ old.stage → (touched ≡ false → (old.touched ≡ false) × (d ≡ []) × (k ≡ 0))
@@ -478,7 +479,7 @@ pub settles_by : (x : Seen) (next : Next) (old new : Hop) (w : Writer) (f : Fram
     → Settles x next old new k e done d
 settles_by x next old new w f stage touched fault turn k s e done may d n fe se t r g a z = record {
   framing = ap (λ (h : Hop). h.framing) n ∙ fe;
-  stage = ap (λ (h : Hop). h.stage) n ∙ ap (λ (st : Stage). stage_then st e) se;
+  stage = ap (λ (h : Hop). h.stage) n ∙ ap (λ (st : HopStage). stage_then st e) se;
   touched = λ u. t (sym (ap (λ (h : Hop). h.touched) n) ∙ u);
   reached = λ u. r (sym (ap (λ (h : Hop). h.touched) n) ∙ u);
   done_at = λ h. (ap (λ (hop : Hop). hop.stage) n ∙ (g h).0, ap (λ (hop : Hop). waiting hop.writer) n ∙ (g h).1);

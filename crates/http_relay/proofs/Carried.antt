@@ -17,8 +17,8 @@ use Rattle.chunk_writer.specs.Moves.{Moves}
 use Rattle.chunk_writer.specs.Moves.Moves.{start, passed, begun_chunk, sent, ended}
 use Rattle.chunk_writer.proofs.Moving.{Reaches, there}
 use Rattle.http_side.specs.declared.body.Framing.{Framing}
-use Rattle.http_relay.specs.declared.hop.Stage.{Stage}
-use Rattle.http_relay.specs.declared.hop.Stage.TheVariants as at
+use Rattle.http_relay.specs.declared.hop.HopStage.{HopStage}
+use Rattle.http_relay.specs.declared.hop.HopStage.TheVariants as at
 use Rattle.http_relay.specs.Message.{is_chunks, length_of}
 use Rattle.adapt_sides.specs.Tapes.{chosen_delivered, chosen_received}
 use Rattle.http_relay.specs.Giving.{Front, GivesMessage, Waits, GivenAt, AsideAt, Decides, is_message, usr_events, hop_events, stage_then}
@@ -53,7 +53,7 @@ pub moved_to : (x : Seen) (n : ℕ) → Sound x → (0 < n → Allows x (Usr n))
 moved_to x n s a = moved_by x n s a (cases_lt 0 n)
 
 -- What is given to all moves of a turn.
-pub record Held (x : Seen) (tape : Tape) (f : Framing) (old : Writer) (stage : Stage) (next : Next) (body : List ℕ) : Type 0 where
+pub record Held (x : Seen) (tape : Tape) (f : Framing) (old : Writer) (stage : HopStage) (next : Next) (body : List ℕ) : Type 0 where
   sound : Sound x
   turn : ℕ
   decided : Decides turn x old f stage next
@@ -73,12 +73,12 @@ part_is tape next body from k e b i l =
     ∙ ap (λ (m : ℕ). take k (drop m body)) behind_base))
 
 -- one or more of the bytes that were decided may be given
-pub allowed : {turn : ℕ} (x : Seen) (f : Framing) (old : Writer) (stage : Stage) (next : Next) (k : ℕ) → Decides turn x old f stage next
+pub allowed : {turn : ℕ} (x : Seen) (f : Framing) (old : Writer) (stage : HopStage) (next : Next) (k : ℕ) → Decides turn x old f stage next
     → k ≤ next.count → 0 < k → Allows x (Usr k)
 allowed x f old stage next k c l some = fewer x k next.count some l (c.usr (omega arith)).2
 
 -- body bytes of a turn that go out, where nothing waits, are given of the message
-data_sent : (x : Seen) (tape : Tape) (f : Framing) (old v : Writer) (stage : Stage) (next : Next) (head body taken : List ℕ) (k : ℕ)
+data_sent : (x : Seen) (tape : Tape) (f : Framing) (old v : Writer) (stage : HopStage) (next : Next) (head body taken : List ℕ) (k : ℕ)
     → Held x tape f old stage next body → waiting v ≡ []
     → 0 < k → k ≤ next.count → (next.chunked ≡ true → k ≤ v.left) → GivesMessage x f false head body taken v
     → GivesMessage (usr_to x k) f false head body (taken ++ take k (bytes_of tape next)) (after_data next.chunked v k)
@@ -100,7 +100,7 @@ exact_at : (o : Option ℕ) (came out : ℕ) → out ≡ came → IfSome o (λ n
 exact_at o came out e h = subst (λ (m : ℕ). IfSome o (λ n. m ≡ n)) (sym e) h
 
 -- the body's end, fixed after all bytes of a turn, makes the message whole
-ended_at : (x : Seen) (tape : Tape) (f : Framing) (old v : Writer) (stage : Stage) (next : Next) (head body taken : List ℕ)
+ended_at : (x : Seen) (tape : Tape) (f : Framing) (old v : Writer) (stage : HopStage) (next : Next) (head body taken : List ℕ)
     → Held x tape f old stage next body → waiting v ≡ [] → is_ending next.end ≡ true
     → GivesMessage (usr_to x next.count) f false head body taken v
     → GivesMessage (usr_to x next.count) f true head body taken (fixed v (end_text next.end))
@@ -113,7 +113,7 @@ ended_at x tape f old v stage next head body taken g o i h =
     (exact_at (length_of f) (chosen_received x) (chosen_delivered (usr_to x next.count)) (all ∙ m.came) (g.decided.exact i)) h)
 
 -- a message's moves
-pub carried : (x : Seen) (tape : Tape) (f : Framing) (stage : Stage) (next : Next) (old w : Writer) (head body taken : List ℕ) (k : ℕ)
+pub carried : (x : Seen) (tape : Tape) (f : Framing) (stage : HopStage) (next : Next) (old w : Writer) (head body taken : List ℕ) (k : ℕ)
     (e : Bool) (d : List ℕ) → Held x tape f old stage next body
     → Moves tape next old k e d w → GivesMessage x f false head body taken old → GivesMessage (usr_to x k) f e head body (taken ++ d) w
 carried x tape f stage next old w head body taken k e d g start h =
@@ -161,20 +161,20 @@ only_passes tape next old w k e d z n (sent m k' o s few within) = absurd (omega
 only_passes tape next old w k e d z n (ended m o a i) = cc
 
 -- where no message is written, no body byte comes next
-not_begun : {turn : ℕ} (x : Seen) (f : Framing) (old : Writer) (stage : Stage) (next : Next) → is_message stage ≡ false
+not_begun : {turn : ℕ} (x : Seen) (f : Framing) (old : Writer) (stage : HopStage) (next : Next) → is_message stage ≡ false
     → Decides turn x old f stage next → (0 < next.count) ⊎ (next.count ≤ 0) → next.count ≡ 0
 not_begun x f old stage next m c (inl some) = let t : is_message stage ≡ true = (c.usr some).0 in cc
 not_begun x f old stage next m c (inr none) = omega arith
 
 -- where no message is written, no end of a body comes next
-not_ending : {turn : ℕ} (x : Seen) (f : Framing) (old : Writer) (stage : Stage) (next : Next) (b : Bool) → is_ending next.end ≡ b
+not_ending : {turn : ℕ} (x : Seen) (f : Framing) (old : Writer) (stage : HopStage) (next : Next) (b : Bool) → is_ending next.end ≡ b
     → is_message stage ≡ false → Decides turn x old f stage next → b ≡ false
 not_ending x f old stage next true i m c = let t : is_message stage ≡ true = (c.ends i).0 in cc
 not_ending x f old stage next false i m c = refl
 
 -- where no message is written, the moves of a turn only pass what waited
-passes_by : {turn : ℕ} (x : Seen) (tape : Tape) (f : Framing) (old w : Writer) (stage : Stage) (next : Next) (k : ℕ) (e : Bool) (d : List ℕ)
-    → is_message stage ≡ false → Decides turn x old f stage next → Moves tape next old k e d w → OnlyPasses old w d k e
+passes_by : {turn : ℕ} (x : Seen) (tape : Tape) (f : Framing) (old w : Writer) (stage : HopStage) (next : Next) (k : ℕ) (e : Bool)
+    (d : List ℕ) → is_message stage ≡ false → Decides turn x old f stage next → Moves tape next old k e d w → OnlyPasses old w d k e
 passes_by x tape f old w stage next k e d m c v =
     only_passes tape next old w k e d (not_begun x f old stage next m c (cases_lt 0 next.count))
     (not_ending x f old stage next (is_ending next.end) refl m c) v
@@ -185,7 +185,7 @@ text_passed : (taken d all : List ℕ) (old w : Writer) → d ++ waiting w ≡ w
 text_passed taken d all old w p e = append_assoc taken d (waiting w) ∙ (ap (λ (xs : List ℕ). taken ++ xs) p ∙ e)
 
 -- by the stage
-pub given_on : (stage : Stage) (x : Seen) (tape : Tape) (f : Framing) (old w : Writer) (next : Next) (head body taken : List ℕ) (k : ℕ)
+pub given_on : (stage : HopStage) (x : Seen) (tape : Tape) (f : Framing) (old w : Writer) (next : Next) (head body taken : List ℕ) (k : ℕ)
     (e : Bool) (d : List ℕ) → Held x tape f old stage next body
     → Moves tape next old k e d w → GivenAt stage x f head body taken old
     → GivenAt (stage_then stage e) (usr_to x k) f head body (taken ++ d) w
@@ -206,7 +206,7 @@ given_on at.Whole x tape f old w next head body taken k e d g m h =
 given_on (at.Refusal status) x tape f old w next head body taken k e d g m h = absurd h
 
 -- and of a refusal
-pub aside_on : {turn : ℕ} (stage : Stage) (x : Seen) (tape : Tape) (f : Framing) (old w : Writer) (next : Next) (taken : List ℕ) (k : ℕ)
+pub aside_on : {turn : ℕ} (stage : HopStage) (x : Seen) (tape : Tape) (f : Framing) (old w : Writer) (next : Next) (taken : List ℕ) (k : ℕ)
     (e : Bool) (d : List ℕ) → Decides turn x old f stage next
     → Moves tape next old k e d w → AsideAt stage taken old → AsideAt (stage_then stage e) (taken ++ d) w
 aside_on at.Empty x tape f old w next taken k e d c m h =
@@ -244,7 +244,7 @@ pub undelivered_done : (x : Seen) → IsUndelivered x → IsUndelivered (after x
 undelivered_done x h = (grind (arith, nat_tests, h.0), grind (arith, nat_tests, h.1))
 
 -- at each stage, Done changes nothing of what was given
-pub done_given : (stage : Stage) (x : Seen) (f : Framing) (head body taken : List ℕ) (w : Writer) → GivenAt stage x f head body taken w
+pub done_given : (stage : HopStage) (x : Seen) (f : Framing) (head body taken : List ℕ) (w : Writer) → GivenAt stage x f head body taken w
     → GivenAt stage (after x Done) f head body taken w
 done_given at.Empty x f head body taken w g = (g.0, undelivered_done x g.1)
 done_given at.Message x f head body taken w g = same_message x f false head body taken w g
@@ -268,12 +268,12 @@ pub record MayEnd (x : Seen) (next : Next) (k : ℕ) (e : Bool) : Type 0 where
   pub now : (e ≡ true) ⊎ ((x.closed ≡ false) × Allows x Done × (k ≡ 0))
 
 -- where one or more of the bytes that were decided go out, the history is open and they may be given
-open_usr : {turn : ℕ} (x : Seen) (f : Framing) (old : Writer) (stage : Stage) (next : Next) (k : ℕ) → Decides turn x old f stage next
+open_usr : {turn : ℕ} (x : Seen) (f : Framing) (old : Writer) (stage : HopStage) (next : Next) (k : ℕ) → Decides turn x old f stage next
     → k ≤ next.count → 0 < k → (x.closed ≡ false) × Allows x (Usr k)
 open_usr x f old stage next k c l some = ((c.usr (omega arith)).1, allowed x f old stage next k c l some)
 
 -- a turn's events with Done may follow where it fixed the end, or where Done may follow at once
-legal_done : {turn : ℕ} (x : Seen) (f : Framing) (old : Writer) (stage : Stage) (next : Next) (k : ℕ) (e : Bool) → Sound x
+legal_done : {turn : ℕ} (x : Seen) (f : Framing) (old : Writer) (stage : HopStage) (next : Next) (k : ℕ) (e : Bool) → Sound x
     → Decides turn x old f stage next → Reaches next k e
     → (e ≡ true) ⊎ ((x.closed ≡ false) × Allows x Done × (k ≡ 0)) → MayAllFollow x (hop_events k true)
 legal_done x f old stage next k e s c r (inl i) =
@@ -287,19 +287,19 @@ legal_done x f old stage next k e s c r (inl i) =
 legal_done x f old stage next k e s c r (inr i) = subst (λ (n : ℕ). MayAllFollow x (hop_events n true)) (sym i.2) (i.0, i.1, tt)
 
 -- a turn's events may follow, with Done where it may stand, or without it
-pub legal_by : {turn : ℕ} (x : Seen) (f : Framing) (old : Writer) (stage : Stage) (next : Next) (k : ℕ) (e done : Bool) → Sound x
+pub legal_by : {turn : ℕ} (x : Seen) (f : Framing) (old : Writer) (stage : HopStage) (next : Next) (k : ℕ) (e done : Bool) → Sound x
     → Decides turn x old f stage next → Reaches next k e
     → (done ≡ true → (e ≡ true) ⊎ ((x.closed ≡ false) × Allows x Done × (k ≡ 0))) → MayAllFollow x (hop_events k done)
 legal_by x f old stage next k e true s c r a = legal_done x f old stage next k e s c r (a refl)
 legal_by x f old stage next k e false s c r a = usr_legal x k (open_usr x f old stage next k c r.few) (cases_lt 0 k)
 
 -- where body bytes come next, the tape begins no later than what was delivered ends
-base_of : {turn : ℕ} (x : Seen) (tape : Tape) (f : Framing) (old : Writer) (stage : Stage) (next : Next) → KeepsUndelivered x tape
+base_of : {turn : ℕ} (x : Seen) (tape : Tape) (f : Framing) (old : Writer) (stage : HopStage) (next : Next) → KeepsUndelivered x tape
     → Decides turn x old f stage next → 0 < next.count → tape.base ≤ chosen_delivered x
 base_of x tape f old stage next u c some = omega (arith, u.base (c.usr some).1)
 
 -- a turn may be made by what was decided
-pub may_go_on : {turn : ℕ} (x : Seen) (tape : Tape) (f : Framing) (old : Writer) (stage : Stage) (next : Next) → Sound x
+pub may_go_on : {turn : ℕ} (x : Seen) (tape : Tape) (f : Framing) (old : Writer) (stage : HopStage) (next : Next) → Sound x
     → KeepsUndelivered x tape → Decides turn x old f stage next → MayGoOn old tape next
 may_go_on x tape f old stage next s u c = record {
   low = λ some. omega (arith, base_of x tape f old stage next u c some, c.from);
@@ -309,7 +309,7 @@ may_go_on x tape f old stage next s u c = record {
 }
 
 -- a turn that was decided has all that its moves need, on a tape that keeps what is undelivered
-pub held_by : {turn : ℕ} (x : Seen) (tape : Tape) (f : Framing) (old : Writer) (stage : Stage) (next : Next) (body : List ℕ) → Sound x
+pub held_by : {turn : ℕ} (x : Seen) (tape : Tape) (f : Framing) (old : Writer) (stage : HopStage) (next : Next) (body : List ℕ) → Sound x
     → KeepsUndelivered x tape → Decides turn x old f stage next → Follows tape body → Held x tape f old stage next body
 held_by {turn} x tape f old stage next body s u c i = record {
   sound = s;

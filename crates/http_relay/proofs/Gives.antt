@@ -20,8 +20,8 @@ use Rattle.adapt_sides.specs.declared.fault.RelayFault.TheVariants.{Closed, Devi
 use Rattle.http_relay.specs.Message.{IsMessage}
 use Rattle.http_side.specs.declared.body.Framing.{Framing}
 use Rattle.adapt_sides.specs.Turns.Gift.{message}
-use Rattle.http_relay.specs.declared.hop.Stage.{Stage}
-use Rattle.http_relay.specs.declared.hop.Stage.TheVariants as at
+use Rattle.http_relay.specs.declared.hop.HopStage.{HopStage}
+use Rattle.http_relay.specs.declared.hop.HopStage.TheVariants as at
 use Rattle.http_relay.specs.Giving.{Hop, HasGiven, IsAside, NothingDue, BreaksLength, is_message, gift_of, usr_events, hop_events}
 use Rattle.http_relay.specs.Writing.{WriteTurn, FitsOffer, FitsAnswer}
 use Rattle.http_relay.proofs.Chosen.{done_moves}
@@ -99,7 +99,7 @@ reason x old new p text answer (Err fault) f r o e = record {
 }
 
 -- where a message is written, what the side gives is a message
-message_at : (stage : Stage) → is_message stage ≡ true → gift_of stage ≡ message
+message_at : (stage : HopStage) → is_message stage ≡ true → gift_of stage ≡ message
 message_at at.Empty e = cc
 message_at at.Message e = refl
 message_at at.Whole e = cc

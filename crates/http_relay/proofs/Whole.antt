@@ -10,8 +10,8 @@ use Rattle.chunk_writer.specs.Writer.{Writer, waiting}
 use Rattle.chunk_writer.proofs.Runs.{Completes, run_completed}
 use Rattle.http_side.specs.declared.body.Framing.{Framing}
 use Rattle.http_side.specs.declared.body.Framing.TheVariants as by
-use Rattle.http_relay.specs.declared.hop.Stage.{Stage}
-use Rattle.http_relay.specs.declared.hop.Stage.TheVariants as at
+use Rattle.http_relay.specs.declared.hop.HopStage.{HopStage}
+use Rattle.http_relay.specs.declared.hop.HopStage.TheVariants as at
 use Rattle.http_side.specs.Refusals.{refusal}
 use Rattle.http_relay.specs.Message.{BodyTextOf, IsMessage, IsFrontOfMessage, length_of, is_chunks}
 use Rattle.adapt_sides.specs.Tapes.{chosen_delivered, chosen_received}
@@ -122,7 +122,7 @@ front_of x f head body taken w l i g =
     }
 
 -- where a message is written, what was taken is a prefix of one whose body begins with what came, within its length
-pub front_at : (stage : Stage) (x : Seen) (f : Framing) (head body taken : List ℕ) (w : Writer) → stage ≡ at.Message
+pub front_at : (stage : HopStage) (x : Seen) (f : Framing) (head body taken : List ℕ) (w : Writer) → stage ≡ at.Message
     → length body ≡ chosen_received x → IfSome (length_of f) (λ n. chosen_received x ≤ n) → GivenAt stage x f head body taken w
     → IsFrontOfMessage f head body taken
 front_at at.Empty x f head body taken w e l i g = cc
@@ -172,7 +172,7 @@ whole_of x f head body taken w l o g =
     }
 
 -- where the body's end is fixed and nothing waits, what was taken is the message
-pub whole_at : (stage : Stage) (x : Seen) (f : Framing) (head body taken : List ℕ) (w : Writer) → stage ≡ at.Whole
+pub whole_at : (stage : HopStage) (x : Seen) (f : Framing) (head body taken : List ℕ) (w : Writer) → stage ≡ at.Whole
     → length body ≡ chosen_received x → waiting w ≡ [] → GivenAt stage x f head body taken w → IsMessage f head body taken
 whole_at at.Empty x f head body taken w e l o g = cc
 whole_at at.Message x f head body taken w e l o g = cc
@@ -201,7 +201,7 @@ whole_front_of x f head body taken w l g =
     }
 
 -- where the body's end is fixed, what was taken is a prefix of a message whose body begins with what came
-pub whole_front_at : (stage : Stage) (x : Seen) (f : Framing) (head body taken : List ℕ) (w : Writer) → stage ≡ at.Whole
+pub whole_front_at : (stage : HopStage) (x : Seen) (f : Framing) (head body taken : List ℕ) (w : Writer) → stage ≡ at.Whole
     → length body ≡ chosen_received x → GivenAt stage x f head body taken w → IsFrontOfMessage f head body taken
 whole_front_at at.Empty x f head body taken w e l g = cc
 whole_front_at at.Message x f head body taken w e l g = cc
@@ -250,7 +250,7 @@ out_front_of x f head body taken w l g =
     }
 
 -- where a message is written, what was taken is a prefix of one whose body begins with what went out
-pub out_front_at : (stage : Stage) (x : Seen) (f : Framing) (head body taken : List ℕ) (w : Writer) → stage ≡ at.Message
+pub out_front_at : (stage : HopStage) (x : Seen) (f : Framing) (head body taken : List ℕ) (w : Writer) → stage ≡ at.Message
     → length body ≡ chosen_received x → GivenAt stage x f head body taken w
     → IsFrontOfMessage f head (take (chosen_delivered x) body) taken
 out_front_at at.Empty x f head body taken w e l g = cc
@@ -264,7 +264,7 @@ first_nil [] ys e = refl
 first_nil (x ∷ xs) ys e = cc
 
 -- where nothing is written, nothing was taken
-pub empty_at : (stage : Stage) (x : Seen) (f : Framing) (head body taken : List ℕ) (w : Writer) → stage ≡ at.Empty
+pub empty_at : (stage : HopStage) (x : Seen) (f : Framing) (head body taken : List ℕ) (w : Writer) → stage ≡ at.Empty
     → GivenAt stage x f head body taken w → taken ≡ []
 empty_at at.Empty x f head body taken w e g = first_nil taken (waiting w) g.0
 empty_at at.Message x f head body taken w e g = cc
@@ -272,7 +272,7 @@ empty_at at.Whole x f head body taken w e g = cc
 empty_at (at.Refusal status) x f head body taken w e g = cc
 
 -- A refusal.
-pub refusal_at : (stage : Stage) (status : ℕ) (taken : List ℕ) (w : Writer) → stage ≡ at.Refusal status → AsideAt stage taken w
+pub refusal_at : (stage : HopStage) (status : ℕ) (taken : List ℕ) (w : Writer) → stage ≡ at.Refusal status → AsideAt stage taken w
     → taken ++ waiting w ≡ refusal status
 refusal_at at.Empty status taken w e g = cc
 refusal_at at.Message status taken w e g = cc

@@ -13,8 +13,8 @@ use Rattle.chunk_writer.specs.Writer.{Writer, waiting, is_ending, end_text, Fits
 use Rattle.chunk_writer.specs.Behind.{WaitsBehind}
 use Rattle.http_side.specs.Refusals.{refusal}
 use Rattle.http_side.specs.declared.body.Framing.{Framing}
-use Rattle.http_relay.specs.declared.hop.Stage.{Stage}
-use Rattle.http_relay.specs.declared.hop.Stage.TheVariants as at
+use Rattle.http_relay.specs.declared.hop.HopStage.{HopStage}
+use Rattle.http_relay.specs.declared.hop.HopStage.TheVariants as at
 use Rattle.adapt_sides.specs.declared.fault.RelayFault.{RelayFault}
 use Rattle.adapt_sides.specs.Turns.{Gift}
 use Rattle.adapt_sides.specs.Turns.Gift.{nothing as no_gift, message as message_gift, refusal as refusal_gift}
@@ -26,7 +26,7 @@ use Rattle.http_relay.specs.Message.{is_chunks, length_of}
 pub record Hop : Type 0 where
   pub writer : Writer
   pub framing : Framing
-  pub stage : Stage
+  pub stage : HopStage
   pub touched : Bool
   pub fault : Option RelayFault
   pub turn : ℕ
@@ -56,7 +56,7 @@ pub record GivesMessage (x : Seen) (framing : Framing) (whole : Bool) (head body
       × IfSome (length_of framing) (λ n. chosen_delivered x ≡ n)
 
 -- the bytes that the next hop took of a message: none yet, or a prefix of one; a refusal is no message
-abbrev pub GivenAt : Stage → Seen → Framing → List ℕ → List ℕ → List ℕ → Writer → Type 0
+abbrev pub GivenAt : HopStage → Seen → Framing → List ℕ → List ℕ → List ℕ → Writer → Type 0
 GivenAt at.Empty x framing head body taken w = (taken ++ waiting w ≡ []) × IsUndelivered x
 GivenAt at.Message x framing head body taken w = GivesMessage x framing false head body taken w
 GivenAt at.Whole x framing head body taken w = GivesMessage x framing true head body taken w
@@ -69,7 +69,7 @@ pub record HasGiven (x : Seen) (head body taken : List ℕ) (h : Hop) : Type 0 w
   pub touched : h.touched ≡ true → 0 < length taken
 
 -- the bytes that were taken while no message is written: none, or a prefix of the refusal alone
-abbrev pub AsideAt : Stage → List ℕ → Writer → Type 0
+abbrev pub AsideAt : HopStage → List ℕ → Writer → Type 0
 AsideAt at.Empty taken w = taken ++ waiting w ≡ []
 AsideAt at.Message taken w = ⊥
 AsideAt at.Whole taken w = ⊥
@@ -81,15 +81,15 @@ pub record IsAside (taken : List ℕ) (h : Hop) : Type 0 where
   pub touched : h.touched ≡ true → 0 < length taken
 
 -- What a turn decides before it writes.
-abbrev pub is_message : Stage → Bool
+abbrev pub is_message : HopStage → Bool
 is_message at.Message = true
 is_message _ = false
 
-abbrev pub is_whole : Stage → Bool
+abbrev pub is_whole : HopStage → Bool
 is_whole at.Whole = true
 is_whole _ = false
 
-abbrev pub is_empty : Stage → Bool
+abbrev pub is_empty : HopStage → Bool
 is_empty at.Empty = true
 is_empty _ = false
 
@@ -99,7 +99,7 @@ body_end framing = if is_chunks framing then last_chunk false else []
 -- What comes next in a turn of at most this many bytes: of the chosen message's bytes that may go all that fit into the turn and
 -- into the chunk that was begun, and then
 -- the body's end, if it comes after them. Before a message is begun, and after its end, nothing. So there is one such next.
-pub record Decides (turn : ℕ) (x : Seen) (w : Writer) (framing : Framing) (stage : Stage) (next : Next) : Type 0 where
+pub record Decides (turn : ℕ) (x : Seen) (w : Writer) (framing : Framing) (stage : HopStage) (next : Next) : Type 0 where
   pub chunked : next.chunked ≡ is_chunks framing
   pub from : next.from ≡ chosen_delivered x
   pub fits : FitsTurn w next.chunked next.count
@@ -135,7 +135,7 @@ hop_events n true = usr_events n ++ Done ∷ []
 hop_events n false = usr_events n
 
 -- the stage once the body's end is fixed
-abbrev pub stage_then : Stage → Bool → Stage
+abbrev pub stage_then : HopStage → Bool → HopStage
 stage_then stage true = at.Whole
 stage_then stage false = stage
 
@@ -147,7 +147,7 @@ pub record NothingDue (x : Seen) (h : Hop) : Type 0 where
   pub no_done : is_message h.stage || is_whole h.stage ≡ true → x.closed ≡ false → Allows x Done → ⊥
 
 -- what the side writes
-abbrev pub gift_of : Stage → Gift
+abbrev pub gift_of : HopStage → Gift
 gift_of at.Empty = no_gift
 gift_of at.Message = message_gift
 gift_of at.Whole = message_gift

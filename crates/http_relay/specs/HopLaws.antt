@@ -17,13 +17,13 @@ use Rattle.chunk_writer.specs.Writer.{Writer}
 use Rattle.http_side.specs.declared.body.Framing.{Framing}
 use Rattle.adapt_sides.specs.Tapes.{chosen, chosen_received, chosen_delivered}
 use Rattle.adapt_sides.specs.Turns.Gift.{nothing as no_gift, message as message_gift, refusal as refusal_gift}
-use Rattle.http_relay.specs.declared.hop.Stage.{Stage}
-use Rattle.http_relay.specs.declared.hop.Stage.TheVariants as at
+use Rattle.http_relay.specs.declared.hop.HopStage.{HopStage}
+use Rattle.http_relay.specs.declared.hop.HopStage.TheVariants as at
 use Rattle.http_relay.specs.Giving.{Hop, HasGiven, IsAside, GivenAt, AsideAt, NothingDue, gift_of, is_message, is_whole}
 use Rattle.adapt_sides.specs.Tapes.{IsUndelivered}
 use Rattle.http_relay.specs.Keeping as keeping
 
-pub no_message_at : (stage : Stage) (status : ℕ) (x : Seen) (f : Framing) (head body taken : List ℕ) (w : Writer)
+pub no_message_at : (stage : HopStage) (status : ℕ) (x : Seen) (f : Framing) (head body taken : List ℕ) (w : Writer)
     → stage ≡ at.Refusal status → GivenAt stage x f head body taken w → ⊥
 no_message_at at.Empty status x f head body taken w e g = cc
 no_message_at at.Message status x f head body taken w e g = cc
@@ -31,14 +31,14 @@ no_message_at at.Whole status x f head body taken w e g = cc
 no_message_at (at.Refusal s) status x f head body taken w e g = g
 
 -- Before anything is begun.
-aside_is_given : (stage : Stage) (x : Seen) (f : Framing) (head body taken : List ℕ) (w : Writer) → stage ≡ at.Empty → AsideAt stage taken w
-    → IsUndelivered x → GivenAt stage x f head body taken w
+aside_is_given : (stage : HopStage) (x : Seen) (f : Framing) (head body taken : List ℕ) (w : Writer) → stage ≡ at.Empty
+    → AsideAt stage taken w → IsUndelivered x → GivenAt stage x f head body taken w
 aside_is_given at.Empty x f head body taken w e a u = (a, u)
 aside_is_given at.Message x f head body taken w e a u = cc
 aside_is_given at.Whole x f head body taken w e a u = cc
 aside_is_given (at.Refusal status) x f head body taken w e a u = cc
 
-given_is_aside : (stage : Stage) (x : Seen) (f : Framing) (head body taken : List ℕ) (w : Writer) → stage ≡ at.Empty
+given_is_aside : (stage : HopStage) (x : Seen) (f : Framing) (head body taken : List ℕ) (w : Writer) → stage ≡ at.Empty
     → GivenAt stage x f head body taken w → AsideAt stage taken w
 given_is_aside at.Empty x f head body taken w e g = g.0
 given_is_aside at.Message x f head body taken w e g = cc
@@ -145,13 +145,13 @@ others plan before event head original adapted bytes more taken h legal z lo la 
     subst (λ (xs : List ℕ). HasGiven y head xs taken h) (sym m.is) (keeping.others x event head (chosen x original adapted) m.behind taken h
     s legal.0.1 z long g)
 
-empty_by : (stage : Stage) → gift_of stage ≡ no_gift → stage ≡ at.Empty
+empty_by : (stage : HopStage) → gift_of stage ≡ no_gift → stage ≡ at.Empty
 empty_by at.Empty e = refl
 empty_by at.Message e = cc
 empty_by at.Whole e = cc
 empty_by (at.Refusal status) e = cc
 
-refusal_by : (stage : Stage) (status : ℕ) → gift_of stage ≡ refusal_gift status → stage ≡ at.Refusal status
+refusal_by : (stage : HopStage) (status : ℕ) → gift_of stage ≡ refusal_gift status → stage ≡ at.Refusal status
 refusal_by at.Empty status e = cc
 refusal_by at.Message status e = cc
 refusal_by at.Whole status e = cc
@@ -165,7 +165,7 @@ pub idle_aside : (x : Seen) (head body taken : List ℕ) (h : Hop) → gift_of h
     → IsAside taken h
 idle_aside x head body taken h e g = given_fresh x head body taken h (empty_by h.stage e) g
 
-begun_at : (stage : Stage) (taken : List ℕ) (h : Hop) → stage ≡ h.stage → gift_of stage ≡ message_gift → AsideAt stage taken h.writer → ⊥
+begun_at : (stage : HopStage) (taken : List ℕ) (h : Hop) → stage ≡ h.stage → gift_of stage ≡ message_gift → AsideAt stage taken h.writer → ⊥
 begun_at at.Empty taken h s e a = cc
 begun_at at.Message taken h s e a = a
 begun_at at.Whole taken h s e a = a
@@ -226,15 +226,15 @@ out_whole false x n e d one (inr a) =
     left_by (chooses_original x) x.original_delivered x.adapted_delivered x.received x.adapted_received d e in
     omega (arith, same, a.1.0, a.2)
 
-rests_at : (stage : Stage) (x : Seen) (head body taken : List ℕ) (h : Hop) → stage ≡ h.stage
+rests_at : (stage : HopStage) (x : Seen) (head body taken : List ℕ) (h : Hop) → stage ≡ h.stage
     → GivenAt stage x h.framing head body taken h.writer → gift_of stage ≡ message_gift → NothingDue x h → x.closed ≡ false
     → (event : Event) → is_of_hop event ≡ true → Allows x event → ⊥
 rests_at at.Empty x head body taken h s g e d o event i a = cc
 rests_at at.Message x head body taken h s g e d o (Usr n) i a = d.none (ap is_message (sym s)) n o a
-rests_at at.Message x head body taken h s g e d o Done i a = d.no_done (ap (λ (t : Stage). is_message t || is_whole t) (sym s)) o a
+rests_at at.Message x head body taken h s g e d o Done i a = d.no_done (ap (λ (t : HopStage). is_message t || is_whole t) (sym s)) o a
 rests_at at.Message x head body taken h s g e d o event i a = cc
 rests_at at.Whole x head body taken h s g e d o (Usr n) i a = out_whole (chooses_original x) x n refl (g.all_out refl).1 d.one a
-rests_at at.Whole x head body taken h s g e d o Done i a = d.no_done (ap (λ (t : Stage). is_message t || is_whole t) (sym s)) o a
+rests_at at.Whole x head body taken h s g e d o Done i a = d.no_done (ap (λ (t : HopStage). is_message t || is_whole t) (sym s)) o a
 rests_at at.Whole x head body taken h s g e d o event i a = cc
 rests_at (at.Refusal status) x head body taken h s g e d o event i a = cc
 

@@ -19,8 +19,8 @@ use Rattle.chunk_writer.specs.Cut.Run.{between}
 use Rattle.chunk_writer.specs.Writer.{Writer, waiting, fresh}
 use Rattle.http_side.specs.declared.body.Framing.{Framing}
 use Rattle.http_side.specs.declared.body.Framing.TheVariants as by
-use Rattle.http_relay.specs.declared.hop.Stage.{Stage}
-use Rattle.http_relay.specs.declared.hop.Stage.TheVariants as at
+use Rattle.http_relay.specs.declared.hop.HopStage.{HopStage}
+use Rattle.http_relay.specs.declared.hop.HopStage.TheVariants as at
 use Rattle.adapt_sides.specs.declared.fault.RelayFault.{RelayFault}
 use Rattle.http_relay.specs.Message.{is_chunks, length_of}
 use Rattle.http_side.specs.Refusals.{refusal}
@@ -66,7 +66,7 @@ pub hop_aside : (w : Writer) (turn : ℕ) → w ≡ fresh []
 hop_aside w turn e = record { text = ap waiting e; untouched = λ n. refl; touched = λ t. cc }
 
 -- a message begins where nothing was given
-begun_at : (x : Seen) (stage : Stage) (f g : Framing) (other head body taken : List ℕ) (w : Writer) → stage ≡ at.Empty
+begun_at : (x : Seen) (stage : HopStage) (f g : Framing) (other head body taken : List ℕ) (w : Writer) → stage ≡ at.Empty
     → GivenAt stage x f other body taken w → GivesMessage x g false head body taken (fresh head)
 begun_at x at.Empty f g other head body taken w e h =
     subst (λ (xs : List ℕ). GivesMessage x g false head body xs (fresh head)) (sym (nothing_first taken (waiting w) h.0))
@@ -248,7 +248,7 @@ message_kept x y f b head body more taken w k l g = record {
 undelivered_kept : (x y : Seen) → Keeps x y → IsUndelivered x → IsUndelivered y
 undelivered_kept x y k h = (k.original ∙ h.0, k.adapted ∙ h.1)
 
-kept_at : (stage : Stage) (x y : Seen) (f : Framing) (head body more taken : List ℕ) (w : Writer) → Keeps x y
+kept_at : (stage : HopStage) (x y : Seen) (f : Framing) (head body more taken : List ℕ) (w : Writer) → Keeps x y
     → length body ≡ chosen_received x → GivenAt stage x f head body taken w → GivenAt stage y f head (body ++ more) taken w
 kept_at at.Empty x y f head body more taken w k l g = (g.0, undelivered_kept x y k g.1)
 kept_at at.Message x y f head body more taken w k l g = message_kept x y f false head body more taken w k l g

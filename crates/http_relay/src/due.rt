@@ -8,7 +8,7 @@ ghost use Rattle.http_relay.specs.Message.{is_chunks, length_of};
 ghost use Rattle.adapt_sides.specs.Tapes.{chosen_delivered, chosen_received, chosen_over};
 ghost use Rattle.http_relay.specs.Giving.{is_message, body_end, Decides, BreaksLength, count_of, hop_events};
 
-use crate::hop::Stage;
+use crate::hop::HopStage;
 use adapt_sides::{Turn, push_event};
 use arrayvec::ArrayVec;
 use chunk_writer::{ChunkWriter, Ending, Next};
@@ -21,7 +21,7 @@ pub(crate) fn decide(
     state: &State,
     writer: &ChunkWriter,
     framing: Framing,
-    stage: Stage,
+    stage: HopStage,
     turn: u64,
 ) -> Option<Next>
     requires { 1 ≤ turn }
@@ -81,10 +81,10 @@ fn ending(seen: &Seen, framing: Framing, count: u64) -> Ending
     body_ending(framing)
 }
 
-fn is_begun(stage: Stage) -> bool
+fn is_begun(stage: HopStage) -> bool
     ensures { result ≡ is_message stage }
 {
-    matches!(stage, Stage::Message)
+    matches!(stage, HopStage::Message)
 }
 
 fn is_in_chunks(framing: Framing) -> bool

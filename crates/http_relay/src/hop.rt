@@ -24,7 +24,7 @@ use wire_kit::{Put, Wire};
 
 /// What the next hop gets.
 #[derive(Clone, Copy)]
-pub enum Stage {
+pub enum HopStage {
     /// Nothing is known of it yet.
     Empty,
     /// A message.
@@ -60,7 +60,7 @@ fn wire_fault(fault: Option<RelayFault>) -> Option<RelayFault>
 pub struct HopWriter {
     writer: ChunkWriter,
     framing: Framing,
-    stage: Stage,
+    stage: HopStage,
     touched: bool,
     fault: Option<RelayFault>,
     /// How many bytes of the body one turn writes at most.
@@ -81,14 +81,14 @@ impl Model for HopWriter {
 impl HopWriter {
     /// A next hop to which nothing is written yet. A turn writes [`USUAL_CHUNK`] bytes of the body at most.
     pub fn new(alloc: Global) -> HopWriter
-        ensures shows { result ≡ record { writer = fresh []; framing = Framing.None; stage = Stage.Empty; touched = false; fault = None; turn = USUAL_CHUNK } }
+        ensures shows { result ≡ record { writer = fresh []; framing = Framing.None; stage = HopStage.Empty; touched = false; fault = None; turn = USUAL_CHUNK } }
         ensures given { (x : Seen) (head body : List ℕ) → IsUndelivered x → HasGiven x head body [] result }
         ensures aside { IsAside [] result }
     {
         HopWriter {
             writer: ChunkWriter::new(Vec::new(alloc)),
             framing: Framing::None,
-            stage: Stage::Empty,
+            stage: HopStage::Empty,
             touched: false,
             fault: None,
             turn: USUAL_CHUNK,
@@ -108,13 +108,13 @@ impl HopWriter {
 
     /// Begins the chosen message: its forwarded head, and how its body goes.
     pub fn begin(&mut self, head: Vec<u8>, framing: Framing)
-        requires { self.old.stage ≡ Stage.Empty }
-        ensures shows { self.new ≡ record { writer = fresh head.items; framing = framing; stage = Stage.Message; touched = self.old.touched; fault = self.old.fault; turn = self.old.turn } }
+        requires { self.old.stage ≡ HopStage.Empty }
+        ensures shows { self.new ≡ record { writer = fresh head.items; framing = framing; stage = HopStage.Message; touched = self.old.touched; fault = self.old.fault; turn = self.old.turn } }
         ensures given { (x : Seen) (none body taken : List ℕ) → HasGiven x none body taken self.old → HasGiven x head.items body taken self.new }
     {
         self.writer = ChunkWriter::new(head);
         self.framing = framing;
-        self.stage = Stage::Message;
+        self.stage = HopStage::Message;
     }
 
     /// Puts the proxy's own refusal in the message's place. No byte has gone out. A fault of the message ends with it; one of the
@@ -122,11 +122,11 @@ impl HopWriter {
     pub fn refuse(&mut self, status: u16)
         requires untouched { self.old.touched ≡ false }
         requires own { IsTrue (is_own_status status) }
-        ensures shows { self.new ≡ record { writer = fresh (refusal status); framing = self.old.framing; stage = Stage.Refusal status; touched = false; fault = wire_fault self.old.fault; turn = self.old.turn } }
+        ensures shows { self.new ≡ record { writer = fresh (refusal status); framing = self.old.framing; stage = HopStage.Refusal status; touched = false; fault = wire_fault self.old.fault; turn = self.old.turn } }
         ensures aside { IsAside [] self.new }
     {
         self.writer = ChunkWriter::constant(own_refusal(status));
-        self.stage = Stage::Refusal(status);
+        self.stage = HopStage::Refusal(status);
         self.fault = wire_fault(self.fault);
     }
 
@@ -141,7 +141,7 @@ impl HopWriter {
     pub fn is_idle(&self) -> bool
         ensures { result ≡ is_empty self.now.stage }
     {
-        matches!(self.stage, Stage::Empty)
+        matches!(self.stage, HopStage::Empty)
     }
 
     /// The fault that each turn answers, if there is one.
@@ -169,14 +169,16 @@ impl HopWriter {
     /// Notes whether a turn fixed the body's end, and says whether the whole message is out with it.
     fn count_written(&mut self, sent: u64, ended: bool, may: bool) -> bool
         ensures stage { self.new ≡ record { writer = self.old.writer; framing = self.old.framing; stage = stage_then self.old.stage ended; touched = self.old.touched; fault = self.old.fault; turn = self.old.turn } }
-        ensures done { result ≡ true → (stage_then self.old.stage ended ≡ Stage.Whole) × (waiting self.old.writer ≡ []) × ((ended ≡ true) ⊎ ((may ≡ true) × (sent ≡ 0))) }
+        ensures done { result ≡ true → (stage_then self.old.stage ended ≡ HopStage.Whole) × (waiting self.old.writer ≡ []) × ((ended ≡ true) ⊎ ((may ≡ true) × (sent ≡ 0))) }
         ensures ended { result ≡ false → waiting self.old.writer ≡ [] → ended ≡ true → ⊥ }
         ensures may { result ≡ false → waiting self.old.writer ≡ [] → is_whole self.old.stage ≡ true → sent ≡ 0 → may ≡ true → ⊥ }
     {
         if ended {
-            self.stage = Stage::Whole;
+            self.stage = HopStage::Whole;
         }
-        matches!(self.stage, Stage::Whole) && self.writer.is_out() && (ended || (may && sent == 0))
+        matches!(self.stage, HopStage::Whole)
+            && self.writer.is_out()
+            && (ended || (may && sent == 0))
     }
 
     /// Writes what is due of the message or of the refusal, with one write at most. The caller steps the events, in their

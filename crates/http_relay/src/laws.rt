@@ -16,7 +16,7 @@ ghost use Rattle.http_relay.specs.declared.side.SourceSide.{SourceSide};
 ghost use Rattle.http_relay.specs.declared.side.head.Asks.TheVariants as asks;
 ghost use Rattle.http_relay.specs.Judging.{HasNoHead};
 ghost use Rattle.http_relay.specs.Reading.{Begins, SideRead};
-ghost use Rattle.http_relay.specs.declared.hop.Stage.TheVariants as at;
+ghost use Rattle.http_relay.specs.declared.hop.HopStage.TheVariants as at;
 ghost use Rattle.trace_core.specs.Turns.{is_of_hop};
 ghost use Rattle.http_relay.specs.Message.{IsFrontOfMessage, IsMessage, length_of};
 ghost use Rattle.adapt_sides.specs.Tapes.{chosen_delivered, chosen_received};

@@ -12,5 +12,5 @@ mod side;
 mod source_body;
 
 pub use adapt_sides::{RelayFault, Turn};
-pub use hop::{HopWriter, Stage};
+pub use hop::{HopStage, HopWriter};
 pub use side::{Asks, HeadProgress, MAX_INTERIMS, SourceHead, SourceSide};

@@ -18,8 +18,8 @@ use Rattle.adapt_turn.specs.declared.ends.ServiceEnd.{ServiceEnd}
 use Rattle.adapt_turn.specs.Stands.{WriterView, HopsAre, IsDelivered, other_gift}
 use Rattle.icap_client.specs.Turns.{Service, ServiceSent}
 use Rattle.icap_client.proofs.Prefixes.{sent_is_front_legal}
-use Rattle.http_relay.specs.declared.hop.Stage.{Stage}
-use Rattle.http_relay.specs.declared.hop.Stage.TheVariants as at
+use Rattle.http_relay.specs.declared.hop.HopStage.{HopStage}
+use Rattle.http_relay.specs.declared.hop.HopStage.TheVariants as at
 use Rattle.http_relay.specs.Message.{IsFrontOfMessage, IsMessage, length_of}
 use Rattle.http_relay.specs.Giving.{Hop, HasGiven, GivesMessage, GivenAt, IsAside, AsideAt, gift_of}
 use Rattle.http_relay.proofs.Whole.{front_at, out_front_at, whole_front_at}
@@ -69,7 +69,7 @@ first_none [] ys e = refl
 first_none (x ∷ xs) ys e = cc
 
 -- at each stage without a message, what was taken is nothing, or a prefix of a refusal
-aside_at : (stage : Stage) (taken : List ℕ) (w : Writer) → AsideAt stage taken w → TookNoMessage taken
+aside_at : (stage : HopStage) (taken : List ℕ) (w : Writer) → AsideAt stage taken w → TookNoMessage taken
 aside_at at.Empty taken w a = inl (first_none taken (waiting w) a)
 aside_at at.Message taken w a = absurd a
 aside_at at.Whole taken w a = absurd a
@@ -109,7 +109,7 @@ whole_out_at x f head body taken w l g = subst (λ (xs : List ℕ). IsFrontOfMes
     (whole_front_at at.Whole x f head body taken w refl l g)
 
 -- at a stage with a message, what was taken is a prefix of one whose head was made
-took_at : (made : List ℕ → Type 0) (stage : Stage) (x : Seen) (f : Framing) (head body taken : List ℕ) (w : Writer) → made head
+took_at : (made : List ℕ → Type 0) (stage : HopStage) (x : Seen) (f : Framing) (head body taken : List ℕ) (w : Writer) → made head
     → gift_of stage ≡ message → length body ≡ chosen_received x → GivenAt stage x f head body taken w
     → TookFront made f x body taken
 took_at made at.Empty x f head body taken w k m l g = cc
@@ -128,7 +128,7 @@ pub front_one : (made : List ℕ → Type 0) (x : Seen) (head body taken : List 
 front_one made x head body taken h k m l g = took_at made h.stage x h.framing head body taken h.writer k m l g.given
 
 -- a writer without a refusal took nothing beside a message
-unrefused_at : (stage : Stage) (taken : List ℕ) (w : Writer) → ((status : ℕ) → gift_of stage ≡ refused_by status → ⊥)
+unrefused_at : (stage : HopStage) (taken : List ℕ) (w : Writer) → ((status : ℕ) → gift_of stage ≡ refused_by status → ⊥)
     → AsideAt stage taken w → taken ≡ []
 unrefused_at at.Empty taken w none a = first_none taken (waiting w) a
 unrefused_at at.Message taken w none a = absurd a

@@ -13,7 +13,7 @@ use trace_core::Cause;
 
 /// A call of a running transaction. Those that are for a broken connection do nothing where none broke.
 #[derive(Drop)]
-pub enum Call<C> {
+pub enum RunningCall<C> {
     /// A turn of a side at a moment in seconds.
     Turn(Side, u64),
     /// The proxy stops.
@@ -79,19 +79,19 @@ impl<B: Ledgers, W: Wires> Running<B, W> {
         rt: &impl Wait,
         bank: &Bank<B>,
         scratch: &mut Scratch,
-        call: &mut Call<W::ServiceWire>,
+        call: &mut RunningCall<W::ServiceWire>,
     )
         ensures renews { ⟦<Tx<B, OwnEnds<W>> as Lasting<W>>⟧.renews (λ old new. IsLine old call.old new) self.old.tx self.new.tx }
     {
         match call {
-            Call::Turn(side, now) => {
+            RunningCall::Turn(side, now) => {
                 self.turn(rt, bank, scratch, *side, *now);
             }
-            Call::Halt => self.halt(rt, bank),
-            Call::Retry(fresh) => self.renew(rt, bank, fresh.take()),
-            Call::TakeBroken => self.close_broken(),
-            Call::FailUnretried(cause) => self.fail_broken(rt, bank, *cause),
-            Call::TakeFreed => self.close_freed(),
+            RunningCall::Halt => self.halt(rt, bank),
+            RunningCall::Retry(fresh) => self.renew(rt, bank, fresh.take()),
+            RunningCall::TakeBroken => self.close_broken(),
+            RunningCall::FailUnretried(cause) => self.fail_broken(rt, bank, *cause),
+            RunningCall::TakeFreed => self.close_freed(),
         }
     }
 
@@ -101,7 +101,7 @@ impl<B: Ledgers, W: Wires> Running<B, W> {
         rt: &impl Wait,
         bank: &Bank<B>,
         scratch: &mut Scratch,
-        calls: &mut [Call<W::ServiceWire>],
+        calls: &mut [RunningCall<W::ServiceWire>],
     )
         ensures renews { ⟦<Tx<B, OwnEnds<W>> as Lasting<W>>⟧.renews (λ old new. AreLines old calls.old new) self.old.tx self.new.tx }
     {

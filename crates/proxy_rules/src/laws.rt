@@ -36,7 +36,7 @@ ghost use Rattle.proxy_rules.specs.Offers.{text_of};
 ghost use Rattle.proxy_rules.specs.Beginnings.{MayBegin};
 ghost use Rattle.proxy_rules.specs.Running.{TakesFrom};
 
-use crate::calls::Call;
+use crate::calls::RunningCall;
 use crate::head_maker::HeadMaker;
 use crate::incoming::Incoming;
 use crate::own_ends::{OwnEnds, Wires};
@@ -167,7 +167,7 @@ pub fn over_all_calls_the_wires_take_one_message<B: Ledgers, W: Wires>(
     bank: &Bank<B>,
     beginning: Beginning<B, W>,
     scratch: &mut Scratch,
-    calls: &mut [Call<W::ServiceWire>],
+    calls: &mut [RunningCall<W::ServiceWire>],
 ) -> Result<Running<B, W>, Beginning<B, W>>
     requires empty { (beginning.stake.held ≡ 0) × (beginning.stake.pages ≡ 0) }
     requires claim { beginning.stake.claim ≡ claim_of beginning.offer.plan beginning.limits.window }

@@ -24,7 +24,7 @@ mod scan;
 mod starting;
 
 pub use address::{Origin, origin_of};
-pub use calls::Call;
+pub use calls::RunningCall;
 pub use connections::{keeps_origin, keeps_user, may_repeat};
 pub use expect::{awaits_continue, interim_continue, is_head_request};
 pub use head_maker::HeadMaker;

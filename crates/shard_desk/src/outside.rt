@@ -17,7 +17,7 @@ use plan_rules::Limits;
 use proxy_config::Config;
 use service_lines::Leased;
 use shard_exchange::Lingered;
-use shard_message::{Clocked, Kinds, Outside, Settings, UserEnd};
+use shard_message::{Clocked, Kinds, Outside, ThreadSettings, UserEnd};
 use socket_wire::{Dial, OriginWire, ServiceWire, UserWire};
 use span_bank::Bank;
 use std::alloc::Global;
@@ -40,7 +40,7 @@ impl<S: Shares> Kinds for Desk<S> {
     type Ledgers = S::Ledgers;
 }
 
-impl<S: Shares> Settings for Desk<S> {
+impl<S: Shares> ThreadSettings for Desk<S> {
     ghost config_is = { λ desk config. S.config_is desk.shared config };
 
     ghost limits_are = { λ desk limits. limits ≡ desk.limits };

@@ -14,7 +14,7 @@ ghost use Rattle.shard_exchange.specs.Ends.{moves, ends_message, keeps_origin, S
 ghost use Rattle.shard_exchange.specs.Leaving.{stopped_of};
 ghost use Rattle.shard_exchange.specs.Outcomes.{begun_of};
 
-use crate::ends::{End, Report};
+use crate::ends::{CourseReport, End};
 use exchange_core::{Course, Event, Phase, RefusalCause};
 
 /// Takes an event that ends a message, where it may come. Else the message fails: its user is refused, unless a part of an answer is
@@ -139,7 +139,7 @@ fn tell_cut(course: &mut Course, cuts: bool)
 /// keeps its connection, and a response is waited for only where its request was sent; each of them is, where the course may go there. The
 /// service's connection serves again exactly where the report says so, and so does the origin's last. A request goes back to its plan
 /// exactly where it was withdrawn, and there was memory for it.
-pub(crate) fn tell(course: &mut Course, report: Report)
+pub(crate) fn tell(course: &mut Course, report: CourseReport)
     requires moves { moves course.old ≡ true }
     requires runs { course.old.stopping ≡ false }
     ensures goes { Goes course.old course.new }

@@ -28,7 +28,7 @@ ghost use Rattle.shard_exchange.specs.declared.answers.Unplanned.{Unplanned as A
 ghost use Rattle.shard_exchange.specs.declared.ends.End.{End as AnyEnd};
 
 use crate::answers::{Lingered, Marks, Round, Started, Unplanned, Withdrawal};
-use crate::ends::{End, EndedBy, Report};
+use crate::ends::{CourseReport, End, EndedBy};
 use crate::holder::Holder;
 use adapt_sides::{ClientFault, Said, Scratch};
 use exchange_core::{Course, CourseState, Dialing};
@@ -280,7 +280,7 @@ pub trait Effects<P>: Holder {
         out: &mut Self::Outside,
         by: EndedBy,
         course: &Course,
-    ) -> Report
+    ) -> CourseReport
         requires { (Self.hand self.old).moving ≡ true }
         ensures withdrawn { result.end ≡ End.Withdrawn true
             → (may_come course.now Withdrawn ≡ true) × Self.repeats self.old × (result.has_answered ≡ false) }

@@ -36,7 +36,7 @@ pub enum End {
 
 /// What the course is told of a transaction that is over.
 #[derive(Clone, Copy)]
-pub struct Report {
+pub struct CourseReport {
     /// Whether a byte of an answer went to the user.
     pub has_answered: bool,
     /// Where the service has said all on its connection: whether that may carry another request.

@@ -30,7 +30,7 @@ mod tasks;
 pub use answers::{HeadTurn, Lingered, Marks, OptionsTurn, Round, Started, Unplanned, Withdrawal};
 pub use deeds::Stepping;
 pub use effects::Effects;
-pub use ends::{End, EndedBy, Report};
+pub use ends::{CourseReport, End, EndedBy};
 pub use exchange::Exchange;
 pub use exchange_report::Reason;
 pub use holder::{Holder, InHand};

@@ -41,7 +41,8 @@ use exchange_core::{Course, CourseState, Dialing};
 use icap_head::IcapResponse;
 use service_lines::LendFault;
 use shard_exchange::{
-    Effects, End, EndedBy, Lingered, Marks, Reason, Report, Round, Started, Unplanned, Withdrawal,
+    CourseReport, Effects, End, EndedBy, Lingered, Marks, Reason, Round, Started, Unplanned,
+    Withdrawal,
 };
 use span_bank::Pages;
 use std::sync::Wait;
@@ -289,7 +290,7 @@ impl<P, O: Outside<P>> Effects<P> for Holdings<O> {
         out: &mut O,
         by: EndedBy,
         course: &Course,
-    ) -> Report {
+    ) -> CourseReport {
         let tx = take_out(&mut self.tx);
         let Settled {
             remains,

@@ -7,7 +7,7 @@ ghost use Rattle.shard_message.specs.Ended.{IfOther, IsEndOf, is_cut, message_in
 use crate::refusal_causes::refusal_cause_after;
 use adapt_turn::Outcome;
 use exchange_core::RefusalCause;
-use shard_exchange::{End, EndedBy, Report};
+use shard_exchange::{CourseReport, End, EndedBy};
 use std::boxed::Box;
 use trace_core::{Cause, Point};
 
@@ -111,7 +111,7 @@ pub(crate) fn report_of<M>(
     has_answered: bool,
     is_reusable: bool,
     sequel: &Sequel<M>,
-) -> Report
+) -> CourseReport
     ensures ends { EndsBy by result.end }
     ensures itself { IfItself by (IsEndOf point sequel.now result.end) }
     ensures answered { result.has_answered ≡ has_answered }
@@ -120,7 +120,7 @@ pub(crate) fn report_of<M>(
     ensures served { result.served ≡ served_as is_reusable result.end }
 {
     let end = end_of(by, point, sequel);
-    Report {
+    CourseReport {
         has_answered,
         served: served_by(end, is_reusable),
         end,

@@ -53,7 +53,7 @@ pub use lasting::LastingOrigin;
 pub use moving::{Moves, Moving, OnItsWay};
 pub use options::{begin_asking, hear_turn, is_reusable, keep};
 pub use outside::{
-    Clocked, Dialed, Kinds, MessageEnd, Noting, Origins, Outside, Services, Settings, UserEnd,
+    Clocked, Dialed, Kinds, MessageEnd, Noting, Origins, Outside, Services, ThreadSettings, UserEnd,
 };
 pub use planning::{Planned, keep_plan, service_of};
 pub use refusal_causes::refusal_cause_after;

@@ -78,7 +78,7 @@ pub struct Dialed<W> {
 }
 
 /// What holds for all exchanges of a thread, at each moment.
-pub trait Settings: Kinds {
+pub trait ThreadSettings: Kinds {
     // what messages are planned by, where the surroundings say what that is
     ghost config_is: { Self → AnyConfig → Type 0 } = { λ _ _. ⊤ };
 
@@ -335,4 +335,9 @@ pub trait Noting<P>: Kinds {
 /// The surroundings of the exchanges of a thread. `P` is an exchange's place in them: its key, the moment, and what reaches the system.
 ///
 /// What is asked of them is in traits by subjects: what an exchange meets is compared whole where it is proved, and the parts are small.
-pub trait Outside<P>: Settings + Clocked<P> + Services<P> + Origins<P> + UserEnd + Noting<P> {}
+pub trait Outside<P>: ThreadSettings
+    + Clocked<P>
+    + Services<P>
+    + Origins<P>
+    + UserEnd
+    + Noting<P> {}

@@ -24,7 +24,7 @@ use adapt_turn::{EndTypes, Ends, Outcome, ServiceEnd, Tx, TxParts};
 use exchange_core::{Course, Event};
 use icap_client::Found;
 use plan_rules::Limits;
-use shard_exchange::{End, EndedBy, Reason, Report};
+use shard_exchange::{CourseReport, End, EndedBy, Reason};
 use span_bank::Stake;
 use std::boxed::Box;
 use trace_core::Seen;
@@ -36,7 +36,7 @@ pub struct Settled<O: Kinds, M> {
     pub remains: Remains<O>,
     /// The message that comes next: the response to the request, the user's next request, or the request again that was withdrawn.
     pub message: Option<Box<M>>,
-    pub report: Report,
+    pub report: CourseReport,
 }
 
 /// Whether nothing went over a connection.
@@ -146,7 +146,7 @@ fn give_account<P, O: Outside<P>, V: Served>(
 
 /// Cuts off a user that is to see that what it got isn't whole, and has the surroundings take note of a refusal for want of
 /// memory.
-fn warn<P, O: Outside<P>>(at: &P, out: &mut O, user: &O::User, report: Report) {
+fn warn<P, O: Outside<P>>(at: &P, out: &mut O, user: &O::User, report: CourseReport) {
     if report.cuts {
         O::cut(user);
     }
@@ -164,7 +164,7 @@ fn report_on<P, O: Outside<P>, V: Served, M>(
     account: Account,
     sequel: &Sequel<M>,
     by: EndedBy,
-) -> Report
+) -> CourseReport
     ensures ends { EndsBy by result.end }
     ensures itself { IfItself by (IsEndOf account.seen.plan.point sequel.now result.end) }
     ensures answered { result.has_answered ≡ account.has_answered }
@@ -195,7 +195,7 @@ fn settled_of<O: Kinds, M: Drop>(
     connections: Connections<O>,
     sequel: Sequel<M>,
     by: EndedBy,
-    report: Report,
+    report: CourseReport,
 ) -> Settled<O, M>
     requires { (stake.held ≡ 0) × (stake.pages ≡ 0) }
     ensures report { result.report ≡ report }

@@ -21,7 +21,7 @@ use service_lines::{LendFault, PointBook};
 use shard_exchange::{Lingered, Reason};
 use shard_message::{
     Clocked, Dialed, LastingOrigin, MessageEnd, Noting, Origins, Outside, Reusable, Services,
-    Settings, UserEnd,
+    ThreadSettings, UserEnd,
 };
 use shard_report::{request_line, what_was_found};
 use span_bank::{Bank, Ledgers};
@@ -30,7 +30,7 @@ use std::net::{Ipv4Addr, SocketAddrV4};
 use trace_core::Point;
 use wire_kit::{Got, Wire};
 
-impl<'a, W: StageWire<'a>, B: Ledgers> Settings for MemoryOutside<'a, W, B> {
+impl<'a, W: StageWire<'a>, B: Ledgers> ThreadSettings for MemoryOutside<'a, W, B> {
     fn alloc(&self) -> Global {
         self.alloc
     }

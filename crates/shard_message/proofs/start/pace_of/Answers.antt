@@ -5,8 +5,8 @@ use Rattle.shard_message.specs.Begun.{IsPaceOf}
 use Rattle.shard_message.proofs.start.pace_of.Goals as goal
 
 pub returns : goal.returns
-returns g c = subst (λ (pace : Pace). IsPaceOf (g.O.Clocked.now_is c.args.out.now c.args.at.now) (g.O.Settings.config_is c.args.out.now)
-    c.args.state pace) (sym c.new.ensures) (record {
+returns g c = subst (λ (pace : Pace). IsPaceOf (g.O.Clocked.now_is c.args.out.now c.args.at.now)
+    (g.O.ThreadSettings.config_is c.args.out.now) c.args.state pace) (sym c.new.ensures) (record {
       config = c.config.result.now;
       config_is_so = c.config.ensures;
       moment = c.now.ensures;

@@ -9,7 +9,7 @@ use Rattle.chunk_writer.specs.Moves.{Moves}
 use Rattle.http_side.specs.declared.body.Framing.{Framing}
 use Rattle.adapt_sides.specs.declared.fault.RelayFault.TheVariants.{Device, Length}
 use Rattle.http_relay.specs.Giving.{Hop, BreaksLength, is_message, is_whole, stage_then}
-use Rattle.http_relay.specs.declared.hop.Stage.{Stage}
+use Rattle.http_relay.specs.declared.hop.HopStage.{HopStage}
 use Rattle.http_relay.proofs.Carried.{may_go_on}
 use Rattle.http_relay.proofs.Answering.{turned, turned_drop_text, unmoved, faulted, still_wait, still_fault, no_delta_wait, no_delta_fault}
 use Rattle.http_relay.proofs.Answering.{no_delta_none, settles_still, settles_by, took_some, none_still, fits_took, fits_wait, fits_none}
@@ -161,4 +161,4 @@ returns-in-None-answer-clause-turn g c =
     (λ d. e.ended d (o.out answer)) (λ d w still_open a. e.may d (o.out answer) (ap is_whole se ∙ w) refl (may.1 (still_open, a)))
     (λ h. (turn.ensures.waits h).0) (λ h. turn.ensures.goes h refl)
     (ap (λ (h : Hop). waiting h.writer) e.stage ∙ o.out answer) (ap (λ (h : Hop). h.stage) e.stage
-    ∙ ap (λ (st : Stage). stage_then st wrote.ended) se)))
+    ∙ ap (λ (st : HopStage). stage_then st wrote.ended) se)))
