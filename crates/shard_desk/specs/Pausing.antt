@@ -1,5 +1,5 @@
 -- What the end of a message says of its service to the breaker.
-use Rattle.std.specs.Prelude.{Bool, true, false}
+use Rattle.std.specs.Prelude.{Bool, false}
 use Rattle.exchange_report.specs.declared.reason.Reason.{Reason}
 use Rattle.exchange_report.specs.declared.reason.Reason.TheVariants.{ServiceRefused, ServiceStatus, ServiceBroken, ServiceDeadline}
 use Rattle.service_lines.specs.declared.breaker.ServiceEnd.{ServiceEnd}

@@ -1,5 +1,5 @@
 -- The wire answered is that of the idle connection to this address which was taken, by the turn that the seats heard of.
-use Rattle.std.proofs.Common.{rules, ◌≡◌, ℕ, List, Option, Some, None, refl, subst}
+use Rattle.std.proofs.Common.{rules, ◌≡◌, ℕ, Some, None, refl, subst}
 use Rattle.std.specs.Bool.{⊤}
 use Rattle.shard_desk.specs.declared.origins.KeptOrigin.{KeptOrigin}
 use Rattle.shard_desk.specs.Kept.{IsFit, IsUnfit, IsTaken}
