@@ -63,7 +63,8 @@ fn begin<O: Kinds>(
     }
 }
 
-/// Has an exchange do a task.
+/// Has an exchange do a task, in whatever surroundings. At the types of a desk and its spots the prover gives up on `Exchange::act`, so
+/// this stands apart from `DeskExchanges::act`.
 #[inline(always)]
 fn act_on<P, O: Outside<P>, R: Wait>(
     rt: &R,
