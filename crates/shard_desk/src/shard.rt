@@ -173,8 +173,9 @@ impl<'a, E: Exchanges + Drop, G: Gate> Shard<'a, E, G> {
         }
     }
 
-    /// Reads the header of the connection under this key. `None` where that is whole: its exchange has begun, and is to be driven. The
-    /// connection is closed where it isn't a header, or isn't whole in time; then, and while it isn't whole yet, there is no more to do.
+    /// Reads the header of the connection under this key. `None` where its exchange has begun by that, and is to be driven. Else there is
+    /// no more to do: the header isn't whole yet, or the connection is closed, since that is no header, isn't whole in time or before users
+    /// are let go, its user may not come or has no seat, or no memory was found.
     fn hear<R: Wait + Dial + Clock>(
         &mut self,
         at: &Spot<'_, R, G>,

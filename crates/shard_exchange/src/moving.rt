@@ -59,8 +59,8 @@ impl<H: Holder> Exchange<H> {
         }
     }
 
-    /// A round of turns of the message's transaction. Where the service's connection broke, the request begins anew on a fresh one, or fails
-    /// without one.
+    /// A round of turns of the message's transaction. Where the service's connection broke, the request begins anew on a fresh one, or
+    /// fails without one.
     pub(crate) fn turn<P, R: Wait>(
         &mut self,
         rt: &R,

@@ -69,7 +69,8 @@ fn body_bytes(seen: &Seen) -> u64 {
     offered.saturating_add(delivered)
 }
 
-/// What a turn comes to that answered this. `bodies` is what `body_bytes` says before it, and says after it where bytes moved.
+/// What a turn with this answer comes to. `bodies` is what `body_bytes` said before the turn; where bytes moved, it becomes what that says
+/// now.
 fn after_turn<B: Ledgers, W: Wires>(
     tx: &Running<B, W>,
     answer: TurnAnswer,
