@@ -7,7 +7,7 @@ use Rattle.std.proofs.lemmas.Bool.Decides.{eqb_tells}
 use Rattle.event_loop.specs.declared.ready_list.ReadyList.{ReadyList}
 use Rattle.event_loop.specs.Marks.{is_marked, count}
 use Rattle.event_loop.specs.declared.work.Driven.{Driven}
-use Rattle.event_loop.specs.declared.work.Driven.TheVariants.{Waiting, CutShort, Blocked, Over}
+use Rattle.event_loop.specs.declared.work.Driven.TheVariants.{Waiting, Paused, CutShort, Blocked, Over}
 use Rattle.event_loop.specs.declared.work.Work.{Ghosts as Work}
 use Rattle.event_loop.specs.declared.looping.EventLoop.{EventLoop}
 use Rattle.event_loop.specs.Deeds.{Deed, Adds, has_more, is_end, blocker}
@@ -60,6 +60,7 @@ blocker_more : (other : ℕ) (more deeds : List Deed) → blocker more ≡ Some 
 blocker_more other [] deeds e = absurd (none_some e)
 blocker_more other (Drove key (Blocked it) ∷ more) deeds e = e
 blocker_more other (Drove key Waiting ∷ more) deeds e = absurd (none_some e)
+blocker_more other (Drove key Paused ∷ more) deeds e = absurd (none_some e)
 blocker_more other (Drove key CutShort ∷ more) deeds e = absurd (none_some e)
 blocker_more other (Drove key Over ∷ more) deeds e = absurd (none_some e)
 blocker_more other (TookIn number admitted ∷ more) deeds e = absurd (none_some e)
@@ -226,6 +227,7 @@ on_ok_map (Err e) h p = tt
 -- an exchange that gives way to a driven one changes nothing of who is owed a turn
 way_still : (x : Bool) (k key : ℕ) (driven : Driven) → owes x k (ways driven ++ (Drove key driven ∷ [])) ≡ owes x k (Drove key driven ∷ [])
 way_still x k key Waiting = refl
+way_still x k key Paused = refl
 way_still x k key CutShort = refl
 way_still x k key (Blocked other) = refl
 way_still x k key Over = refl
@@ -233,6 +235,7 @@ way_still x k key Over = refl
 -- no turn ends with a drive, nor where one gives way to it
 way_within : (key : ℕ) (driven : Driven) → ends (ways driven ++ (Drove key driven ∷ [])) ≡ false
 way_within key Waiting = refl
+way_within key Paused = refl
 way_within key CutShort = refl
 way_within key (Blocked other) = refl
 way_within key Over = refl
@@ -240,6 +243,7 @@ way_within key Over = refl
 -- a drive, and then the way that is given to it, may be done in that order
 way_orderly : (key : ℕ) (driven : Driven) → AreOrderly (ways driven ++ (Drove key driven ∷ []))
 way_orderly key Waiting = (tt, tt)
+way_orderly key Paused = (tt, tt)
 way_orderly key CutShort = (tt, tt)
 way_orderly key (Blocked other) = (refl, (tt, tt))
 way_orderly key Over = (tt, tt)

@@ -4,7 +4,7 @@ use Rattle.socket_wire.specs.declared.token.Peer.{Peer}
 use Rattle.event_loop.specs.declared.admin_lines.Request.{Request}
 use Rattle.event_loop.specs.declared.work.Told.{Told}
 use Rattle.event_loop.specs.declared.work.Driven.{Driven}
-use Rattle.event_loop.specs.declared.work.Driven.TheVariants.{Waiting, CutShort, Blocked, Over}
+use Rattle.event_loop.specs.declared.work.Driven.TheVariants.{Waiting, Paused, CutShort, Blocked, Over}
 use Rattle.event_loop.specs.declared.work.Admitted.{Admitted}
 
 -- a call of the work that changes it, with what it answered
@@ -38,10 +38,16 @@ Adds before after deed = (past : List Deed) → before past → after (deed ∷ 
 
 -- there is more to do, once others have had their turn
 abbrev pub has_more : Driven → Bool
+has_more Paused = true
 has_more CutShort = true
 has_more (Blocked other) = true
 has_more Waiting = false
 has_more Over = false
+
+-- it goes on in the same turn of the loop
+abbrev pub is_paused : Driven → Bool
+is_paused Paused = true
+is_paused _ = false
 
 -- a turn ends with this deed
 abbrev pub is_end : Deed → Bool

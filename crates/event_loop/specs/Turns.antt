@@ -7,7 +7,7 @@ use Rattle.socket_wire.specs.Token.{peer_number}
 use Rattle.event_loop.specs.declared.ready_list.ReadyList.{ReadyList}
 use Rattle.event_loop.specs.Marks.{is_marked, count}
 use Rattle.event_loop.specs.declared.work.Driven.{Driven}
-use Rattle.event_loop.specs.declared.work.Driven.TheVariants.{Waiting, CutShort, Blocked, Over}
+use Rattle.event_loop.specs.declared.work.Driven.TheVariants.{Waiting, Paused, CutShort, Blocked, Over}
 use Rattle.event_loop.specs.declared.work.Work.{Ghosts as Work}
 use Rattle.event_loop.specs.declared.work.Admitted.TheVariants.{Seated, Full, Closed}
 use Rattle.event_loop.specs.declared.inbox.Handed.{Handed}
@@ -128,6 +128,7 @@ IsDriven key deeds = (driven : Driven) × Stands (Drove key driven) deeds
 -- one that blocks the driven exchange gives way
 abbrev pub ways : Driven → List Deed
 ways (Blocked other) = GaveWay other ∷ []
+ways Paused = []
 ways CutShort = []
 ways Waiting = []
 ways Over = []

@@ -67,6 +67,8 @@ pub struct EventLoop<K> {
     admin: Askers,
     metrics: Askers,
     ready: ReadyList,
+    /// Those that paused when they were driven last: each has a mark too.
+    paused: ReadyList,
     start: Instant,
     /// The time since the start, in milliseconds.
     elapsed: u64,
@@ -80,12 +82,13 @@ pub struct EventLoop<K> {
 }
 
 /// What a loop needs memory for before its first turn, where so many exchanges may be driven. `Err` if no memory was found.
-fn memory(alloc: Global, keys: usize) -> Result<(Reports, ReadyList), AllocError>
+fn memory(alloc: Global, keys: usize) -> Result<(Reports, ReadyList, ReadyList), AllocError>
     ensures { IfOk result (λ memory. count memory.1 ≡ keys) }
 {
     let reports = Reports::new(alloc)?;
     let ready = ReadyList::new(alloc, keys)?;
-    Ok((reports, ready))
+    let paused = ReadyList::new(alloc, keys)?;
+    Ok((reports, ready, paused))
 }
 
 impl<K: Work> EventLoop<K> {
@@ -95,7 +98,7 @@ impl<K: Work> EventLoop<K> {
         ensures work { IfOk result (λ loop. loop.work ≡ work) }
         ensures back { IfErr result (λ back. back ≡ work) }
     {
-        let Ok((reports, ready)) = memory(alloc, work.bound()) else {
+        let Ok((reports, ready, paused)) = memory(alloc, work.bound()) else {
             drop(base);
             return Err(work);
         };
@@ -106,6 +109,7 @@ impl<K: Work> EventLoop<K> {
             admin: Askers::new(alloc, base.admin, Speech::Lines, 0),
             metrics: Askers::new(alloc, base.metrics, Speech::Http, MAX_ASKERS),
             ready,
+            paused,
             start,
             elapsed: 0,
             complete: false,
@@ -141,6 +145,7 @@ impl<K: Work> EventLoop<K> {
             admin: _,
             metrics: _,
             ready: _,
+            paused: _,
             start: _,
             elapsed: _,
             complete: _,

@@ -2,7 +2,7 @@
 
 ghost use Rattle.std.specs.Prelude.{◌≡◌, ℕ, ◌<◌, List, true, IfSome};
 ghost use Rattle.event_loop.specs.declared.inbox.Handed.{Handed as AnyHanded};
-ghost use Rattle.event_loop.specs.Deeds.{Deed, Adds, has_more};
+ghost use Rattle.event_loop.specs.Deeds.{Deed, Adds, has_more, is_paused};
 ghost use Rattle.event_loop.specs.Deeds.Deed.{TookIn, MadeRoom, Heard, Noted, Drove, GaveWay, Asked, Answered, EndedTurn, Drained, Halted};
 
 use crate::admin_lines::{Question, Request};
@@ -32,7 +32,9 @@ pub struct Told {
 pub enum Driven {
     /// Each of its connections waits for an event.
     Waiting,
-    /// There is more to do: others get their turn first.
+    /// It has taken its steps, and goes on in the same turn of the loop, once others have taken theirs.
+    Paused,
+    /// It has done so much that it goes on in the next turn of the loop.
     CutShort,
     /// There is more to do once the exchange under this other key is ended: its user has ended its bytes, and it has the connection that
     /// this one wants.
@@ -47,9 +49,16 @@ impl Driven {
         ensures { result ≡ has_more self }
     {
         match self {
-            Driven::CutShort | Driven::Blocked(_) => true,
+            Driven::Paused | Driven::CutShort | Driven::Blocked(_) => true,
             Driven::Waiting | Driven::Over => false,
         }
+    }
+
+    /// Whether it goes on in the same turn of the loop.
+    pub fn is_paused(self) -> bool
+        ensures { result ≡ is_paused self }
+    {
+        matches!(self, Driven::Paused)
     }
 }
 

@@ -1,6 +1,8 @@
 -- An exchange that is driven, step by step.
 use Rattle.std.proofs.Common.{◌≡◌, ℕ, ◌+◌, ◌<◌, ◌≤◌, inl, inr, true, cond, List, [], ◌∷◌, ◌++◌, length, refl, ap, sym, ◌∙◌, subst, arith}
-use Rattle.event_loop.specs.declared.work.Driven.TheVariants.{Waiting, CutShort, Blocked, Over}
+use Rattle.std.proofs.lemmas.Bool.Decides.{leb_tells}
+use Rattle.event_loop.specs.declared.work.Driven.{Driven}
+use Rattle.event_loop.specs.declared.work.Driven.TheVariants.{Waiting, Paused, CutShort, Blocked, Over}
 use Rattle.exchange_core.specs.declared.phase.Phase.{Phase}
 use Rattle.shard_exchange.specs.declared.tasks.Task.TheVariants as tasks
 use Rattle.shard_exchange.specs.declared.tasks.Step.{Step}
@@ -48,25 +50,37 @@ drives_blocked before after taken spent other led most = record {
   leads = led.on;
 }
 
--- others get their turn, since so much was done at its connections
+-- it goes on in the next turn, since so much was done at its connections
 pub drives_spent : (before after : List Doing → Type 0) (taken spent : ℕ) → Led before after taken spent → taken ≤ STEPS → ROUNDS ≤ spent
     → Drives before after CutShort
 drives_spent before after taken spent led most much = record {
   doings = led.doings;
   past = led.past;
   most = subst (λ (n : ℕ). n ≤ STEPS) (sym led.many) most;
-  leads = (led.on, inr (subst (λ (n : ℕ). ROUNDS ≤ n) (sym led.rounds_are) much));
+  leads = (led.on, subst (λ (n : ℕ). ROUNDS ≤ n) (sym led.rounds_are) much);
 }
 
--- others get their turn, since so many steps were taken
-pub drives_all : (before after : List Doing → Type 0) (taken spent : ℕ) → Led before after taken spent → taken ≡ STEPS
-    → Drives before after CutShort
-drives_all before after taken spent led all = record {
+-- others take their steps, since so many were taken
+drives_paused : (before after : List Doing → Type 0) (taken spent : ℕ) → Led before after taken spent → taken ≡ STEPS → spent < ROUNDS
+    → Drives before after Paused
+drives_paused before after taken spent led all room = record {
   doings = led.doings;
   past = led.past;
   most = let e = led.many ∙ all in omega (arith, e);
-  leads = (led.on, inl (led.many ∙ all));
+  leads = (led.on, led.many ∙ all, subst (λ (n : ℕ). n < ROUNDS) (sym led.rounds_are) room);
 }
+
+-- it has more to do after all steps of a drive
+pub drives_left : (before after : List Doing → Type 0) (taken spent : ℕ) (driven : Driven) → Led before after taken spent → taken ≡ STEPS
+    → (spent < ROUNDS → driven ≡ Paused) → (ROUNDS ≤ spent → driven ≡ CutShort) → Drives before after driven
+drives_left before after taken spent driven led all paused cut = elim (leb_tells ROUNDS spent) as (λ _. Drives before after driven) [
+  | inl much ↦
+      subst (λ (d : Driven). Drives before after d) (sym (cut much.1))
+      (drives_spent before after taken spent led (omega (arith, all)) much.1)
+  | inr room ↦
+      subst (λ (d : Driven). Drives before after d) (sym (paused room.1))
+      (drives_paused before after taken spent led all room.1)
+]
 
 -- its user is lost
 pub drives_lost : (before mid after : List Doing → Type 0) (taken spent : ℕ) (phase : Phase) (step : Step) → Led before mid taken spent

@@ -1,7 +1,7 @@
 -- What an exchange does in a drive, and what that leads to.
 use Rattle.std.specs.Prelude.{◌≡◌, ℕ, ◌+◌, ◌/◌, ◌<◌, ◌≤◌, ◌⊎◌, ⊤, Bool, true, false, cond, length, List, [], ◌∷◌, ◌++◌}
 use Rattle.event_loop.specs.declared.work.Driven.{Driven}
-use Rattle.event_loop.specs.declared.work.Driven.TheVariants.{Waiting, CutShort, Blocked, Over}
+use Rattle.event_loop.specs.declared.work.Driven.TheVariants.{Waiting, Paused, CutShort, Blocked, Over}
 use Rattle.exchange_core.specs.declared.phase.Phase.{Phase}
 use Rattle.exchange_core.specs.declared.phase.Phase.TheVariants.{Planning, Preparing, AtGate}
 use Rattle.shard_exchange.specs.declared.tasks.Task.{Task}
@@ -61,14 +61,12 @@ pub record EndsWith (task : Task) (step : Step) (doings : List Doing) : Type 0 w
   pub may : task ≡ tasks.Step → MayStep phase before
   pub on : LeadOn before
 
--- the exchange had no more of its turn: so many steps were taken, or so much was done at its connections
-abbrev pub IsSpent : List Doing → Type 0
-IsSpent doings = (length doings ≡ STEPS) ⊎ (ROUNDS ≤ rounds doings)
-
--- these lead to this answer: it waits exactly where the last step waited, and others get their turn only where it had its own
+-- these lead to this answer: it waits exactly where the last step waited, and it pauses only where it has taken all steps of a drive. Where as
+-- much was done at its connections as a turn has, it is cut short, and never else
 abbrev pub LeadTo : Driven → List Doing → Type 0
 LeadTo Waiting doings = EndsWith tasks.Step steps.Waits doings
-LeadTo CutShort doings = LeadOn doings × IsSpent doings
+LeadTo Paused doings = LeadOn doings × (length doings ≡ STEPS) × (rounds doings < ROUNDS)
+LeadTo CutShort doings = LeadOn doings × (ROUNDS ≤ rounds doings)
 LeadTo (Blocked other) doings = LeadOn doings
 LeadTo Over doings = EndsWith tasks.Step steps.Over doings ⊎ ((step : Step) × EndsWith tasks.Lose step doings)
 

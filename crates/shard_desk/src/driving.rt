@@ -20,15 +20,15 @@ use std::time::Clock;
 use trace_core::Point;
 use wire_kit::Gate;
 
-/// Once an exchange has done so much at its connections, in steps that move bodies, others get their turn. Each is one round of a
-/// transaction's turns at most.
-const ROUNDS: u64 = 8;
+/// An exchange that has done so much at its connections in a drive, in steps that move bodies, goes on in the next turn of its loop. Each
+/// is one round of a transaction's turns at most.
+const ROUNDS: u64 = 4;
 
 /// This many bytes that moved and are no body's, as heads and what frames a body, take as long as a step that moves a body.
 const FRAMING: u64 = 256;
 
-/// The most steps of an exchange before others get their turn, with those that are made without its connections.
-const STEPS: u32 = 64;
+/// The most steps of an exchange before others take theirs, with those that are made without its connections.
+const STEPS: u32 = 2;
 
 /// What a user's connection is in the midst of, as far as it may be spared.
 fn stay_of(phase: Phase) -> Stay {
@@ -80,6 +80,18 @@ impl Happened {
         ensures room { result ≡ false → is_round phase ≡ true → self.now.rounds < ROUNDS }
     {
         is_round(phase) && self.rounds >= ROUNDS
+    }
+
+    /// How far an exchange came that has more to do after its last step: it goes on in this turn, or has done too much for that.
+    fn unfinished(&self) -> Driven
+        ensures paused { self.now.rounds < ROUNDS → result ≡ Driven.Paused }
+        ensures spent { ROUNDS ≤ self.now.rounds → result ≡ Driven.CutShort }
+    {
+        if self.rounds < ROUNDS {
+            Driven::Paused
+        } else {
+            Driven::CutShort
+        }
     }
 
     /// Counts a step at a connection.
@@ -236,7 +248,7 @@ pub(crate) fn drive_on<E: Exchanges, R: Wait + Dial + Clock, G: Gate>(
             Step::Over => return Driven::Over,
         }
     }
-    Driven::CutShort
+    noted.unfinished()
 }
 
 /// Has the user of an exchange take its refusal at a stop, and drops what it still sends. `Over` where it is gone, or sends no more: then

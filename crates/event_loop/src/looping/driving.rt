@@ -1,6 +1,6 @@
 //! Which exchanges a loop drives in a turn.
 
-ghost use Rattle.std.specs.Prelude.{◌≡◌, ◌<◌, [], ◌∷◌, ℕ, true, OnOk};
+ghost use Rattle.std.specs.Prelude.{◌≡◌, ◌<◌, [], ◌∷◌, ℕ, true, OnOk, ⊤};
 ghost use Rattle.event_loop.specs.Marks.{is_marked};
 ghost use Rattle.event_loop.specs.Deeds.Deed.{Drove};
 ghost use Rattle.event_loop.specs.Turns.{Works, Does, Did, Drives, Gets, IsDriven, IsAsked, ways};
@@ -11,6 +11,10 @@ use socket_wire::Dial;
 use std::io;
 use std::sync::Wait;
 use std::time::Clock;
+
+/// How often a turn goes round those that have more to do. Each takes a few steps at a time: so the same step of many exchanges is made
+/// one after another, while a processor's caches have what it needs.
+const PASSES: u32 = 5;
 
 impl<K: Work> EventLoop<K> {
     /// Drives an exchange at the moment that was read last, and marks it if others get their turn first.
@@ -23,6 +27,11 @@ impl<K: Work> EventLoop<K> {
         if driven.has_more() {
             self.ready.add(key);
         }
+        if driven.is_paused() {
+            self.paused.add(key);
+        } else {
+            self.paused.take(key);
+        }
         driven
     }
 
@@ -34,7 +43,7 @@ impl<K: Work> EventLoop<K> {
         let now = self.now();
         match driven {
             Driven::Blocked(other) => self.work.give_way(rt, self.poll.registry(), other, now),
-            Driven::CutShort | Driven::Waiting | Driven::Over => {}
+            Driven::Paused | Driven::CutShort | Driven::Waiting | Driven::Over => {}
         }
     }
 
@@ -84,10 +93,10 @@ impl<K: Work> EventLoop<K> {
         Ok(())
     }
 
-    /// Drives those that have a mark: an event was news for them, or they were cut short. One that is cut short again has its next turn
-    /// after the next poll. The first goes on at the moment that was read last, as the turn began; before each further one the clock is read.
+    /// Drives those that have a mark: an event was news for them, or they were cut short. Each has one drive. The first goes on at the moment
+    /// that was read last, as the turn began; before each further one the clock is read.
     #[inline(always)]
-    pub(super) fn drive_ready<R: Wait + Dial + Clock>(&mut self, rt: &R) -> io::Result<()>
+    fn drive_marked<R: Wait + Dial + Clock>(&mut self, rt: &R) -> io::Result<()>
         ensures { Did K.Work self.old self.new (λ deeds. OnOk result ((key : ℕ)
             → is_marked self.old.ready key ≡ true → IsDriven key deeds)) }
     {
@@ -104,6 +113,38 @@ impl<K: Work> EventLoop<K> {
             }
         }
         self.ready.look();
+        Ok(())
+    }
+
+    /// Drives on those that paused, once each. Before each the clock is read.
+    fn drive_paused<R: Wait + Dial + Clock>(&mut self, rt: &R) -> io::Result<()>
+        ensures { Did K.Work self.old self.new (λ deeds. ⊤) }
+    {
+        if self.paused.is_empty() {
+            return Ok(());
+        }
+        for key in self.paused.low()..self.paused.high() {
+            if self.paused.has(key) {
+                self.read_clock(rt)?;
+                self.ready.take(key);
+                self.drive_now(rt, key);
+            }
+        }
+        self.paused.look();
+        self.ready.look();
+        Ok(())
+    }
+
+    /// Drives those that have a mark, and goes round those of them that pause. One that is cut short, or pauses in the last pass, goes on in
+    /// the next turn, before which no time is waited.
+    pub(super) fn drive_ready<R: Wait + Dial + Clock>(&mut self, rt: &R) -> io::Result<()>
+        ensures { Did K.Work self.old self.new (λ deeds. OnOk result ((key : ℕ)
+            → is_marked self.old.ready key ≡ true → IsDriven key deeds)) }
+    {
+        self.drive_marked(rt)?;
+        for _pass in 1..PASSES {
+            self.drive_paused(rt)?;
+        }
         Ok(())
     }
 

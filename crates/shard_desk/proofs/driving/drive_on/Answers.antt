@@ -1,7 +1,7 @@
 -- Each step leads on, or to the answer.
 use Rattle.std.proofs.Common.{◌≡◌, ◌+◌, ℕ, true, sym, ap, subst, inl, inr, arith}
 use Rattle.shard_desk.specs.Driving.{leads_on}
-use Rattle.shard_desk.proofs.Led.{Led, led_none, led_more, drives_blocked, drives_spent, drives_all, drives_lost, drives_waiting}
+use Rattle.shard_desk.proofs.Led.{Led, led_none, led_more, drives_blocked, drives_spent, drives_left, drives_lost, drives_waiting}
 use Rattle.shard_desk.proofs.Led.{drives_over}
 use Rattle.shard_desk.proofs.driving.drive_on.Goals as goal
 
@@ -63,5 +63,6 @@ pub returns-clause-drives : goal.returns-clause-drives
 returns-clause-drives g c =
     let most = c.loop-taken.auto._taken-end in
     let last = c.loop-taken-test.false in
-    drives_all (g.E.Exchange.Slotted.past c.args.exchange.now) (g.E.Exchange.Slotted.past c.loop-taken.exchange)
-    c.loop-taken._taken c.loop-taken.noted.rounds c.loop-taken.invariant (omega (arith, most, last))
+    drives_left (g.E.Exchange.Slotted.past c.args.exchange.now) (g.E.Exchange.Slotted.past c.loop-taken.exchange)
+    c.loop-taken._taken c.loop-taken.noted.rounds _ c.loop-taken.invariant (omega (arith, most, last)) c.unfinished.ensures.paused
+    c.unfinished.ensures.spent

@@ -1,21 +1,13 @@
--- One marked exchange after another is driven.
-use Rattle.std.proofs.Common.{refl, sym, ◌∙◌}
-use Rattle.event_loop.proofs.Turning.{did_start, ready_start, ready_driven, ready_still}
+-- Each is driven in the first pass, and what further ones do comes after that.
+use Rattle.event_loop.proofs.Turning.{did_then, did_and, did_fail, driven_more}
 use Rattle.event_loop.proofs.looping.EventLoop.drive_ready.Goals as goal
-use Rattle.event_loop.proofs.looping.EventLoop.drive_ready.Goals.{then-has+in_ok-read_clock_after, else-has}
 
-pub loop-key-init : goal.loop-key-init
-loop-key-init g c = did_start g.K.Work c.args.self.now (ready_start c.args.self.now.ready c.low-key.result c.low-key.ensures)
+pub loop-pass-preserved : goal.loop-pass-preserved
+loop-pass-preserved g c =
+    did_then g.K.Work c.args.self.now c.loop-pass.self c.drive_paused.new.self c.loop-pass.invariant c.drive_paused.ensures
+    (λ first second f d tied p q key was. driven_more key second (p key was))
 
-pub loop-key-preserved : goal.loop-key-preserved
-loop-key-preserved g c =
-    elim c.if-has.branch [
-      | then-has+in_ok-read_clock_after w ↦
-          rw w.self-is
-          (ready_driven g.K.Work c.args.self.now c.loop-key.self w.read_clock_after.new.self _ w.drive_now.new.self c.loop-key.key
-          c.loop-key.invariant
-          w.read_clock_after.ensures refl refl w.take.ensures.count w.take.ensures.others w.drive_now.ensures)
-      | else-has w ↦
-          rw w.self-is
-          (ready_still g.K.Work c.args.self.now c.loop-key.self c.loop-key.key c.loop-key.invariant (sym c.has.ensures ∙ w.if-has.false))
-    ]
+pub returns-in_err-drive_paused : goal.returns-in_err-drive_paused
+returns-in_err-drive_paused g c =
+    did_fail g.K.Work c.args.self.now c.drive_paused.new.self _ c.from_residual-in_err-drive_paused.result c.from_residual-in_err-drive_paused.ensures.0
+    (did_and g.K.Work c.args.self.now c.loop-pass.self c.drive_paused.new.self c.loop-pass.invariant c.drive_paused.ensures)
