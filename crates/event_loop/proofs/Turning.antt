@@ -615,9 +615,3 @@ ready_over w a b c n did all work marked reports =
       holds = λ tied key was.
           (did.holds tied key was).1 (all key was);
     }
-
--- nobody gives way to a drive that was cut short, waits or is over
-pub no_way : (driven : Driven) → (driven ≡ CutShort) ⊎ ((driven ≡ Waiting) ⊎ (driven ≡ Over)) → [] ≡ ways driven
-no_way driven (inl e) = rw e refl
-no_way driven (inr (inl e)) = rw e refl
-no_way driven (inr (inr e)) = rw e refl

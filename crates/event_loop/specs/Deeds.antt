@@ -44,7 +44,7 @@ has_more (Blocked other) = true
 has_more Waiting = false
 has_more Over = false
 
--- it goes on in the same turn of the loop
+-- it goes on once others have taken their steps
 abbrev pub is_paused : Driven → Bool
 is_paused Paused = true
 is_paused _ = false

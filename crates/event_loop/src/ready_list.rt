@@ -4,7 +4,7 @@ ghost use Rattle.std.specs.Prelude.{◌≡◌, ◌<◌, ◌≤◌, ◌-◌, ℕ,
 
 use std::alloc::{AllocError, Global};
 
-/// The exchanges that are owed a turn: an event was news for them, or they were cut short so that others get theirs. An
+/// The exchanges that are owed a turn: an event was news for them, or they have more to do once others had theirs. An
 /// edge-triggered poll reports nothing twice, so they are driven on before the next wait. There is a mark for each key from the
 /// start, so that no memory is needed later.
 #[derive(Drop)]

@@ -32,9 +32,9 @@ pub struct Told {
 pub enum Driven {
     /// Each of its connections waits for an event.
     Waiting,
-    /// It has taken its steps, and goes on in the same turn of the loop, once others have taken theirs.
+    /// It has taken its steps, and goes on once others have taken theirs: in the same turn of the loop, while that has a pass left.
     Paused,
-    /// It has done so much that it goes on in the next turn of the loop.
+    /// It has done so much that it goes on in the next turn of the loop only.
     CutShort,
     /// There is more to do once the exchange under this other key is ended: its user has ended its bytes, and it has the connection that
     /// this one wants.
@@ -54,7 +54,7 @@ impl Driven {
         }
     }
 
-    /// Whether it goes on in the same turn of the loop.
+    /// Whether it goes on once others have taken their steps.
     pub fn is_paused(self) -> bool
         ensures { result ≡ is_paused self }
     {

@@ -61,8 +61,8 @@ pub record EndsWith (task : Task) (step : Step) (doings : List Doing) : Type 0 w
   pub may : task ≡ tasks.Step → MayStep phase before
   pub on : LeadOn before
 
--- these lead to this answer: it waits exactly where the last step waited, and it pauses only where it has taken all steps of a drive. Where as
--- much was done at its connections as a turn has, it is cut short, and never else
+-- these lead to this answer: it waits exactly where the last step waited; it pauses only where it has taken all steps of a drive, and done
+-- less at its connections than a drive may; and it is cut short only where it has done as much
 abbrev pub LeadTo : Driven → List Doing → Type 0
 LeadTo Waiting doings = EndsWith tasks.Step steps.Waits doings
 LeadTo Paused doings = LeadOn doings × (length doings ≡ STEPS) × (rounds doings < ROUNDS)

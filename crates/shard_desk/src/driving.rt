@@ -20,8 +20,8 @@ use std::time::Clock;
 use trace_core::Point;
 use wire_kit::Gate;
 
-/// An exchange that has done so much at its connections in a drive, in steps that move bodies, goes on in the next turn of its loop. Each
-/// is one round of a transaction's turns at most.
+/// An exchange that has done so much at its connections in a drive, in steps that move bodies, goes on in the next turn of its loop only.
+/// Each is one round of a transaction's turns at most.
 const ROUNDS: u64 = 4;
 
 /// This many bytes that moved and are no body's, as heads and what frames a body, take as long as a step that moves a body.
@@ -74,7 +74,7 @@ struct Happened {
 impl Happened {
     ghost use Rattle.shard_desk.specs.Driving.{weight};
 
-    /// Whether others should get their turn before a step in this phase. False where that isn't one at a connection.
+    /// Whether a step in this phase has to wait for the next turn of the loop. False where that isn't one at a connection.
     fn is_spent(&self, phase: Phase) -> bool
         ensures spent { result ≡ true → ROUNDS ≤ self.now.rounds }
         ensures room { result ≡ false → is_round phase ≡ true → self.now.rounds < ROUNDS }
@@ -82,7 +82,7 @@ impl Happened {
         is_round(phase) && self.rounds >= ROUNDS
     }
 
-    /// How far an exchange came that has more to do after its last step: it goes on in this turn, or has done too much for that.
+    /// How far an exchange came that has more to do after the last step of a drive: it pauses, or has done too much for that.
     fn unfinished(&self) -> Driven
         ensures paused { self.now.rounds < ROUNDS → result ≡ Driven.Paused }
         ensures spent { ROUNDS ≤ self.now.rounds → result ≡ Driven.CutShort }

@@ -12,9 +12,9 @@ use std::io;
 use std::sync::Wait;
 use std::time::Clock;
 
-/// How often a turn goes round those that have more to do. Each takes a few steps at a time: so the same step of many exchanges is made
-/// one after another, while a processor's caches have what it needs.
-const PASSES: u32 = 5;
+/// The most passes of a turn: one over all that have a mark, and then those over the ones that pause. Each exchange takes a few steps at a
+/// time: so the same step of many is made one after another, while a processor's caches have what it needs.
+const PASSES: u32 = 4;
 
 impl<K: Work> EventLoop<K> {
     /// Drives an exchange at the moment that was read last, and marks it if others get their turn first.
@@ -57,7 +57,7 @@ impl<K: Work> EventLoop<K> {
     }
 
     /// Drives an exchange, unless it has a mark: then it is driven with all that have one, before any time is waited. So others wait for
-    /// one drive of an exchange that has much to do.
+    /// one drive of an exchange that has much to do, in each pass.
     pub(super) fn drive<R: Wait + Dial + Clock>(&mut self, rt: &R, key: usize) -> io::Result<()>
         ensures { Did K.Work self.old self.new (λ deeds. OnOk result (Gets key deeds self.new.ready)) }
     {
@@ -93,8 +93,8 @@ impl<K: Work> EventLoop<K> {
         Ok(())
     }
 
-    /// Drives those that have a mark: an event was news for them, or they were cut short. Each has one drive. The first goes on at the moment
-    /// that was read last, as the turn began; before each further one the clock is read.
+    /// Drives those that have a mark, once each: an event was news for them, or they have more to do. The first goes on at the moment that
+    /// was read last, as the turn began; before each further one the clock is read.
     #[inline(always)]
     fn drive_marked<R: Wait + Dial + Clock>(&mut self, rt: &R) -> io::Result<()>
         ensures { Did K.Work self.old self.new (λ deeds. OnOk result ((key : ℕ)
