@@ -9,5 +9,6 @@ loop-pass-preserved g c =
 
 pub returns-in_err-drive_paused : goal.returns-in_err-drive_paused
 returns-in_err-drive_paused g c =
-    did_fail g.K.Work c.args.self.now c.drive_paused.new.self _ c.from_residual-in_err-drive_paused.result c.from_residual-in_err-drive_paused.ensures.0
+    did_fail g.K.Work c.args.self.now c.drive_paused.new.self _ c.from_residual-in_err-drive_paused.result
+    c.from_residual-in_err-drive_paused.ensures.0
     (did_and g.K.Work c.args.self.now c.loop-pass.self c.drive_paused.new.self c.loop-pass.invariant c.drive_paused.ensures)
