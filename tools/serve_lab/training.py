@@ -1,0 +1,99 @@
+"""What `adaptproxy` is asked while it counts itself, for tools/tune_program: users at once, who ask for what users mostly ask for. Each
+scene is a run of the program. The shares decide what is compiled as often used; the bytes are checked, so that nothing broken is
+counted."""
+import os
+import threading
+
+from serve_lab.loopback import Closed, Icap, Origin, Proxy, Reader, User, body_of, fields_of
+
+USERS = 16
+PREVIEW = [b"Preview: 1024", b"Transfer-Preview: *"]
+WIDER = "turn = 16384\nwindow = 32768\n"
+KEPT = "keep_origins = 64\n"
+
+
+class KeptOrigin(Origin):
+    """An origin that keeps its connections."""
+
+    def exchange(self, conn, _number):
+        reader = Reader(conn)
+        while self.one_of(conn, reader):
+            pass
+
+
+def get(path):
+    return b"GET http://o.test%s HTTP/1.1\r\nHost: o.test\r\nUser-Agent: a user\r\nAccept: */*\r\n\r\n" % path.encode()
+
+
+def post(path, body):
+    return b"POST http://o.test%s HTTP/1.1\r\nHost: o.test\r\nContent-Length: %d\r\n\r\n%s" % (path.encode(), len(body), body)
+
+
+def same(conn, reader, head, _count):
+    """The service answers with the message as it came, after the whole of it."""
+    heads, body, last = Icap.rest(reader, head)
+    fields = fields_of(head)
+    if "preview" in fields and b"ieof" not in last:
+        conn.sendall(b"ICAP/1.0 100 Continue\r\n\r\n")
+        body += reader.chunked()[0]
+    Icap.same(conn, fields, heads, body, last)
+
+
+class Asking:
+    """Users who ask for the same again and again, each on its own connection."""
+
+    def __init__(self, port, request, body, count, users=USERS):
+        self.port, self.request, self.body, self.count = port, request, body, count
+        self.faults = []
+        threads = [threading.Thread(target=self.ask, daemon=True) for _ in range(users)]
+        for thread in threads:
+            thread.start()
+        for thread in threads:
+            thread.join()
+        if self.faults:
+            raise self.faults[0]
+
+    def ask(self):
+        try:
+            user = User(self.port)
+            for _ in range(self.count):
+                answer = user.ask(self.request)
+                if (answer.status, answer.body) != (200, self.body):
+                    raise AssertionError("status %d, %d bytes" % (answer.status, len(answer.body)))
+            user.close()
+        except (AssertionError, Closed, OSError) as fault:
+            self.faults.append(fault)
+
+
+class Runs:
+    """Runs of a program, each of which writes what it counted to a file of its own."""
+
+    def __init__(self, path, folder):
+        self.path, self.folder, self.files = path, folder, []
+
+    def proxy(self, origin, text="", services=()):
+        self.files.append(os.path.join(self.folder, "run%d" % len(self.files)))
+        os.environ["PROFILE"] = self.files[-1]
+        return Proxy(self.path, origin.port, "shards = 1\n" + text, services)
+
+
+def train(runs):
+    """Short answers most of all: with a service that leaves them as they are, and with none."""
+    fresh, kept = Origin(), KeptOrigin()
+    leaves, changes = Icap(options=PREVIEW), Icap(same, PREVIEW)
+    respmod = [("respmod", leaves.port, "/respmod", USERS)]
+    both = [(point, changes.port, "/" + point, USERS) for point in ("reqmod", "respmod")]
+    short, page, long = body_of(1000), body_of(20_000), body_of(64_000)
+    for origin, text, services, request, body, count in (
+            (fresh, "", respmod, get("/bytes/1000"), short, 100),
+            (kept, KEPT, respmod, get("/bytes/1000"), short, 100),
+            (fresh, "", (), get("/bytes/1000"), short, 60),
+            (kept, KEPT, respmod, get("/chunked/20000"), page, 20),
+            (fresh, "", both, post("/echo", page), page, 10),
+            (fresh, WIDER, (), get("/bytes/64000"), long, 20),
+            (kept, KEPT + WIDER, respmod, get("/bytes/64000"), long, 20)):
+        proxy = runs.proxy(origin, text, services)
+        Asking(proxy.port, request, body, count)
+        proxy.stop()
+    for server in (fresh, kept, leaves, changes):
+        server.close()
