@@ -9,7 +9,7 @@ PREFIX ?= /usr/local
 help: ## lists the targets
 	@grep -E '^[a-z-]+:.*##' Makefile | sed 's/:.*## /	/'
 
-build: ## proves and builds the programs, and leaves them under bin/: half an hour on four processors
+build: ## proves and builds the programs, the proxy by what it counts of itself, and leaves them under bin/: half an hour on four processors; UNTUNED=1 without the counting
 	@tools/check_kit write
 	@tools/prove_programs adaptproxy icapd
 
