@@ -1,4 +1,5 @@
 pub mod HistoryLemmas
 pub mod JournalLemmas
+pub mod LendingLemmas
 pub mod PickLemmas
 pub mod StepLemmas

@@ -1,7 +1,14 @@
+pub mod Books
+pub mod Calls
 pub mod Faults
 pub mod History
 pub mod Journal
+pub mod Latest
 pub mod Leased
 pub mod Leasing
+pub mod Lending
+pub mod Limits
+pub mod Pauses
 pub mod Pooled
 pub mod Replay
+pub mod Waiting

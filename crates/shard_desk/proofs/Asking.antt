@@ -1,14 +1,14 @@
 -- What a connector that began with no act was asked last, once it lent a connection or put one back.
 use Rattle.std.specs.Prelude.{IfOk, IfErr}
 use Rattle.std.proofs.Common.{◌≡◌, ℕ, inl, inr, [], Some, None, Result, Ok, Err, subst}
-use Rattle.service_lines.specs.declared.connector.Act.TheVariants.{Opened}
-use Rattle.service_lines.specs.declared.connector.LendFault.{LendFault}
-use Rattle.service_lines.specs.declared.connector.LendFault.TheVariants.{Busy, Unreached, NoMemory, Paused}
-use Rattle.service_lines.specs.declared.latest.Latest.{Latest}
-use Rattle.service_lines.specs.declared.leased.Leased.{Leased}
-use Rattle.service_lines.specs.declared.leased.LeasedConnection.{LeasedConnection}
-use Rattle.service_lines.specs.Latest.{IsLatest}
-use Rattle.service_lines.specs.Lending.{Lends, Reopens, PutsBack}
+use Rattle.service_pool.specs.declared.connector.Act.TheVariants.{Opened}
+use Rattle.service_pool.specs.declared.connector.LendFault.{LendFault}
+use Rattle.service_pool.specs.declared.connector.LendFault.TheVariants.{Busy, Unreached, NoMemory, Paused}
+use Rattle.service_pool.specs.declared.latest.Latest.{Latest}
+use Rattle.service_pool.specs.declared.leased.Leased.{Leased}
+use Rattle.service_pool.specs.declared.leased.LeasedConnection.{LeasedConnection}
+use Rattle.service_pool.specs.Latest.{IsLatest}
+use Rattle.service_pool.specs.Lending.{Lends, Reopens, PutsBack}
 use Rattle.shard_desk.specs.Asked.{LendsBy, FailsBy, PutsBy, laid, closed, unkept}
 
 -- a connection that was lent was looked at and brought into use last, or opened

@@ -4,7 +4,7 @@ use Rattle.trace_core.specs.declared.history.Point.{Point}
 use Rattle.trace_core.specs.declared.history.Point.TheVariants.{Reqmod, Respmod}
 use Rattle.options_book.specs.Options.{Options}
 use Rattle.proxy_config.specs.declared.point.ServicePoint.{ServicePoint}
-use Rattle.service_lines.specs.declared.book.PointBook.{PointBook}
+use Rattle.service_pool.specs.declared.book.PointBook.{PointBook}
 use Rattle.shard_desk.specs.Books.{book_at, Keeps, KeepsAt}
 
 -- it changes the book of requests alone

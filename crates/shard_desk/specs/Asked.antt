@@ -1,11 +1,11 @@
 -- What an exchange's connector was asked last, where a connection to a service is lent or put back.
 use Rattle.std.specs.Prelude.{◌≡◌, ℕ, ◌<◌, ◌⊎◌, Bool, true, false, ⊤, Some, None}
-use Rattle.service_lines.specs.declared.connector.Act.TheVariants.{Opened, Looked, Resumed, Checked, Rested, Closed}
-use Rattle.service_lines.specs.declared.connector.LendFault.{LendFault}
-use Rattle.service_lines.specs.declared.connector.LendFault.TheVariants.{Busy, Paused}
-use Rattle.service_lines.specs.declared.latest.Latest.{Latest}
-use Rattle.service_lines.specs.declared.leased.Leased.{Leased}
-use Rattle.service_lines.specs.Lending.{is_reused, IsYoung}
+use Rattle.service_pool.specs.declared.connector.Act.TheVariants.{Opened, Looked, Resumed, Checked, Rested, Closed}
+use Rattle.service_pool.specs.declared.connector.LendFault.{LendFault}
+use Rattle.service_pool.specs.declared.connector.LendFault.TheVariants.{Busy, Paused}
+use Rattle.service_pool.specs.declared.latest.Latest.{Latest}
+use Rattle.service_pool.specs.declared.leased.Leased.{Leased}
+use Rattle.service_pool.specs.Lending.{is_reused, IsYoung}
 
 -- an idle connection was looked at, and found fit for use, before it was brought into use; at this moment it had lain idle for fewer
 -- seconds than one may, with the thread of this number

@@ -5,8 +5,8 @@ use Rattle.trace_core.specs.declared.history.Point.TheVariants.{Reqmod, Respmod}
 use Rattle.options_book.specs.Options.{Options, most_connections}
 use Rattle.proxy_config.specs.declared.point.ServicePoint.{ServicePoint}
 use Rattle.proxy_rules.specs.Pools.{maximum_of}
-use Rattle.service_lines.specs.Limits.{IsSetTo}
-use Rattle.service_lines.specs.declared.book.PointBook.{PointBook}
+use Rattle.service_pool.specs.Limits.{IsSetTo}
+use Rattle.service_pool.specs.declared.book.PointBook.{PointBook}
 
 -- what the service of a point said, of these two
 abbrev pub book_at : (requests responses : PointBook) → Point → PointBook

@@ -2,8 +2,8 @@
 use Rattle.std.specs.Prelude.{Bool, false}
 use Rattle.exchange_report.specs.declared.reason.Reason.{Reason}
 use Rattle.exchange_report.specs.declared.reason.Reason.TheVariants.{ServiceRefused, ServiceStatus, ServiceBroken, ServiceDeadline}
-use Rattle.service_lines.specs.declared.breaker.ServiceEnd.{ServiceEnd}
-use Rattle.service_lines.specs.declared.breaker.ServiceEnd.TheVariants.{Answered, Failed, Untold}
+use Rattle.service_pool.specs.declared.breaker.ServiceEnd.{ServiceEnd}
+use Rattle.service_pool.specs.declared.breaker.ServiceEnd.TheVariants.{Answered, Failed, Untold}
 
 -- refused, broken or late; one that answers with a status that isn't taken has answered
 abbrev pub end_for : Reason → ServiceEnd

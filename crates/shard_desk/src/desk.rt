@@ -25,7 +25,7 @@ use plan_rules::Limits;
 use proxy_config::Config;
 use proxy_header::Reading;
 use proxy_rules::limits_of;
-use service_lines::{Latest, POINTS, PointBook};
+use service_pool::{Latest, POINTS, PointBook};
 use shard_report::{Count, Dealing};
 use socket_wire::UserWire;
 use std::alloc::{AllocError, Global};

@@ -1,11 +1,11 @@
 //! How a connection to a peer is opened over a socket.
 
 ghost use Rattle.std.specs.Prelude.{◌≡◌, Some, Ok, IfOk, IfErr};
-ghost use Rattle.service_lines.specs.Lending.{IsOwn};
+ghost use Rattle.service_pool.specs.Lending.{IsOwn};
 
 use crate::seats::Seats;
 use mio::Registry;
-use service_lines::LendFault;
+use service_pool::LendFault;
 use socket_wire::{Called, Dial, Readiness, Role, SocketWire, Stream};
 use std::io;
 use std::net::SocketAddrV4;

@@ -15,7 +15,7 @@ use crate::spot::Spot;
 use event_loop::{Closing, close_turn};
 use plan_rules::Limits;
 use proxy_config::Config;
-use service_lines::Leased;
+use service_pool::Leased;
 use shard_exchange::Lingered;
 use shard_message::{Clocked, Kinds, Outside, ThreadSettings, UserEnd};
 use socket_wire::{Dial, OriginWire, ServiceWire, UserWire};

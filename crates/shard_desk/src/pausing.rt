@@ -10,7 +10,7 @@ use crate::shared::Shares;
 use crate::words::evidence_of;
 use adapt_turn::Outcome;
 use exchange_report::{Reason, Why};
-use service_lines::{POINTS, ServiceEnd};
+use service_pool::{POINTS, ServiceEnd};
 use shard_message::MessageEnd;
 use shard_report::failed_word;
 use std::sync::Wait;

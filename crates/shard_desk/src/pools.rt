@@ -2,8 +2,8 @@
 
 ghost use Rattle.std.specs.Prelude.{◌≡◌, ◌↔◌, true, Some, Ok, IfSome};
 ghost use Rattle.proxy_config.specs.declared.config.Config.{Config as AnyConfig};
-ghost use Rattle.service_lines.specs.Latest.{IsLatest};
-ghost use Rattle.service_lines.specs.Lending.{fault_in};
+ghost use Rattle.service_pool.specs.Latest.{IsLatest};
+ghost use Rattle.service_pool.specs.Lending.{fault_in};
 
 use crate::dials::dial;
 use crate::lines::{IdleLine, SinceLaid};
@@ -11,7 +11,7 @@ use crate::seats::Seats;
 use crate::shared::Shares;
 use event_loop::{IdlePermit, Inbox, Room};
 use mio::Registry;
-use service_lines::{Act, Connector, Edge, Keeper, Latest, LendFault, Waiting};
+use service_pool::{Act, Connector, Edge, Keeper, Latest, LendFault, Waiting};
 use socket_wire::{Dial, Peer, ServiceWire, Unread};
 use std::net::SocketAddrV4;
 use std::sync::Arc;
@@ -116,7 +116,7 @@ impl<'a> Edge for Loops<'a> {
 }
 
 /// The connections to services of both points, which all threads share.
-pub type SharedPools<'a, Q, A> = service_lines::Pools<'a, Loops<'a>, Q, A>;
+pub type SharedPools<'a, Q, A> = service_pool::Pools<'a, Loops<'a>, Q, A>;
 
 /// The connections to services of both points, and those who wait for one.
 pub fn pools_of<S: Shares>(shared: &S) -> SharedPools<'_, S::Requests, S::Responses>

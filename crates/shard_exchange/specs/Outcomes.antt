@@ -22,8 +22,8 @@ use Rattle.exchange_core.specs.Dues.{fails_of}
 use Rattle.adapt_sides.specs.declared.fault.RelayFault.{RelayFault}
 use Rattle.http_side.specs.declared.fault.HttpFault.{HttpFault}
 use Rattle.icap_head.specs.Heads.{Response}
-use Rattle.service_lines.specs.declared.connector.LendFault.{LendFault}
-use Rattle.service_lines.specs.declared.connector.LendFault.TheVariants.{Busy}
+use Rattle.service_pool.specs.declared.connector.LendFault.{LendFault}
+use Rattle.service_pool.specs.declared.connector.LendFault.TheVariants.{Busy}
 use Rattle.wire_kit.specs.Past.{Past}
 use Rattle.exchange_report.specs.Reasons.{cause_of}
 use Rattle.exchange_report.specs.declared.reason.Reason.{Reason}

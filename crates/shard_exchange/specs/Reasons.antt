@@ -15,8 +15,8 @@ use Rattle.options_book.specs.declared.faults.OptFault.{OptFault}
 use Rattle.options_book.specs.declared.faults.OptFault.TheVariants as record_faults
 use Rattle.span_bank.specs.declared.step.OpenFault.{OpenFault}
 use Rattle.span_bank.specs.declared.step.OpenFault.TheVariants as open_faults
-use Rattle.service_lines.specs.declared.connector.LendFault.{LendFault}
-use Rattle.service_lines.specs.declared.connector.LendFault.TheVariants as lending
+use Rattle.service_pool.specs.declared.connector.LendFault.{LendFault}
+use Rattle.service_pool.specs.declared.connector.LendFault.TheVariants as lending
 use Rattle.shard_exchange.specs.declared.answers.Unplanned.{Unplanned}
 use Rattle.shard_exchange.specs.declared.answers.Unplanned.TheVariants as unplanned
 

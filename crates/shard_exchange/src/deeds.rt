@@ -30,7 +30,7 @@ impl<P, H: Effects<P>> Stepping<P, H::Outside> for Exchange<H> {
     ghost use Rattle.exchange_core.specs.May.{may_come, is_gone};
     ghost use Rattle.exchange_core.specs.declared.event.Event.TheVariants.{Failed, Late, Stuck, Withdrawn};
     ghost use Rattle.exchange_core.specs.declared.event.RefusalCause.TheVariants.{Deadline};
-    ghost use Rattle.service_lines.specs.declared.connector.LendFault.TheVariants.{Busy};
+    ghost use Rattle.service_pool.specs.declared.connector.LendFault.TheVariants.{Busy};
     ghost use Rattle.shard_exchange.specs.declared.answers.HeadTurn.TheVariants as head_turns;
     ghost use Rattle.shard_exchange.specs.declared.answers.Round.TheVariants.{Waiting};
     ghost use Rattle.shard_exchange.specs.Outcomes.{Bears, Deeds, IsAsked, IsAwaited, IsClosed, IsDialed, IsGated, IsGivenBack, IsHeard, IsHungUp, IsLent, IsPlanned, IsRead, IsReleased, IsRequested, IsReserved, IsStarted, IsTurned, LeavesQueue, Refuses, SaysInterim, SaysLast};

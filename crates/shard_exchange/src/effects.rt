@@ -14,7 +14,7 @@ ghost use Rattle.exchange_core.specs.May.{may_come, may_keep_origin};
 ghost use Rattle.http_side.specs.Refusals.{is_own_status};
 ghost use Rattle.icap_head.specs.Heads.{Response as AnyResponse, response_parts};
 ghost use Rattle.trace_core.specs.declared.history.Point.{Point as AnyPoint};
-ghost use Rattle.service_lines.specs.declared.connector.LendFault.{LendFault as AnyFault};
+ghost use Rattle.service_pool.specs.declared.connector.LendFault.{LendFault as AnyFault};
 ghost use Rattle.wire_kit.specs.Past.{Past};
 ghost use Rattle.shard_exchange.specs.Hand.{Keeps, KeepsButFinished, KeepsButTold, KeepsButRefused, KeepsButLease, KeepsButRoom, KeepsButOrigin, SetsOut, ComesBack};
 ghost use Rattle.shard_exchange.specs.EndedBy.{MayEnd, is_good, served_as};
@@ -34,7 +34,7 @@ use adapt_sides::{ClientFault, Said, Scratch};
 use exchange_core::{Course, CourseState, Dialing};
 use exchange_report::Reason;
 use icap_head::IcapResponse;
-use service_lines::LendFault;
+use service_pool::LendFault;
 use std::sync::Wait;
 use trace_core::Point;
 

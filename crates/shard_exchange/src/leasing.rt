@@ -9,7 +9,7 @@ use crate::reason::lend_reason;
 use crate::tasks::Step;
 use exchange_core::Event;
 use exchange_report::Reason;
-use service_lines::LendFault;
+use service_pool::LendFault;
 use trace_core::Point;
 
 impl<H: Holder> Exchange<H> {

@@ -10,7 +10,7 @@ use adapt_sides::{ClientFault, RelayFault};
 use exchange_report::Reason;
 use http_side::HttpFault;
 use options_book::OptFault;
-use service_lines::LendFault;
+use service_pool::LendFault;
 use span_bank::OpenFault;
 
 /// Why a user is refused whose request's head has this fault.

@@ -1,7 +1,7 @@
 -- What is out when the loops have ended.
 use Rattle.std.specs.Prelude.{◌≡◌, ℕ, Bool, ◌+◌, ◌++◌, List, [], ◌∷◌, length, cond, nat_lt, min, sum_by, Option, Some, None}
-use Rattle.service_lines.specs.declared.leased.Leased.{Leased}
-use Rattle.service_lines.specs.declared.leased.Leased.TheVariants.{Request, Response}
+use Rattle.service_pool.specs.declared.leased.Leased.{Leased}
+use Rattle.service_pool.specs.declared.leased.Leased.TheVariants.{Request, Response}
 use Rattle.span_bank.specs.Stakes.{Shown}
 
 -- a reservation that holds nothing, and has no page

@@ -7,8 +7,7 @@ ghost use Rattle.span_bank.specs.Stakes.{held_sum};
 ghost use Rattle.shard_loop.specs.Left.{Counts, HoldsNothing, Keeps, counts, lease_of, out_of, out_of_slots, with_one_more};
 
 use adapt_bytes::MAX_CONNECTIONS;
-use service_lines::Leased;
-use service_pool::{Lease, Pool};
+use service_pool::{Lease, Leased, Pool};
 use shard_desk::{SharedPools, Spare};
 use shard_exchange::Exchange;
 use shard_message::{Held, Holdings, Kinds};

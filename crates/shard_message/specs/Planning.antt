@@ -21,8 +21,8 @@ use Rattle.proxy_rules.specs.declared.route.Route.{Route}
 use Rattle.proxy_rules.specs.declared.route.Unrouted.TheVariants as unrouted
 use Rattle.proxy_rules.specs.Connections.{may_repeat}
 use Rattle.proxy_rules.specs.Users.{awaits_continue}
-use Rattle.service_lines.specs.declared.book.PointBook.{PointBook}
-use Rattle.service_lines.specs.Books.{Serves}
+use Rattle.service_pool.specs.declared.book.PointBook.{PointBook}
+use Rattle.service_pool.specs.Books.{Serves}
 use Rattle.exchange_report.specs.declared.reason.Reason.{Reason}
 use Rattle.exchange_report.specs.declared.reason.Reason.TheVariants.{UnknownHost, Denied, OriginRefused, NoMemory}
 use Rattle.shard_exchange.specs.declared.answers.Marks.{Marks}

@@ -39,7 +39,7 @@ use crate::withdrawal::{has_given_none, request_again};
 use adapt_sides::{ClientFault, Said, Scratch};
 use exchange_core::{Course, CourseState, Dialing};
 use icap_head::IcapResponse;
-use service_lines::LendFault;
+use service_pool::LendFault;
 use shard_exchange::{
     CourseReport, Effects, End, EndedBy, Lingered, Marks, Reason, Round, Started, Unplanned,
     Withdrawal,

@@ -14,7 +14,7 @@ use options_book::Record;
 use plan_rules::Limits;
 use proxy_config::{Config, ServicePoint};
 use proxy_rules::{Incoming, Offer, Route, Unrouted, awaits_continue, may_repeat, route_of};
-use service_lines::PointBook;
+use service_pool::PointBook;
 use shard_exchange::{Marks, Reason, Unplanned};
 use std::alloc::{AllocError, Global};
 use std::boxed::Box;

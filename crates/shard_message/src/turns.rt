@@ -12,7 +12,7 @@ use crate::outside::Outside;
 use adapt_sides::Scratch;
 use adapt_turn::{Answering, Side, TurnAnswer, Tx};
 use proxy_rules::{Accounting, Lasting, OwnEnds, Running, Wires};
-use service_lines::LendFault;
+use service_pool::LendFault;
 use shard_exchange::Round;
 use span_bank::{Bank, Ledgers};
 use std::sync::Wait;

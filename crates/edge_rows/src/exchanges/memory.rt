@@ -10,7 +10,7 @@ use crate::exchanges::words::either;
 use crate::stage::{LineOwner, ORIGINS, RowStage, SERVICES, StageWire, first_word, key_of};
 use exchange_report::Why;
 use proxy_config::Config;
-use service_lines::{LendFault, PointBook};
+use service_pool::{LendFault, PointBook};
 use shard_exchange::Reason;
 use shard_message::{Kinds, Outside};
 use span_bank::{Bank, Ledgers};

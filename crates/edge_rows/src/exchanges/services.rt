@@ -2,7 +2,7 @@
 
 use icap_head::read_response;
 use options_book::read_record;
-use service_lines::PointBook;
+use service_pool::PointBook;
 use std::alloc::Global;
 use test_rows::Scene;
 use trace_core::Point;

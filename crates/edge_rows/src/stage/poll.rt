@@ -7,7 +7,7 @@ ghost use Rattle.wire_kit.specs.Past.{FitsPut, FitsRoom};
 mod acts;
 
 use crate::stage::shared::{LineOwner, RowStage};
-use service_lines::{WaitQueue, Waiter};
+use service_pool::{WaitQueue, Waiter};
 use std::alloc::Global;
 use test_rows::{NoMemory, Random, Scene, Values, number};
 use wire_kit::{Got, Put};

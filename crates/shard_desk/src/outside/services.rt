@@ -2,8 +2,8 @@
 
 ghost use Rattle.std.specs.Prelude.{◌≡◌, Some, None, IfOk, IfErr, false};
 ghost use Rattle.proxy_config.specs.declared.config.Config.{Config as AnyConfig};
-ghost use Rattle.service_lines.specs.declared.connector.Act.TheVariants.{Opened};
-ghost use Rattle.service_lines.specs.Lending.{point_of, is_reused};
+ghost use Rattle.service_pool.specs.declared.connector.Act.TheVariants.{Opened};
+ghost use Rattle.service_pool.specs.Lending.{point_of, is_reused};
 ghost use Rattle.shard_message.specs.Planning.{service_of as service_at};
 ghost use Rattle.shard_desk.specs.Asked.{LendsBy, FailsBy, PutsBy};
 ghost use Rattle.shard_desk.specs.Books.{book_at, KeepsAt};
@@ -16,7 +16,7 @@ use crate::pools::pools_of;
 use crate::shared::Shares;
 use crate::spot::Spot;
 use options_book::Record;
-use service_lines::{Leased, LendFault, PointBook};
+use service_pool::{Leased, LendFault, PointBook};
 use shard_message::{Reusable, Services};
 use socket_wire::{Dial, ServiceWire};
 use std::alloc::AllocError;

@@ -17,7 +17,7 @@ use options_book::Record;
 use plan_rules::Limits;
 use proxy_config::Config;
 use proxy_rules::{Incoming, Route, limits_of};
-use service_lines::{LendFault, PointBook};
+use service_pool::{LendFault, PointBook};
 use shard_exchange::{Lingered, Reason};
 use shard_message::{
     Clocked, Dialed, LastingOrigin, MessageEnd, Noting, Origins, Outside, Reusable, Services,

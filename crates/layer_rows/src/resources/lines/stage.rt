@@ -2,7 +2,7 @@
 
 ghost use Rattle.std.specs.Prelude.{⊤};
 
-use service_lines::{Connector, Edge, Keeper, LendFault};
+use service_pool::{Connector, Edge, Keeper, LendFault};
 use std::cell::Cell;
 use test_rows::put_decimal;
 use trace_core::Point;

@@ -7,7 +7,7 @@ use crate::resources::lines::stage::{ConnectionStage, Hand, StageEdge, bit_of};
 use crate::resources::lines::words::{fault_name, first_number, put_lent, put_woken};
 use crate::resources::words::put_numbers;
 use adapt_bytes::MAX_CONNECTIONS;
-use service_lines::{
+use service_pool::{
     Breakers, Edge, LeasedConnection, LendFault, Pools, ServiceEnd, Waiter, Waiting,
 };
 use std::alloc::Global;

@@ -1,7 +1,7 @@
 //! Words of steps and of answers.
 
 use crate::questions::cut;
-use service_lines::LendFault;
+use service_pool::LendFault;
 use test_rows::{NoMemory, number, put_decimal, put_line, put_number};
 
 /// The number that a text begins with, or 0, and what comes after it.

@@ -1,5 +1,5 @@
 -- A connection that is lent leads to the service of its lease's point, which is the point asked for.
-use Rattle.service_lines.specs.Lending.{point_of}
+use Rattle.service_pool.specs.Lending.{point_of}
 use Rattle.shard_desk.specs.Places.{place_at}
 use Rattle.shard_desk.proofs.Serving.{serves_lease}
 use Rattle.shard_desk.proofs.outside.services.DeskServicesSpot.lend.Goals as goal
