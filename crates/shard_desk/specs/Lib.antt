@@ -11,3 +11,5 @@ pub mod Kept
 pub mod Pausing
 pub mod Places
 pub mod Standings
+pub mod Showing
+pub mod Stepped

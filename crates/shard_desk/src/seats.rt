@@ -16,7 +16,7 @@ use std::net::Ipv4Addr;
 use trace_core::Point;
 
 /// The milliseconds of a second.
-pub const SECOND: u64 = 1000;
+pub(crate) const SECOND: u64 = 1000;
 
 /// How many seats there are beyond those of the users that are served.
 const SPARE: usize = 16;

@@ -55,7 +55,7 @@ pub struct Shard<'a, E: Exchanges, G> {
 
 /// Says to a user for whom there isn't even a seat to spare, or no memory, that it be back later, where that costs nothing. It has no
 /// line of the log, and gets no page: that would take memory.
-pub fn turn_away(stream: Stream<User>) {
+pub(crate) fn turn_away(stream: Stream<User>) {
     let mut stream = stream;
     let _ = stream.offer(own_refusal(503));
 }

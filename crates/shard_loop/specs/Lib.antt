@@ -1,4 +1,2 @@
 pub mod Admission
 pub mod Left
-pub mod Showing
-pub mod Stepped

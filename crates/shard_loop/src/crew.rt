@@ -3,7 +3,6 @@
 use crate::admission::admission_of;
 use crate::bases::{HasBase, OpenedPorts, entrance_of, loop_fault, make_bases};
 use crate::board::{BothPools, Common, PoolPair, Rules, board_of};
-use crate::exchanges::DeskExchanges;
 use crate::left::Left;
 use crate::office::Office;
 use crate::reloading::Reloads;
@@ -11,7 +10,9 @@ use event_loop::{Base, Ended, Entrance, Inbox, Work, name_thread, run_loop, stop
 use mio::net::TcpListener;
 use proxy_config::{Config, MAX_SHARDS};
 use service_pool::{Leased, Pool, Waiting};
-use shard_desk::{Exchanges, Loops, Shard, Shared, SharedPools, Shares, Spare, Standings};
+use shard_desk::{
+    DeskExchanges, Exchanges, Loops, Shard, Shared, SharedPools, Shares, Spare, Standings,
+};
 use shard_exchange::Exchange;
 use shard_message::{Holdings, Kinds};
 use shard_report::{Append, ProxyFault};

@@ -1,7 +1,7 @@
 //! The proxy: its threads, the administrator's loop, and what is left once all have ended.
 //!
-//! A thread's loop is one of `event_loop`, whose work is a `Shard` of `shard_desk`: exchanges of `shard_exchange` in slots. What they
-//! stand on is a `Desk`, which `DeskExchanges` gives them.
+//! A thread's loop is one of `event_loop`, whose work is a `Shard` of `shard_desk`: exchanges of `shard_exchange` in slots, which are the
+//! `DeskExchanges` of that thread.
 //!
 //! Here threads, exchanges and sockets meet. `serve` is all that it offers.
 #![tactic(auto)]
@@ -11,13 +11,11 @@ mod asking;
 mod bases;
 mod board;
 mod crew;
-mod exchanges;
 mod left;
 mod office;
 mod reloading;
 mod replaced;
 mod running;
-mod showing;
 
 pub use board::Rules;
 pub use event_loop::{AdminPorts, listen_beside};

@@ -1,5 +1,5 @@
 -- The exchange does its task at the desk, once the desk has taken up the configuration for it.
-use Rattle.shard_loop.proofs.exchanges.DeskExchangesExchanges.act.Goals as goal
+use Rattle.shard_desk.proofs.desk_exchanges.DeskExchangesExchanges.act.Goals as goal
 
 -- the exchange does so at the desk, once that has taken the configuration up
 pub returns : goal.returns

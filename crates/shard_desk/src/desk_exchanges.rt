@@ -9,13 +9,18 @@ ghost use Rattle.shard_exchange.specs.Hand.{IsEmpty};
 ghost use Rattle.shard_exchange.specs.Outcomes.{Does};
 ghost use Rattle.shard_exchange.specs.Resting.{RestsOn};
 ghost use Rattle.shard_exchange.specs.Steps.{is_step};
-ghost use Rattle.shard_loop.specs.Stepped.{IsDoneAt, IsRestedAt};
+ghost use Rattle.shard_desk.specs.Stepped.{IsDoneAt, IsRestedAt};
 
+use crate::desk::Desk;
+use crate::exchanges::Exchanges;
+use crate::seat::Purpose;
+use crate::shard::turn_away;
+use crate::shared::Shares;
 use crate::showing::show;
+use crate::spot::Spot;
 use adapt_sides::Scratch;
 use event_loop::{Question, Sheet};
 use proxy_rules::Incoming;
-use shard_desk::{Desk, Exchanges, Purpose, Shares, Spot, turn_away};
 use shard_exchange::{Exchange, Holder, InHand, Step, Stepping, Task};
 use shard_message::{Holdings, Kinds, Outside};
 use socket_wire::{Dial, Unread, UserWire};
@@ -96,7 +101,7 @@ fn unheard<O: Kinds>(exchange: &Exchange<Holdings<O>>) -> Option<&O::User> {
 
 /// The exchanges of a thread, at its desk.
 #[derive(Drop)]
-pub(crate) struct DeskExchanges<S> {
+pub struct DeskExchanges<S> {
     desk: Desk<S>,
     /// The buffers that the turns of this thread are lent.
     scratch: Box<Scratch>,
@@ -104,11 +109,7 @@ pub(crate) struct DeskExchanges<S> {
 
 impl<S: Shares + Drop> DeskExchanges<S> {
     /// A thread's exchanges before the first user; `rows` users may be served at once. `Err` if no memory was found.
-    pub(crate) fn new(
-        alloc: Global,
-        shared: S,
-        rows: usize,
-    ) -> Result<DeskExchanges<S>, AllocError> {
+    pub fn new(alloc: Global, shared: S, rows: usize) -> Result<DeskExchanges<S>, AllocError> {
         let desk = Desk::new(alloc, shared, rows)?;
         let scratch = Scratch::new(alloc)?;
         Ok(DeskExchanges { desk, scratch })

@@ -7,8 +7,12 @@ ghost use Rattle.exchange_core.specs.Dues.{due_of};
 ghost use Rattle.exchange_report.specs.Live.{awaited_by, awaited_in, awaited_word, point_word};
 ghost use Rattle.event_loop.specs.Sheets.{CountsIdle};
 ghost use Rattle.shard_report.specs.Notes.{IsOpen};
-ghost use Rattle.shard_loop.specs.Showing.{outgoing_by};
+ghost use Rattle.shard_desk.specs.Showing.{outgoing_by};
 
+use crate::desk::Desk;
+use crate::reporter::Noted;
+use crate::seats::SECOND;
+use crate::shared::Shares;
 use adapt_turn::Outcome;
 use event_loop::{Question, Sheet};
 use exchange_core::Due;
@@ -16,7 +20,6 @@ use exchange_report::{
     Address, Awaited, Caption, ExchangeId, Live, Outgoing, awaited_by, awaited_in, live_room,
     point_word, write_live, write_script,
 };
-use shard_desk::{Desk, Noted, SECOND, Shares};
 use shard_exchange::Exchange;
 use shard_message::{Holdings, Kinds, Moving, OnShow, Shown};
 use shard_report::{address_of, elapsed_of, moment};
@@ -97,7 +100,7 @@ fn user_of<S: Shares>(desk: &Desk<S>, key: usize) -> Option<Address> {
 
 /// Whose exchange it is under a key, as its desk knows it.
 #[derive(Clone, Copy)]
-struct Seat {
+struct ShownSeat {
     thread: u64,
     key: u64,
     user: Option<Address>,
@@ -106,10 +109,10 @@ struct Seat {
 }
 
 /// Whose exchange it is under this key.
-fn seat_of<S: Shares>(desk: &Desk<S>, key: usize) -> Seat
+fn seat_of<S: Shares>(desk: &Desk<S>, key: usize) -> ShownSeat
     ensures { result.key ≡ key }
 {
-    Seat {
+    ShownSeat {
         thread: desk.shared.number() as u64,
         key: key as u64,
         user: user_of(desk, key),
@@ -119,7 +122,7 @@ fn seat_of<S: Shares>(desk: &Desk<S>, key: usize) -> Seat
 
 /// The line of an exchange, at this moment in milliseconds since 1970, and this second of the loop.
 fn line_of<'a, O: Kinds>(
-    seat: &Seat,
+    seat: &ShownSeat,
     noted: Noted<'a>,
     exchange: &Exchange<Holdings<O>>,
     at: u64,
