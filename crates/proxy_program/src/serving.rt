@@ -168,7 +168,9 @@ pub fn serve_from<
     let rules = rules_of(rt, alloc, source?)?;
     let log = open_log(rt, alloc, &rules.config)?;
     let (users, admin) = listen_for_all(rt, alloc, handed, &rules.config)?;
-    match serve(rt, alloc, rules, users, admin, log, &OpenGate, output) {
+    // Only tests hold transactions back.
+    let gate: Option<&OpenGate> = None;
+    match serve(rt, alloc, rules, users, admin, log, gate, output) {
         Ok(stopped) => say_end(alloc, output, stopped),
         Err(fault) => Err(error_of(fault)),
     }

@@ -90,8 +90,10 @@ impl<'r, S: Shares, R: Wait + Dial + Clock, G: Gate> Clocked<Spot<'r, R, G>> for
     }
 
     fn may_pass(&mut self, at: &Spot<'r, R, G>) -> bool {
-        let number = self.seats.number(at.key);
-        at.gate.may_pass(at.rt, number)
+        match at.gate {
+            Some(gate) => gate.may_pass(at.rt, self.seats.number(at.key)),
+            None => true,
+        }
     }
 }
 

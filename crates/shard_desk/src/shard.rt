@@ -49,7 +49,7 @@ pub struct Shard<'a, E: Exchanges, G> {
     unannounced: Unannounced,
     /// How many queues there are for what another exchange gives back.
     queues: usize,
-    gate: &'a G,
+    gate: Option<&'a G>,
     serving: Serving,
 }
 
@@ -69,7 +69,11 @@ fn finish<X: Slotted>(exchange: Box<X>)
 
 impl<'a, E: Exchanges + Drop, G: Gate> Shard<'a, E, G> {
     /// A thread's work before the first user. `Err` where no memory was found.
-    pub fn new(alloc: Global, exchanges: E, gate: &'a G) -> Result<Shard<'a, E, G>, AllocError> {
+    pub fn new(
+        alloc: Global,
+        exchanges: E,
+        gate: Option<&'a G>,
+    ) -> Result<Shard<'a, E, G>, AllocError> {
         let bound = exchanges.users().seats().bound();
         let headers = if exchanges.users().has_headers() {
             bound

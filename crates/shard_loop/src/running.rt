@@ -103,16 +103,16 @@ fn say_listening<O: Write>(output: &mut O) -> Result<(), ProxyFault> {
 }
 
 /// Runs the proxy by these rules, on these ports, until the administrator stops it or one of its loops fails, and audits its budget and its
-/// pools. Once the memory of both is there, `listening` is written to the output. Lines are added to the log's file, if there is one. The
-/// budget and each pool have ledgers of their own.
+/// pools. Once the memory of both is there, `listening` is written to the output. Lines are added to the log's file, if there is one, and
+/// transactions ask the gate before they move, if there is one. The budget and each pool have ledgers of their own.
 ///
 /// ```
 /// let users = TcpListener::bind(rt, SocketAddr::V4(config.listen))?;
 /// let admin = TcpListener::bind(rt, SocketAddr::V4(config.admin))?;
 /// let admin = AdminPorts { admin, metrics: None };
-/// // No log is kept. It returns once the administrator has said `stop`.
 /// let rules = Rules { config: Arc::new(alloc, config)?, source: Source::Path(path) };
-/// let stopped = serve(rt, alloc, rules, users, admin, None, &OpenGate, &mut output)?;
+/// // No log is kept, and no gate holds anything back. It returns once the administrator has said `stop`.
+/// let stopped = serve(rt, alloc, rules, users, admin, None, None::<&OpenGate>, &mut output)?;
 /// assert_eq!(rt; stopped.fault(), None);
 /// ```
 pub fn serve<
@@ -126,7 +126,7 @@ pub fn serve<
     users: TcpListener,
     admin: AdminPorts,
     log: Option<File>,
-    gate: &G,
+    gate: Option<&G>,
     output: &mut O,
 ) -> Result<Stopped, ProxyFault> {
     let Ok(config) = Arc::clone(&rules.config) else {
@@ -168,7 +168,7 @@ fn serve_with<
     ports: OpenedPorts,
     rules: Rules,
     log: Option<File>,
-    gate: &'x G,
+    gate: Option<&'x G>,
     output: &mut O,
     blanks: Blanks,
     reqmod: Blank,
@@ -202,7 +202,7 @@ fn serve_on<
     ports: OpenedPorts,
     rules: Rules,
     log: Option<File>,
-    gate: &G,
+    gate: Option<&G>,
     output: &mut O,
     stores: Stores<B, Q, A>,
 ) -> Result<Stopped, ProxyFault>

@@ -196,7 +196,7 @@ fn run_proxy<
         config: Arc::clone(config).ok()?,
         source: Source::Text(Vec::new(alloc)),
     };
-    serve(rt, alloc, rules, users, admin, None, gate, &mut said).ok()
+    serve(rt, alloc, rules, users, admin, None, Some(gate), &mut said).ok()
 }
 
 /// Runs the proxy with these lines of a configuration while a scene is played, and stops it. Whether all went as it should,
