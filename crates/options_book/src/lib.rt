@@ -1,6 +1,6 @@
 //! What a service's OPTIONS response says, and for how long it stays fresh (RFC 3507, section 4.10).
 //!
-//! A record is a value: `icap_client` asks for it, `service_lines` keeps it, and `plan_rules` plans by it.
+//! A record is a value: `icap_client` asks for it, `service_pool` keeps it, and `plan_rules` plans by it.
 #![tactic(auto)]
 
 mod faults;
