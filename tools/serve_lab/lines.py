@@ -17,10 +17,13 @@ import tempfile
 
 from serve_lab.loopback import SEEN, TOP
 
-# A line: time, elapsed, user, tag/status, bytes, method, target, login, hierarchy, media type, and five fields of ours; a sixth where a
-# refusal has a page.
+# Further fields of ours that a line may have, which nothing here asks for.
+FURTHER = r'(?: (?!refusal=)[a-z]+=\S+)*'
+# A line: time, elapsed, user, tag/status, bytes, method, target, login, hierarchy, media type, and fields of ours. `refusal` stands
+# where a refusal has a page.
 LINE = re.compile(r'(\d+\.\d{3}) (\d+) (\S+) (TCP_MISS|TCP_DENIED)/(\d{3}) (\d+) (\S+) (\S+) - '
-                  r'((?:HIER_DIRECT|FIRSTUP_PARENT)/[0-9.]+|HIER_NONE/-) (\S+) reqmod=(\S+) respmod=(\S+) why=(\S+) found=(\S+) in=(\d+)(?: refusal=(\d+))?')
+                  r'((?:HIER_DIRECT|FIRSTUP_PARENT)/[0-9.]+|HIER_NONE/-) (\S+) reqmod=(\S+) respmod=(\S+) why=(\S+) found=(\S+) in=(\d+)'
+                  + FURTHER + r'(?: refusal=(\d+))?' + FURTHER)
 VERDICT = re.compile(r"-|plain|(retry\+)?(100\+)?(-|204|200)")
 COUNT = re.compile(r"(seen)(?:([+-])(\d+)\.\.(\d+))?|(\d+)(?:\.\.(\d+))?")
 Wanted = collections.namedtuple("Wanted", "tag status why seen least most")

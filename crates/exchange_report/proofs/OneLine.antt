@@ -1,6 +1,7 @@
 -- The line of an exchange has one end, whatever its record says.
 use Rattle.std.proofs.Common.{◌≢◌, ℕ, ◌/◌, ◌%◌, ◌<◌, Bool, true, false, not, eqb, List, [], ◌∷◌, ◌++◌, All, IsTrue, Option, Some, None}
-use Rattle.std.proofs.Common.{nat_lt, take, codes, arith, rules, refl, sym, inl, inr, if◌then◌else◌, subst}
+use Rattle.std.proofs.Common.{◌&&◌, nat_lt, take, codes, arith, rules, refl, sym, inl, inr, if◌then◌else◌, subst}
+use Rattle.std.specs.Prelude.{⊤}
 use Rattle.std.specs.List.{list_all}
 use Rattle.std.specs.Char.{digit_value}
 use Rattle.std.specs.Str.Parse.{AllDigits}
@@ -13,7 +14,8 @@ use Rattle.exchange_report.specs.Reasons.{reason_word}
 use Rattle.exchange_report.specs.Words.{word_of}
 use Rattle.exchange_report.specs.Lines.{HasNoEnd, IsOneLine}
 use Rattle.exchange_report.specs.Entry.{address_text, user_text, destination_text, tag_text, status_text, head_text, request_text}
-use Rattle.exchange_report.specs.Entry.{reply_word, verdict_text, why_word, verdicts_text, refusal_text, end_text, line_text}
+use Rattle.exchange_report.specs.Entry.{reply_word, verdict_text, why_word, Field, field_text, fields_text, fields_of}
+use Rattle.exchange_report.specs.Entry.{end_text, line_text}
 use Rattle.exchange_report.specs.declared.entry.Address.{Address}
 use Rattle.exchange_report.specs.declared.entry.Destination.{Destination}
 use Rattle.exchange_report.specs.declared.entry.Destination.TheVariants.{Origin, Parent}
@@ -25,7 +27,7 @@ use Rattle.exchange_report.specs.declared.verdict.Reply.TheVariants.{Missing, Pl
 use Rattle.exchange_report.specs.declared.verdict.Verdict.{Verdict}
 use Rattle.exchange_report.specs.declared.why.Why.{Why}
 use Rattle.exchange_report.specs.declared.why.Why.TheVariants.{Served, UserGone, Failed}
-use Rattle.exchange_report.specs.declared.words.TheConstants.{MAX_TARGET, MAX_METHOD, MAX_KIND, MAX_FOUND}
+use Rattle.exchange_report.specs.declared.words.TheConstants.{MAX_TARGET, MAX_METHOD, MAX_KIND}
 use Rattle.exchange_report.proofs.OneWord.{IsVisible, plain_word}
 
 -- a text that is written out ends no line: this computes
@@ -147,43 +149,66 @@ request e method target kind =
     (destination_text e.destination) (codes " ") (word_of (take MAX_KIND e.kind.now)) blank (word MAX_METHOD e.method.now method) blank
     (word MAX_TARGET e.target.now target) (const (codes " - ") refl) (destination e.destination) blank (word MAX_KIND e.kind.now kind)
 
--- the end's fields, before the byte that ends the line
-abbrev fields : Entry → List ℕ
-fields e = verdicts_text e ++ codes " found=" ++ word_of (take MAX_FOUND e.found.now) ++ codes " in=" ++ numeral 10 e.received
-    ++ refusal_text e.refusal
+-- The fields that Squid's format hasn't, whichever they are.
 
--- six texts that end no line end none together
-threes : (a m b t c o : List ℕ) → HasNoEnd a → HasNoEnd m → HasNoEnd b → HasNoEnd t → HasNoEnd c → HasNoEnd o
-    → HasNoEnd (a ++ m ++ b ++ t ++ c ++ o)
-threes a m b t c o ha hm hb ht hc ho =
-    joined (a ++ m ++ b ++ t ++ c) o (joined (a ++ m ++ b ++ t) c (joined (a ++ m ++ b) t (joined (a ++ m) b (joined a m ha hm) hb) ht) hc)
-    ho
+-- the name of a field
+abbrev name_of : Field → List ℕ
+name_of (Field.Number name n) = name
+name_of (Field.Optional name n) = name
+name_of (Field.Outside name most value) = name
+name_of (Field.Judged name v) = name
+name_of (Field.Ended name w) = name
 
--- the first three of them
-verdicts : (e : Entry) → HasNoEnd (verdicts_text e)
-unfolding verdicts_text
-verdicts e = threes (codes " reqmod=") (verdict_text e.reqmod) (codes " respmod=") (verdict_text e.respmod) (codes " why=") (why_word e.why)
-    (const (codes " reqmod=") refl) (verdict e.reqmod) (const (codes " respmod=") refl) (verdict e.respmod) (const (codes " why=") refl)
-    (why e.why)
+-- a name ends no line: this computes
+abbrev is_plain : List ℕ → Bool
+is_plain name = list_all (λ b. not (eqb b 10)) name
 
--- the number in the page of a refusal, or none, ends no line
-refusal : (n : Option ℕ) → HasNoEnd (refusal_text n)
-refusal (Some n) = joined (codes " refusal=") (numeral 10 n) (const (codes " refusal=") refl) (number n)
-refusal None = All-nil (λ b. b ≢ 10)
+-- nor do those of these fields
+abbrev are_named : List Field → Bool
+are_named [] = true
+are_named (field ∷ fields) = is_plain (name_of field) && are_named fields
 
--- the fields of the end, before the byte that ends the line, end none
-last : (e : Entry) → All (λ b. b < 256) e.found.now → HasNoEnd (fields e)
-last e found = threes (verdicts_text e) (codes " found=") (word_of (take MAX_FOUND e.found.now)) (codes " in=") (numeral 10 e.received)
-    (refusal_text e.refusal)
-    (verdicts e) (const (codes " found=") refl) (word MAX_FOUND e.found.now found) (const (codes " in=") refl) (number e.received)
-    (refusal e.refusal)
+-- the values from outside in these fields are bytes: a field without one asks for nothing
+abbrev AreOfBytes : List Field → Type 0
+AreOfBytes [] = ⊤
+AreOfBytes (Field.Outside name most value ∷ fields) = All (λ b. b < 256) value × AreOfBytes fields
+AreOfBytes (Field.Number name n ∷ fields) = AreOfBytes fields
+AreOfBytes (Field.Optional name n ∷ fields) = AreOfBytes fields
+AreOfBytes (Field.Judged name v ∷ fields) = AreOfBytes fields
+AreOfBytes (Field.Ended name w ∷ fields) = AreOfBytes fields
+
+-- where two tests pass together, each of which shows that a text ends no line, these texts end none together
+tested : (x y : List ℕ) (s t : Bool) → IsTrue (s && t) → (IsTrue s → HasNoEnd x) → (IsTrue t → HasNoEnd y) → HasNoEnd (x ++ y)
+tested x y true t pass first second = joined x y (first refl) (second pass)
+tested x y false t pass first second = absurd (cc)
+
+-- a field ends no line, nor do those after it
+before : (name value : List ℕ) (rest : List Field) → IsTrue (is_plain name && are_named rest) → HasNoEnd value
+    → (IsTrue (are_named rest) → HasNoEnd (fields_text rest)) → HasNoEnd ((name ++ value) ++ fields_text rest)
+before name value rest named plain_value plain_rest =
+    tested (name ++ value) (fields_text rest) (is_plain name) (are_named rest) named
+    (λ plain_name. joined name value (const name plain_name) plain_value) plain_rest
+
+-- fields whose names end no line end none
+fields : (all : List Field) → IsTrue (are_named all) → AreOfBytes all → HasNoEnd (fields_text all)
+unfolding field_text
+fields [] named bytes = All-nil (λ b. b ≢ 10)
+fields (Field.Number name n ∷ rest) named bytes = before name (numeral 10 n) rest named (number n) (λ h. fields rest h bytes)
+fields (Field.Optional name (Some n) ∷ rest) named bytes = before name (numeral 10 n) rest named (number n) (λ h. fields rest h bytes)
+fields (Field.Optional name None ∷ rest) named bytes =
+    tested [] (fields_text rest) (is_plain name) (are_named rest) named (λ h. All-nil (λ b. b ≢ 10)) (λ h. fields rest h bytes)
+fields (Field.Outside name most value ∷ rest) named bytes =
+    before name (word_of (take most value)) rest named (word most value bytes.0) (λ h. fields rest h bytes.1)
+fields (Field.Judged name v ∷ rest) named bytes = before name (verdict_text v) rest named (verdict v) (λ h. fields rest h bytes)
+fields (Field.Ended name w ∷ rest) named bytes = before name (why_word w) rest named (why w) (λ h. fields rest h bytes)
 
 -- the line of an exchange ends once, at its last byte
 pub ends_once : (e : Entry) → All (λ b. b < 256) e.method.now → All (λ b. b < 256) e.target.now → All (λ b. b < 256) e.kind.now
     → All (λ b. b < 256) e.found.now → IsOneLine (line_text e)
 unfolding end_text
 ends_once e method target kind found = (
-  head_text e ++ request_text e ++ fields e,
-  sym (append_assoc (head_text e ++ request_text e) (fields e) (codes "\n")),
-  joined _ (fields e) (joined (head_text e) (request_text e) (head e) (request e method target kind)) (last e found),
+  head_text e ++ request_text e ++ fields_text (fields_of e),
+  sym (append_assoc (head_text e ++ request_text e) (fields_text (fields_of e)) (codes "\n")),
+  joined _ (fields_text (fields_of e)) (joined (head_text e) (request_text e) (head e) (request e method target kind))
+      (fields (fields_of e) refl (found, tt)),
 )

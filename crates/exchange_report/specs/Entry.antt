@@ -1,5 +1,5 @@
--- The log's line of an exchange: the fields of Squid's native format in their order, and five or six more.
-use Rattle.std.specs.Prelude.{ℕ, ◌/◌, ◌%◌, Bool, List, [], ◌++◌, Option, Some, None, take, nat_lt, if◌then◌else◌, codes}
+-- The log's line of an exchange: the fields of Squid's native format in their order, and those that it hasn't.
+use Rattle.std.specs.Prelude.{ℕ, ◌/◌, ◌%◌, Bool, false, List, [], ◌∷◌, ◌++◌, Option, Some, None, take, nat_lt, if◌then◌else◌, codes}
 use Rattle.adapt_bytes.specs.Numeral.{numeral, three_digits}
 use Rattle.exchange_report.specs.Reasons.{reason_word}
 use Rattle.exchange_report.specs.Words.{word_of}
@@ -7,6 +7,7 @@ use Rattle.exchange_report.specs.declared.entry.Address.{Address}
 use Rattle.exchange_report.specs.declared.entry.Destination.{Destination}
 use Rattle.exchange_report.specs.declared.entry.Destination.TheVariants.{Origin, Parent}
 use Rattle.exchange_report.specs.declared.entry.Entry.{Entry}
+use Rattle.exchange_report.specs.declared.entry.Summary.{Summary}
 use Rattle.exchange_report.specs.declared.verdict.Reply.{Reply}
 use Rattle.exchange_report.specs.declared.verdict.Reply.TheVariants.{Missing, Plain, Unchanged, Changed}
 use Rattle.exchange_report.specs.declared.verdict.Verdict.{Verdict}
@@ -67,20 +68,59 @@ why_word Served = codes "-"
 why_word UserGone = codes "user-gone"
 why_word (Failed reason) = reason_word reason
 
--- what a service made of the request and of the response, and why the exchange ended otherwise than by its answer
-unfoldable pub verdicts_text : Entry → List ℕ
-verdicts_text e = codes " reqmod=" ++ verdict_text e.reqmod ++ codes " respmod=" ++ verdict_text e.respmod ++ codes " why="
-    ++ why_word e.why
+-- nothing became of an exchange: no service has seen a message of it, nothing came of its body, and its user got no page; if it ends
+-- so, its user is gone
+abbrev pub nothing : Summary
+nothing = record {
+  reqmod = record { retried = false; continued = false; reply = Missing };
+  respmod = record { retried = false; continued = false; reply = Missing };
+  why = UserGone;
+  received = 0;
+  refusal = None;
+}
 
--- the number in the page of a refusal; nothing where it has no page
-abbrev pub refusal_text : Option ℕ → List ℕ
-refusal_text (Some number) = codes " refusal=" ++ numeral 10 number
-refusal_text None = []
+-- A field that Squid's format hasn't: its name, as it stands before its value, and the value.
+pub data Field : Type 0 where
+  -- a number
+  Number : (name : List ℕ) → ℕ → Field
+  -- a number, or no field at all
+  Optional : (name : List ℕ) → Option ℕ → Field
+  -- so many bytes at most of a value from outside
+  Outside : (name : List ℕ) → (most : ℕ) → (value : List ℕ) → Field
+  -- what became of a message
+  Judged : (name : List ℕ) → Verdict → Field
+  -- why an exchange ended as it did
+  Ended : (name : List ℕ) → Why → Field
 
--- those, what a service found, the bytes of the request's body, and the number in the page of a refusal
+-- its name and its value, as they are written
+unfoldable pub field_text : Field → List ℕ
+field_text (Field.Number name n) = name ++ numeral 10 n
+field_text (Field.Optional name (Some n)) = name ++ numeral 10 n
+field_text (Field.Optional name None) = []
+field_text (Field.Outside name most value) = name ++ word_of (take most value)
+field_text (Field.Judged name verdict) = name ++ verdict_text verdict
+field_text (Field.Ended name why) = name ++ why_word why
+
+-- those of a list, one after another
+abbrev pub fields_text : List Field → List ℕ
+fields_text [] = []
+fields_text (field ∷ fields) = field_text field ++ fields_text fields
+
+-- what a service made of the request and of the response, why the exchange ended otherwise than by its answer, what a service
+-- found, the bytes of the request's body, and the number in the page of a refusal
+abbrev pub fields_of : Entry → List Field
+fields_of e =
+    Field.Judged (codes " reqmod=") e.summary.reqmod
+    ∷ Field.Judged (codes " respmod=") e.summary.respmod
+    ∷ Field.Ended (codes " why=") e.summary.why
+    ∷ Field.Outside (codes " found=") MAX_FOUND e.found.now
+    ∷ Field.Number (codes " in=") e.summary.received
+    ∷ Field.Optional (codes " refusal=") e.summary.refusal
+    ∷ []
+
+-- those, and the line's end
 unfoldable pub end_text : Entry → List ℕ
-end_text e = verdicts_text e ++ codes " found=" ++ word_of (take MAX_FOUND e.found.now) ++ codes " in=" ++ numeral 10 e.received
-    ++ refusal_text e.refusal ++ codes "\n"
+end_text e = fields_text (fields_of e) ++ codes "\n"
 
 -- the whole line
 abbrev pub line_text : Entry → List ℕ

@@ -1,9 +1,9 @@
-//! The log's line of an exchange, in the native format of Squid's `access.log`, with five fields after it,
-//! and a sixth where the answer is a refusal with a page.
+//! The log's line of an exchange: the fields of the native format of Squid's `access.log`, and those that it hasn't.
 
 ghost use Rattle.std.specs.Prelude.{◌≡◌, ◌++◌, ◌<◌, OnOk};
 ghost use Rattle.exchange_report.specs.Words.{word_of};
-ghost use Rattle.exchange_report.specs.Entry.{address_text, moment_text, user_text, destination_text, tag_text, status_text, head_text, request_text, verdicts_text, refusal_text, end_text, line_text};
+ghost use Rattle.exchange_report.specs.Entry.{address_text, moment_text, user_text, destination_text, tag_text, status_text, head_text, request_text, field_text, end_text, line_text};
+ghost use Rattle.exchange_report.specs.Entry.Field.{Judged, Ended, Outside, Number, Optional};
 
 use crate::verdict::{Verdict, write_verdict};
 use crate::why::Why;
@@ -12,6 +12,9 @@ use crate::words::{
 };
 use adapt_bytes::three_digits;
 use std::alloc::AllocError;
+
+/// Room for a line: each byte of a value from outside takes three at most, and all else far less than a kilobyte.
+pub const LINE_ROOM: usize = 3 * (MAX_METHOD + MAX_TARGET + MAX_KIND + MAX_FOUND) + 1_024;
 
 /// An IPv4 address.
 #[derive(Clone, Copy)]
@@ -31,6 +34,29 @@ pub enum Destination {
     Parent(Address),
 }
 
+/// What became of an exchange, as fields say it that Squid's format hasn't.
+#[derive(Clone, Copy)]
+pub struct Summary {
+    pub reqmod: Verdict,
+    pub respmod: Verdict,
+    pub why: Why,
+    /// How many bytes of the request's body came.
+    pub received: u64,
+    /// The number in the page of the proxy's own answer; none where that has no page.
+    pub refusal: Option<u64>,
+}
+
+impl Summary {
+    /// Nothing became of it yet. If it ends so, its user is gone.
+    pub const NONE: Summary = Summary {
+        reqmod: Verdict::NONE,
+        respmod: Verdict::NONE,
+        why: Why::UserGone,
+        received: 0,
+        refusal: None,
+    };
+}
+
 /// An exchange that is over: a user's request, and what went back.
 ///
 /// ```
@@ -45,12 +71,12 @@ pub enum Destination {
 ///     target: b"http://o.test/a b",
 ///     destination: None,
 ///     kind: b"text/html",
-///     reqmod: Verdict::none(),
-///     respmod: Verdict { retried: false, continued: true, reply: Reply::Unchanged },
-///     why: Why::Served,
 ///     found: b"",
-///     received: 0,
-///     refusal: None,
+///     summary: Summary {
+///         respmod: Verdict { retried: false, continued: true, reply: Reply::Unchanged },
+///         why: Why::Served,
+///         ..Summary::NONE
+///     },
 /// };
 /// write_line(&mut out, &entry)?;
 /// // 1066036250.603 310 192.0.2.7 TCP_MISS/200 1015 GET http://o.test/a%20b - HIER_NONE/- text/html
@@ -76,15 +102,9 @@ pub struct Entry<'a> {
     pub destination: Option<Destination>,
     /// The media type of the answer.
     pub kind: &'a [u8],
-    pub reqmod: Verdict,
-    pub respmod: Verdict,
-    pub why: Why,
     /// What a service found in a message, as the name of a virus.
     pub found: &'a [u8],
-    /// How many bytes of the request's body came.
-    pub received: u64,
-    /// The number in the page of the proxy's own answer; none where that has no page.
-    pub refusal: Option<u64>,
+    pub summary: Summary,
 }
 
 /// Adds an address, as `192.0.2.1`.
@@ -184,26 +204,55 @@ fn write_request(out: &mut Vec<u8>, entry: &Entry<'_>) -> Result<(), AllocError>
     write_field(out, MAX_KIND, entry.kind)
 }
 
-/// Adds what services made of the messages, and why the exchange ended as it did.
-#[tactic(auto, unfolding(crate::specs::Entry::verdicts_text))]
-fn write_verdicts(out: &mut Vec<u8>, entry: &Entry<'_>) -> Result<(), AllocError>
-    ensures { OnOk result (out.new.items ≡ out.old.items ++ verdicts_text entry.now) }
+/// Adds what became of a message.
+#[tactic(auto, unfolding(crate::specs::Entry::field_text))]
+fn write_judged(out: &mut Vec<u8>, name: &[u8], verdict: Verdict) -> Result<(), AllocError>
+    ensures { OnOk result (out.new.items ≡ out.old.items ++ field_text (Judged name.now verdict)) }
 {
-    out.extend_from_slice(b" reqmod=")?;
-    write_verdict(out, entry.reqmod)?;
-    out.extend_from_slice(b" respmod=")?;
-    write_verdict(out, entry.respmod)?;
-    out.extend_from_slice(b" why=")?;
-    out.extend_from_slice(entry.why.word())
+    out.extend_from_slice(name)?;
+    write_verdict(out, verdict)
 }
 
-/// Adds the number in the page of a refusal, where it has one.
-fn write_refusal(out: &mut Vec<u8>, refusal: Option<u64>) -> Result<(), AllocError>
-    ensures { OnOk result (out.new.items ≡ out.old.items ++ refusal_text refusal) }
+/// Adds why the exchange ended as it did.
+#[tactic(auto, unfolding(crate::specs::Entry::field_text))]
+fn write_ended(out: &mut Vec<u8>, name: &[u8], why: Why) -> Result<(), AllocError>
+    ensures { OnOk result (out.new.items ≡ out.old.items ++ field_text (Ended name.now why)) }
 {
-    match refusal {
+    out.extend_from_slice(name)?;
+    out.extend_from_slice(why.word())
+}
+
+/// Adds the first `most` bytes of a value from outside.
+#[tactic(auto, unfolding(crate::specs::Entry::field_text))]
+fn write_outside(
+    out: &mut Vec<u8>,
+    name: &[u8],
+    most: usize,
+    value: &[u8],
+) -> Result<(), AllocError>
+    ensures { OnOk result (out.new.items ≡ out.old.items ++ field_text (Outside name.now most value.now)) }
+{
+    out.extend_from_slice(name)?;
+    write_word(out, most, value)
+}
+
+/// Adds a number.
+#[tactic(auto, unfolding(crate::specs::Entry::field_text))]
+fn write_counted(out: &mut Vec<u8>, name: &[u8], number: u64) -> Result<(), AllocError>
+    ensures { OnOk result (out.new.items ≡ out.old.items ++ field_text (Number name.now number)) }
+{
+    out.extend_from_slice(name)?;
+    write_number(out, number)
+}
+
+/// Adds a number, or nothing where there is none.
+#[tactic(auto, unfolding(crate::specs::Entry::field_text))]
+fn write_optional(out: &mut Vec<u8>, name: &[u8], number: Option<u64>) -> Result<(), AllocError>
+    ensures { OnOk result (out.new.items ≡ out.old.items ++ field_text (Optional name.now number)) }
+{
+    match number {
         Some(number) => {
-            out.extend_from_slice(b" refusal=")?;
+            out.extend_from_slice(name)?;
             write_number(out, number)
         }
         None => Ok(()),
@@ -215,12 +264,12 @@ fn write_refusal(out: &mut Vec<u8>, refusal: Option<u64>) -> Result<(), AllocErr
 fn write_end(out: &mut Vec<u8>, entry: &Entry<'_>) -> Result<(), AllocError>
     ensures { OnOk result (out.new.items ≡ out.old.items ++ end_text entry.now) }
 {
-    write_verdicts(out, entry)?;
-    out.extend_from_slice(b" found=")?;
-    write_word(out, MAX_FOUND, entry.found)?;
-    out.extend_from_slice(b" in=")?;
-    write_number(out, entry.received)?;
-    write_refusal(out, entry.refusal)?;
+    write_judged(out, b" reqmod=", entry.summary.reqmod)?;
+    write_judged(out, b" respmod=", entry.summary.respmod)?;
+    write_ended(out, b" why=", entry.summary.why)?;
+    write_outside(out, b" found=", MAX_FOUND, entry.found)?;
+    write_counted(out, b" in=", entry.summary.received)?;
+    write_optional(out, b" refusal=", entry.summary.refusal)?;
     out.extend_from_slice(b"\n")
 }
 

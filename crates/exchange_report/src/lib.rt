@@ -22,7 +22,7 @@ mod words;
 
 pub use awaited::{Awaited, Outgoing, awaited_by, awaited_in, point_word};
 pub use caption::{Caption, write_script};
-pub use entry::{Address, Destination, Entry, write_line};
+pub use entry::{Address, Destination, Entry, LINE_ROOM, Summary, write_line};
 pub use exchange_id::{ExchangeId, read_id, write_id};
 pub use live::{Live, live_room, write_live};
 pub use metrics::{Family, Kind, Metric, metrics_text};

@@ -1,6 +1,6 @@
 //! What became of a message at one point, the request's or the response's.
 
-ghost use Rattle.std.specs.Prelude.{◌≡◌, ◌++◌, OnOk, false};
+ghost use Rattle.std.specs.Prelude.{◌≡◌, ◌++◌, OnOk};
 ghost use Rattle.exchange_report.specs.Entry.{reply_word, verdict_text};
 
 use std::alloc::AllocError;
@@ -44,15 +44,11 @@ impl Reply {
 
 impl Verdict {
     /// Before a message.
-    pub fn none() -> Verdict
-        ensures { result ≡ record { retried = false; continued = false; reply = Reply.Missing } }
-    {
-        Verdict {
-            retried: false,
-            continued: false,
-            reply: Reply::Missing,
-        }
-    }
+    pub const NONE: Verdict = Verdict {
+        retried: false,
+        continued: false,
+        reply: Reply::Missing,
+    };
 }
 
 /// Adds a verdict, as `retry+100+204`.

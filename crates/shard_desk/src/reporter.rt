@@ -252,7 +252,7 @@ impl Reporter {
     /// A request's transaction is over, of whose body so many bytes came. A byte of it went there, unless its connection is fresh.
     fn sent(&mut self, key: usize, received: u64, next_is_fresh: bool) {
         if let Some(note) = self.notes.get_mut(key) {
-            note.received = received;
+            note.summary.received = received;
             if !next_is_fresh {
                 note.destination = note.dialled;
             }
@@ -313,7 +313,7 @@ impl Reporter {
     /// The answer ends for this reason.
     fn ends(&mut self, key: usize, why: Why) {
         if let Some(note) = self.notes.get_mut(key) {
-            note.why = Some(why);
+            note.summary.why = why;
         }
     }
 

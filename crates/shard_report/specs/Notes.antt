@@ -1,10 +1,9 @@
 -- What is noted of the exchanges of a loop.
-use Rattle.std.specs.Prelude.{◌≡◌, ℕ, false, List, [], Option, Some, None, MatchOption, IsTrue, IsSomeAnd, slice_get, slice_set}
+use Rattle.std.specs.Prelude.{◌≡◌, ℕ, List, [], Some, None, MatchOption, IsTrue, IsSomeAnd, slice_get, slice_set}
 use Rattle.trace_core.specs.declared.history.Point.TheVariants.{Reqmod}
+use Rattle.exchange_report.specs.Entry.{nothing}
 use Rattle.exchange_report.specs.Pages.{page_refusal}
-use Rattle.exchange_report.specs.declared.verdict.Reply.TheVariants.{Missing}
 use Rattle.exchange_report.specs.declared.why.Why.{Why}
-use Rattle.exchange_report.specs.declared.why.Why.TheVariants.{UserGone}
 use Rattle.shard_report.specs.declared.notes.Note.{Note}
 use Rattle.shard_report.specs.declared.notes.Notes.{Notes}
 use Rattle.shard_report.specs.declared.notes.Words.{Words}
@@ -13,27 +12,22 @@ use Rattle.shard_report.specs.declared.notes.Words.{Words}
 abbrev pub IsOpen : List Note → ℕ → Type 0
 IsOpen notes key = IsSomeAnd (slice_get notes key) (λ note. IsTrue note.is_open)
 
--- why an exchange ended as it did: its user was gone where nothing else is noted
-abbrev pub why_or_gone : Option Why → Why
-why_or_gone (Some why) = why
-why_or_gone None = UserGone
-
+-- why an exchange ended as it did, as far as that is noted
 abbrev pub noted_why : Note → Why
-noted_why note = why_or_gone note.why
+noted_why note = note.summary.why
 
 -- A refusal with this page says what is noted: the word of the reason, and the number; and to a HEAD request its head alone goes.
 abbrev pub SaysPage : (status : ℕ) → (page : List ℕ) → (number : ℕ) → Note → (text : List ℕ) → Type 0
-SaysPage status page number note text = (note.page ≡ Some number) × (text ≡ page_refusal status page (noted_why note) number note.is_head)
+SaysPage status page number note text =
+    (note.summary.refusal ≡ Some number) × (text ≡ page_refusal status page (noted_why note) number note.is_head)
 
--- the same note, of a request that is begun anew: it went nowhere yet, and no service has seen it
+-- the same note, of a request that is begun anew: it went nowhere yet, and nothing became of it, so no service has seen it
 abbrev pub begun_anew : Note → Note
 begun_anew note = record note {
   point = Reqmod;
   dialled = None;
   destination = None;
-  received = 0;
-  reqmod = record { retried = false; continued = false; reply = Missing };
-  why = None;
+  summary = nothing;
 }
 
 -- the same texts, of a message in which nothing was found
@@ -47,7 +41,7 @@ ChangesAt key changes old new =
 
 -- The request under this key is begun anew.
 pub record Withdraws (key : ℕ) (old new : Notes) : Type 0 where
-  -- it went nowhere yet, and no service has seen it
+  -- it went nowhere yet, and nothing became of it
   pub note : ChangesAt key (λ x y. y ≡ begun_anew x) old.notes.items new.notes.items
   -- nothing was found in it
   pub found : ChangesAt key Forgets old.words.items new.words.items

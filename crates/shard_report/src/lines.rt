@@ -5,15 +5,12 @@ ghost use Rattle.std.specs.Vec.{vec_capacity};
 ghost use Rattle.exchange_report.specs.Entry.{line_text};
 ghost use Rattle.shard_report.specs.declared.lines.TheConstants.{ROOM};
 
-use exchange_report::{Entry, write_line};
+use exchange_report::{Entry, LINE_ROOM, write_line};
 use std::alloc::{AllocError, Global};
 use std::mem;
 
 /// How many bytes of lines may wait, of one loop.
 pub const ROOM: usize = 4_194_304;
-
-/// Room for a line: the values from outside have three bytes for each of theirs at most.
-const LINE: usize = 8_192;
 
 /// Lines that wait to be written, one after another.
 #[derive(Drop)]
@@ -78,7 +75,7 @@ impl LogRoom {
         ensures { IfOk result (λ room. room.lines.text.items ≡ []) }
     {
         let lines = Lines::new(alloc)?;
-        let line = Vec::with_capacity(alloc, LINE)?;
+        let line = Vec::with_capacity(alloc, LINE_ROOM)?;
         Ok(LogRoom { lines, line })
     }
 

@@ -7,8 +7,8 @@ ghost use Rattle.shard_report.specs.Notes.{IsOpen, SaysPage, Withdraws, noted_wh
 
 use adapt_bytes::front;
 use exchange_report::{
-    Address, Destination, Entry, MAX_FOUND, MAX_KIND, MAX_METHOD, MAX_TARGET, Reason, Verdict, Why,
-    page_refusal,
+    Address, Destination, Entry, MAX_FOUND, MAX_KIND, MAX_METHOD, MAX_TARGET, Reason, Summary,
+    Verdict, Why, page_refusal,
 };
 use std::alloc::{AllocError, Global};
 use trace_core::Point;
@@ -33,21 +33,16 @@ pub struct Note {
     pub destination: Option<Destination>,
     /// Which message is under way: the request, or the response.
     pub point: Point,
-    /// How many bytes of the request's body came.
-    pub received: u64,
     pub refused: bool,
     pub status: u16,
     /// Whether a byte of an answer went to the user, and no refusal's.
     pub answered: bool,
-    pub reqmod: Verdict,
-    pub respmod: Verdict,
-    pub why: Option<Why>,
     /// Why a service can't serve, where that was found.
     pub blamed: Option<Reason>,
     /// Whether it is a HEAD request.
     pub is_head: bool,
-    /// The number in the page of its refusal, where that has a page.
-    pub page: Option<u64>,
+    /// What became of it, as far as that is noted.
+    pub summary: Summary,
 }
 
 /// Texts from outside: the method, the target and the answer's media type, one after another; and what a service found.
@@ -93,16 +88,12 @@ fn blank() -> Note {
         dialled: None,
         destination: None,
         point: Point::Reqmod,
-        received: 0,
         refused: false,
         status: 0,
         answered: false,
-        reqmod: Verdict::none(),
-        respmod: Verdict::none(),
-        why: None,
         blamed: None,
         is_head: false,
-        page: None,
+        summary: Summary::NONE,
     }
 }
 
@@ -236,7 +227,7 @@ impl Notes {
         }
     }
 
-    /// The request is begun anew: from now on it is noted as one that went nowhere yet, and that no service has seen.
+    /// The request is begun anew: from now on it is noted as one that went nowhere yet, and of which nothing became.
     pub fn withdraw(&mut self, key: usize)
         ensures { Withdraws key self.old self.new }
     {
@@ -244,9 +235,7 @@ impl Notes {
             note.point = Point::Reqmod;
             note.dialled = None;
             note.destination = None;
-            note.received = 0;
-            note.reqmod = Verdict::none();
-            note.why = None;
+            note.summary = Summary::NONE;
         }
         if let Some(words) = self.words.get_mut(key) {
             words.found.clear();
@@ -271,7 +260,7 @@ impl Notes {
         self.answer(key, reason.status(), b"");
         if let Some(note) = self.notes.get_mut(key) {
             note.refused = true;
-            note.why = Some(Why::Failed(reason));
+            note.summary.why = Why::Failed(reason);
         }
     }
 
@@ -279,8 +268,8 @@ impl Notes {
     pub fn judge(&mut self, key: usize, point: Point, verdict: Verdict) {
         if let Some(note) = self.notes.get_mut(key) {
             match point {
-                Point::Reqmod => note.reqmod = verdict,
-                Point::Respmod => note.respmod = verdict,
+                Point::Reqmod => note.summary.reqmod = verdict,
+                Point::Respmod => note.summary.respmod = verdict,
             }
         }
     }
@@ -328,14 +317,14 @@ impl Notes {
             return None;
         };
         let note = self.notes.get_mut(key)?;
-        note.page = Some(number);
+        note.summary.refusal = Some(number);
         Some(text)
     }
 
-    /// What the log says of an exchange that ended at this moment, when so many bytes had gone to the user: among it the reason and the
-    /// number that are noted, and what a service found.
+    /// What the log says of an exchange that ended at this moment, when so many bytes had gone to the user: among it what became of it,
+    /// as it is noted, and what a service found.
     pub fn entry(&self, key: usize, note: &Note, ended: u64, sent: u64) -> Entry<'_>
-        ensures noted { (result.why ≡ noted_why note.now) × (result.refusal ≡ note.now.page) }
+        ensures noted { result.summary ≡ note.now.summary }
         ensures found { IfSome (slice_get self.now.words.items key) (λ words. result.found.now ≡ words.found.items) }
     {
         let nothing: &[u8] = b"";
@@ -354,12 +343,8 @@ impl Notes {
             target,
             destination: note.destination,
             kind,
-            reqmod: note.reqmod,
-            respmod: note.respmod,
-            why: why_of(note),
             found,
-            received: note.received,
-            refusal: note.page,
+            summary: note.summary,
         }
     }
 }
@@ -395,5 +380,5 @@ pub fn status_of(note: &Note) -> u16
 pub fn why_of(note: &Note) -> Why
     ensures { result ≡ noted_why note.now }
 {
-    note.why.unwrap_or(Why::UserGone)
+    note.summary.why
 }

@@ -2,8 +2,8 @@
 use crate::listed::index_of;
 use crate::questions::cut;
 use exchange_report::{
-    Address, Destination, Entry, Family, Kind, Metric, Reason, Reply, Verdict, Why, metrics_text,
-    page_refusal, write_line,
+    Address, Destination, Entry, Family, Kind, Metric, Reason, Reply, Summary, Verdict, Why,
+    metrics_text, page_refusal, write_line,
 };
 use std::alloc::Global;
 use test_rows::{NoMemory, Row, number, words_of};
@@ -61,7 +61,7 @@ fn set_word(verdict: &mut Verdict, word: &[u8]) {
 
 /// The verdict of words, as `retried continued unchanged`.
 fn verdict(text: &[u8]) -> Verdict {
-    let mut verdict = Verdict::none();
+    let mut verdict = Verdict::NONE;
     for word in words_of(text) {
         set_word(&mut verdict, word);
     }
@@ -85,6 +85,17 @@ fn why_of(row: &Row<'_>) -> Why {
     }
 }
 
+/// What became of the exchange of a row.
+fn summary_of(row: &Row<'_>) -> Summary {
+    Summary {
+        reqmod: verdict(row.get(b"reqmod")),
+        respmod: verdict(row.get(b"respmod")),
+        why: why_of(row),
+        received: row.number(b"in").unwrap_or(0),
+        refusal: row.number(b"number"),
+    }
+}
+
 /// The exchange of a row.
 fn entry_of<'a>(row: &Row<'a>) -> Entry<'a> {
     Entry {
@@ -98,12 +109,8 @@ fn entry_of<'a>(row: &Row<'a>) -> Entry<'a> {
         target: row.get(b"target"),
         destination: destination(row),
         kind: row.get(b"type"),
-        reqmod: verdict(row.get(b"reqmod")),
-        respmod: verdict(row.get(b"respmod")),
-        why: why_of(row),
         found: row.get(b"found"),
-        received: row.number(b"in").unwrap_or(0),
-        refusal: row.number(b"number"),
+        summary: summary_of(row),
     }
 }
 
