@@ -10,4 +10,4 @@ icapd --version    prints the version, and the kit that it is proved with
 ";
 
 /// The version, and the identity of the kit that the program is proved and built with.
-pub const VERSION: &[u8] = b"icapd 0.1.0 (rattle-kit-13b logic dac8208d650f15bf)\n";
+pub const VERSION: &[u8] = b"icapd 0.1.0 (rattle-kit-13f logic dac8208d650f15bf)\n";
