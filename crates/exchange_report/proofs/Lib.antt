@@ -1,4 +1,5 @@
 pub mod Apart
+pub mod Fields
 pub mod IdCuts
 pub mod OneLine
 pub mod OneWord

@@ -106,6 +106,11 @@ abbrev pub fields_text : List Field → List ℕ
 fields_text [] = []
 fields_text (field ∷ fields) = field_text field ++ fields_text fields
 
+-- a text, and these fields after it
+abbrev pub with_fields : List ℕ → List Field → List ℕ
+with_fields text [] = text
+with_fields text (field ∷ fields) = with_fields (text ++ field_text field) fields
+
 -- what a service made of the request and of the response, why the exchange ended otherwise than by its answer, what a service
 -- found, the bytes of the request's body, and the number in the page of a refusal
 abbrev pub fields_of : Entry → List Field

@@ -2,7 +2,7 @@
 
 ghost use Rattle.std.specs.Prelude.{◌≡◌, ◌++◌, ◌<◌, OnOk};
 ghost use Rattle.exchange_report.specs.Words.{word_of};
-ghost use Rattle.exchange_report.specs.Entry.{address_text, moment_text, user_text, destination_text, tag_text, status_text, head_text, request_text, field_text, end_text, line_text};
+ghost use Rattle.exchange_report.specs.Entry.{address_text, moment_text, user_text, destination_text, tag_text, status_text, head_text, request_text, field_text, with_fields, fields_of, end_text, line_text};
 ghost use Rattle.exchange_report.specs.Entry.Field.{Judged, Ended, Outside, Number, Optional};
 
 use crate::verdict::{Verdict, write_verdict};
@@ -259,17 +259,24 @@ fn write_optional(out: &mut Vec<u8>, name: &[u8], number: Option<u64>) -> Result
     }
 }
 
-/// Adds the fields that Squid's format hasn't, and the line's end.
-#[tactic(auto, unfolding(crate::specs::Entry::end_text))]
-fn write_end(out: &mut Vec<u8>, entry: &Entry<'_>) -> Result<(), AllocError>
-    ensures { OnOk result (out.new.items ≡ out.old.items ++ end_text entry.now) }
+/// Adds the fields that Squid's format hasn't.
+fn write_fields(out: &mut Vec<u8>, entry: &Entry<'_>) -> Result<(), AllocError>
+    ensures { OnOk result (out.new.items ≡ with_fields out.old.items (fields_of entry.now)) }
 {
     write_judged(out, b" reqmod=", entry.summary.reqmod)?;
     write_judged(out, b" respmod=", entry.summary.respmod)?;
     write_ended(out, b" why=", entry.summary.why)?;
     write_outside(out, b" found=", MAX_FOUND, entry.found)?;
     write_counted(out, b" in=", entry.summary.received)?;
-    write_optional(out, b" refusal=", entry.summary.refusal)?;
+    write_optional(out, b" refusal=", entry.summary.refusal)
+}
+
+/// Adds these fields, and the line's end.
+#[tactic(auto, using(crate::proofs::Fields::ended))]
+fn write_end(out: &mut Vec<u8>, entry: &Entry<'_>) -> Result<(), AllocError>
+    ensures { OnOk result (out.new.items ≡ out.old.items ++ end_text entry.now) }
+{
+    write_fields(out, entry)?;
     out.extend_from_slice(b"\n")
 }
 
