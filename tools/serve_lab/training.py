@@ -94,6 +94,8 @@ def train(runs):
             (kept, KEPT + WIDER, respmod, get("/bytes/64000"), long, 20)):
         proxy = runs.proxy(origin, text, services)
         Asking(proxy.port, request, body, count)
-        proxy.stop()
+        said = proxy.stop()
+        if said.startswith("status"):
+            raise AssertionError(said)
     for server in (fresh, kept, leaves, changes):
         server.close()
