@@ -39,30 +39,28 @@ def same(conn, reader, head, _count):
     Icap.same(conn, fields, heads, body, last)
 
 
-class Asking:
-    """Users who ask for the same again and again, each on its own connection."""
+def ask_at_once(port, request, body, count):
+    """As many users ask for the same at once, so many times each on its own connection, and get this body."""
+    faults = []
 
-    def __init__(self, port, request, body, count, users=USERS):
-        self.port, self.request, self.body, self.count = port, request, body, count
-        self.faults = []
-        threads = [threading.Thread(target=self.ask, daemon=True) for _ in range(users)]
-        for thread in threads:
-            thread.start()
-        for thread in threads:
-            thread.join()
-        if self.faults:
-            raise self.faults[0]
-
-    def ask(self):
+    def ask():
         try:
-            user = User(self.port)
-            for _ in range(self.count):
-                answer = user.ask(self.request)
-                if (answer.status, answer.body) != (200, self.body):
+            user = User(port)
+            for _ in range(count):
+                answer = user.ask(request)
+                if (answer.status, answer.body) != (200, body):
                     raise AssertionError("status %d, %d bytes" % (answer.status, len(answer.body)))
             user.close()
         except (AssertionError, Closed, OSError) as fault:
-            self.faults.append(fault)
+            faults.append(fault)
+
+    users = [threading.Thread(target=ask, daemon=True) for _ in range(USERS)]
+    for user in users:
+        user.start()
+    for user in users:
+        user.join()
+    if faults:
+        raise faults[0]
 
 
 class Runs:
@@ -93,7 +91,7 @@ def train(runs):
             (fresh, WIDER, (), get("/bytes/64000"), long, 20),
             (kept, KEPT + WIDER, respmod, get("/bytes/64000"), long, 20)):
         proxy = runs.proxy(origin, text, services)
-        Asking(proxy.port, request, body, count)
+        ask_at_once(proxy.port, request, body, count)
         said = proxy.stop()
         if said.startswith("status"):
             raise AssertionError(said)
