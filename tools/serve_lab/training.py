@@ -91,8 +91,11 @@ def train(runs):
             (fresh, WIDER, (), get("/bytes/64000"), long, 20),
             (kept, KEPT + WIDER, respmod, get("/bytes/64000"), long, 20)):
         proxy = runs.proxy(origin, text, services)
-        ask_at_once(proxy.port, request, body, count)
-        said = proxy.stop()
+        try:
+            ask_at_once(proxy.port, request, body, count)
+            said = proxy.stop()
+        finally:
+            proxy.kill()
         if said.startswith("status"):
             raise AssertionError(said)
     for server in (fresh, kept, leaves, changes):
