@@ -281,9 +281,10 @@ def a_wait_ends_with_a_refusal(bench):
     _service, proxy, _first, held = one_held(bench, "wait = 1\nshards = 2\nrows = 3")
     begin = time.time()
     users = [User(proxy.port) for _ in range(3)]
-    for user in users:
+    for count, user in enumerate(users, 1):
+        # One after another: each request has a row until it is out, and the first user has one.
         user.send(get("/bytes/3"))
-    wait_for(proxy, 3)
+        wait_for(proxy, count)
     is_refused("one too many", proxy.port, get("/bytes/3"), 503)
     same("that one at once", time.time() - begin < 1.0, True)
     same("refused", [user.reader.to_end() for user in users], [refusal(503)] * 3)
