@@ -4,7 +4,7 @@
 
 typedef unsigned long word;
 
-/* The version of the module's records, and that they count what LLVM's own code is made of. */
+/* The version of the module's records, with the bit that says that the counters are of LLVM's own code and not of a front end's. */
 extern const word __llvm_profile_raw_version;
 /* A module that counts asks for this name, so that what writes the counters is linked. */
 int __llvm_profile_runtime;
