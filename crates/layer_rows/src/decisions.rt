@@ -22,7 +22,7 @@ use test_rows::{NoMemory, Row};
 /// The calls of rows, in the order of `put_answer`.
 const CALLS: &[u8] =
     b"history|plan in range|read options|texts of faults|extension|plan of a message|limits in range|least claim|\
-world|read configuration|values|hosts|access|hosts file|change|write_line|metrics_text|course|random histories|page_refusal|write_live|write_script";
+world|read configuration|values|hosts|access|hosts file|change|write_line|metrics_text|course|random histories|page_refusal|write_live|write_script|ranges";
 
 /// Adds the answer to a row of these calls; nothing for another one.
 pub fn put_answer(
@@ -41,7 +41,7 @@ pub fn put_answer(
         Some(6) => plans::put_limits(row, out),
         Some(7) => plans::put_least(row, out),
         Some(8) => worlds::put_world(alloc, row, out),
-        Some(9..=14) => configurations::put_config(alloc, call, row, out),
+        Some(9..=14 | 22) => configurations::put_config(alloc, call, row, out),
         Some(15) => reports::put_entry(row, out),
         Some(16) => reports::put_metrics(alloc, row, out),
         Some(17) => courses::put_course(row, out),

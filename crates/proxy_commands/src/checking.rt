@@ -1,7 +1,7 @@
 //! `adaptproxy check`: says whether a text is a configuration, and why not, and binds nothing.
 
 use crate::descriptors::{descriptors, limit_in};
-use crate::keys::value_of_key;
+use crate::keys::put_value_of_key;
 use crate::memory::{memory, memory_in};
 use crate::serve::say;
 use crate::serve_error::{ServeError, put_error};
@@ -135,9 +135,7 @@ fn explain<E: Write>(
             Err(fault) => write!(errors, "adaptproxy: {fault}"),
         },
         ServeError::Key(key) | ServeError::KeyLine(key, _) => {
-            let key = key.as_str();
-            let value = value_of_key(key);
-            writeln!(errors, "adaptproxy: {key}: {value}")
+            put_value_of_key(key.as_str(), errors)
         }
         _ => Ok(()),
     }

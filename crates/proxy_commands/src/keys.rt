@@ -1,10 +1,13 @@
 //! What the values of a configuration's keys may be, in words.
 
+use proxy_config::{NumberKey, number_named};
+use std::io::{self, Write};
+
 /// A key's name, and what its value may be.
 type Entry = (&'static str, &'static str);
 
-/// The keys of the document.
-const OF_THE_DOCUMENT: [Entry; 37] = [
+/// The keys of the document whose values are no whole numbers with ranges of their own.
+const OF_THE_DOCUMENT: [Entry; 19] = [
     (
         "listen",
         "an IPv4 address and a port, as \"127.0.0.1:3128\"",
@@ -13,16 +16,7 @@ const OF_THE_DOCUMENT: [Entry; 37] = [
         "admin",
         "an IPv4 address and a port, as \"127.0.0.1:3129\", which isn't that of listen",
     ),
-    ("shards", "1 to 64 threads (default 2)"),
-    ("capacity", "1 to 1099511627776 bytes (default 16777216)"),
-    ("rows", "1 to 4096 transactions (default 256)"),
-    ("journal", "1 to 65536 steps (default 1024)"),
-    ("deadline", "1 to 3600 seconds (default 60)"),
-    ("preview_limit", "0 to 65536 bytes (default 1024)"),
-    ("allow_limit", "0 to 1048576 bytes (default 65536)"),
-    ("window", "1 to 65536 bytes (default 8192)"),
     ("retry", "true or false (default true)"),
-    ("wait", "0 to 3600 seconds (default 0: none)"),
     (
         "log",
         "the path of a file that can be opened, of 1 to 4096 bytes (default: no log)",
@@ -40,10 +34,6 @@ const OF_THE_DOCUMENT: [Entry; 37] = [
         "denied",
         "a list of networks, as [\"127.0.0.0/8\"] (default: none)",
     ),
-    (
-        "user_connections",
-        "0 to 4096 connections (default 0: no limit)",
-    ),
     ("client_ip", "true or false (default false)"),
     (
         "carry",
@@ -54,28 +44,11 @@ const OF_THE_DOCUMENT: [Entry; 37] = [
         "hosts_file",
         "the path of a file that can be opened, of 1 to 4096 bytes, in which each line has an IPv4 address and names, at most 67108864 bytes in all (default: none)",
     ),
-    ("keep_origins", "0 to 1024 connections (default 0: none)"),
-    ("origin_idle", "1 to 3600 seconds (default 30)"),
     ("dial", "\"first\" or \"late\" (default \"first\")"),
     (
         "turn",
         "4096 to 65536 bytes, a multiple of 4096 and at most window (default 4096)",
     ),
-    ("service_idle", "0 to 3600 seconds (default 60)"),
-    (
-        "options_ttl",
-        "0 to 2147483648 seconds (default 0: for ever)",
-    ),
-    ("head_deadline", "0 to 3600 seconds (default 0: none)"),
-    (
-        "connect_deadline",
-        "0 to 3600 seconds (default 0: that of deadline)",
-    ),
-    (
-        "service_failures",
-        "0 to 1024 failures (default 0: no pause)",
-    ),
-    ("service_pause", "1 to 3600 seconds (default 30)"),
     (
         "refusal_pages",
         "the path of a folder, of 1 to 4096 bytes, whose pages can be opened, each of at most 16384 bytes (default: plain texts)",
@@ -127,7 +100,7 @@ fn entry_of(entries: &[Entry], key: &str) -> &'static str {
 }
 
 /// What the value of a key may be, and its default where it has one. A key of a table stands after the table's name and a dot.
-pub fn value_of_key(key: &str) -> &'static str {
+fn value_of_key(key: &str) -> &'static str {
     if key.strip_prefix("hosts.").is_some() {
         return OF_A_HOST;
     }
@@ -141,4 +114,24 @@ pub fn value_of_key(key: &str) -> &'static str {
         return entry_of(&OF_THE_PARENT, inner);
     }
     entry_of(&OF_THE_DOCUMENT, key)
+}
+
+/// Writes a line that says what the value of a key may be, and its default where it has one.
+pub fn put_value_of_key<E: Write>(key: &str, errors: &mut E) -> io::Result<()> {
+    let Some(number) = number_named(key) else {
+        let value = value_of_key(key);
+        return writeln!(errors, "adaptproxy: {key}: {value}");
+    };
+    let NumberKey {
+        low,
+        high,
+        other,
+        unit,
+        meaning,
+        ..
+    } = number;
+    writeln!(
+        errors,
+        "adaptproxy: {key}: {low} to {high} {unit} (default {other}{meaning})"
+    )
 }

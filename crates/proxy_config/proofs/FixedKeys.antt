@@ -1,6 +1,7 @@
 -- Comparing the values of keys, one after the other.
 use Rattle.std.proofs.Common.{◌≡◌, ◌↔◌, ◌==◌, ℕ, List, [], ◌∷◌, ◌++◌, Bool, true, false, if◌then◌else◌, Option, Some, None, IsTrue, inl}
-use Rattle.std.proofs.Common.{inr, refl, ap, rules}
+use Rattle.std.proofs.Common.{inr, Bor, option_copied, refl, ap, sym, ◌∙◌, subst}
+use Rattle.std.specs.Option.{option_or}
 use Rattle.std.proofs.lemmas.Bool.{false≢true}
 use Rattle.std.proofs.lemmas.Bool.Decides.{Decides-eqb}
 use Rattle.std.proofs.Math.Bool.{beq}
@@ -26,7 +27,7 @@ pub same_truth : (a b : Bool) → IsTrue (beq a b) ↔ (a ≡ b)
 same_truth a b = ((booleans_Decides a b).0, (booleans_Decides a b).1)
 
 -- with one more key before some, the first change is it where it differs, else the first of those
-first_here : (same : Bool) (row : Row) (rows : List Row) (old new : Config) (name : List ℕ) (later : Option (List ℕ)) → name ≡ row.name
+pub first_here : (same : Bool) (row : Row) (rows : List Row) (old new : Config) (name : List ℕ) (later : Option (List ℕ)) → name ≡ row.name
     → (IsTrue same ↔ Agrees row old new)
     → IsFirstChange rows old new later → IsFirstChange (row ∷ rows) old new (if same then later else Some name)
 unfolding IsFirstChange
@@ -34,7 +35,7 @@ first_here true row rows old new name later is agrees first = inl (agrees.0 refl
 first_here false row rows old new name later is agrees first = inr (λ same. false≢true (agrees.1 same), ap Some is)
 
 -- of no keys none is the first change
-none_first : (old new : Config) → IsFirstChange [] old new None
+pub none_first : (old new : Config) → IsFirstChange [] old new None
 unfolding IsFirstChange
 none_first old new = refl
 
@@ -47,23 +48,26 @@ first_is (row ∷ rows) old new [] are = absurd are
 first_is (row ∷ rows) old new (check ∷ checks) are =
     first_here check.1 row rows old new check.0 (first_other checks) are.0 are.1 (first_is rows old new checks are.2)
 
--- keys on which they agree, before others
-pub none_before : (rows more : List Row) (old new : Config) (found : Option (List ℕ)) → IsFirstChange rows old new None
-    → IsFirstChange more old new found
-    → IsFirstChange (rows ++ more) old new found
+-- the first change of some keys, or else that of those after them, is the first of all
+pub first_then : (rows more : List Row) (old new : Config) (found later : Option (List ℕ)) → IsFirstChange rows old new found
+    → IsFirstChange more old new later → IsFirstChange (rows ++ more) old new (option_or found later)
 unfolding IsFirstChange
-none_before [] more old new found none first = first
-none_before (row ∷ rows) more old new found none first = elim none as (λ _. IsFirstChange (row ∷ rows ++ more) old new found) [
-  | inl agreed ↦ inl (agreed.0, none_before rows more old new found agreed.1 first)
-  | inr other ↦ search (rules, other.1)
-]
+first_then [] more old new found later first second = subst (λ (o : Option (List ℕ)). IsFirstChange more old new (option_or o later)) (sym first) second
+first_then (row ∷ rows) more old new found later first second =
+    elim first as (λ _. IsFirstChange (row ∷ rows ++ more) old new (option_or found later)) [
+      | inl agreed ↦ inl (agreed.0, first_then rows more old new found later agreed.1 second)
+      | inr other ↦ inr (other.0, ap (λ (o : Option (List ℕ)). option_or o later) other.1)
+    ]
 
--- the first of some keys is that of more
-pub some_before : (rows more : List Row) (old new : Config) (key : List ℕ) → IsFirstChange rows old new (Some key)
-    → IsFirstChange (rows ++ more) old new (Some key)
-unfolding IsFirstChange
-some_before [] more old new key first = search (rules, first)
-some_before (row ∷ rows) more old new key first = elim first as (λ _. IsFirstChange (row ∷ rows ++ more) old new (Some key)) [
-  | inl agreed ↦ inl (agreed.0, some_before rows more old new key agreed.1)
-  | inr other ↦ inr other
-]
+-- the value of an option, or else that of another one
+copied_or : (one other : Option (Bor (List ℕ))) → option_copied (option_or one other) ≡ option_or (option_copied one) (option_copied other)
+copied_or None other = refl
+copied_or (Some key) other = refl
+
+-- so of the keys that two calls answer
+pub first_or : (rows more : List Row) (old new : Config) (one other found : Option (Bor (List ℕ))) → found ≡ option_or one other
+    → IsFirstChange rows old new (option_copied one) → IsFirstChange more old new (option_copied other)
+    → IsFirstChange (rows ++ more) old new (option_copied found)
+first_or rows more old new one other found is first second =
+    subst (IsFirstChange (rows ++ more) old new) (sym (ap option_copied is ∙ copied_or one other))
+    (first_then rows more old new (option_copied one) (option_copied other) first second)

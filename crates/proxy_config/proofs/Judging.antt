@@ -21,7 +21,7 @@ of_row P row name kind same_name same_kind p =
     subst Q (sym same_name) (subst R (sym same_kind) p)
 
 -- where the key of the first row is good, the rows after it are next
-goes_on : (rows : List Row) (name : List ℕ) (kind : Kind) (document : Members) → Begins rows name kind → Reaches rows document
+pub goes_on : (rows : List Row) (name : List ℕ) (kind : Kind) (document : Members) → Begins rows name kind → Reaches rows document
     → IsGood kind name document
     → Reaches (rest rows) document
 unfolding IsFirstIn
@@ -31,7 +31,7 @@ goes_on (row ∷ rows) name kind document begins reached good = record {
 }
 
 -- a fault of the first row's key, reached in turn, is the document's first
-stops : (rows : List Row) (name : List ℕ) (kind : Kind) (document : Members) → Begins rows name kind → Reaches rows document
+pub stops : (rows : List Row) (name : List ℕ) (kind : Kind) (document : Members) → Begins rows name kind → Reaches rows document
     → (found : List ℕ) → IsFaultOf kind name document found → IsFirstFault document found
 unfolding IsFirstIn
 stops [] name kind document begins reached found fault = absurd begins

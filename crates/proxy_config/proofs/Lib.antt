@@ -13,6 +13,8 @@ pub mod SeenNames
 pub mod Found
 pub mod PortLemmas
 pub mod Judging
+pub mod NumberRuns
+pub mod NumberNames
 pub mod NetworkLists
 pub mod CarryLemmas
 pub mod ParentLemmas
@@ -23,3 +25,4 @@ pub mod NamedHosts
 pub mod ReadLines
 pub mod SameTexts
 pub mod FixedKeys
+pub mod NumberChanges

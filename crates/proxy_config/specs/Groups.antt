@@ -4,24 +4,17 @@ use Rattle.toml.specs.Data.{Members}
 use Rattle.proxy_config.specs.Config.{AreSaid}
 use Rattle.proxy_config.specs.Keys.{Row}
 use Rattle.proxy_config.specs.declared.config.Config.{Config}
-use Rattle.proxy_config.specs.declared.sizes.Sizes.{Sizes}
 use Rattle.proxy_config.specs.declared.entrance.Entrance.{Entrance}
+use Rattle.proxy_config.specs.declared.origins.Origins.{Origins}
 use Rattle.proxy_config.specs.declared.places.Places.{Places}
-use Rattle.proxy_config.specs.declared.times.Times.{Times}
 
 -- a configuration has these values
-abbrev pub HasSizes : Config → Sizes → Type 0
-HasSizes c s = (c.shards ≡ s.shards) × (c.capacity ≡ s.capacity) × (c.rows ≡ s.rows) × (c.journal ≡ s.journal) × (c.deadline ≡ s.deadline)
-    × (c.preview_limit ≡ s.preview_limit) × (c.allow_limit ≡ s.allow_limit) × (c.window ≡ s.window)
-
 abbrev pub HasEntrance : Config → Entrance → Type 0
 HasEntrance c e = (c.users ≡ e.users) × (c.denied ≡ e.denied) × (c.user_connections ≡ e.user_connections) × (c.client_ip ≡ e.client_ip)
     × (c.carry ≡ e.carry) × (c.proxy_protocol ≡ e.proxy_protocol) × (c.hosts_file ≡ e.hosts_file)
 
-abbrev pub HasTimes : Config → Times → Type 0
-HasTimes c t = (c.keep_origins ≡ t.keep_origins) × (c.origin_idle ≡ t.origin_idle) × (c.dial ≡ t.dial) × (c.turn ≡ t.turn)
-    × (c.service_idle ≡ t.service_idle) × (c.options_ttl ≡ t.options_ttl) × (c.head_deadline ≡ t.head_deadline)
-    × (c.connect_deadline ≡ t.connect_deadline) × (c.service_failures ≡ t.service_failures) × (c.service_pause ≡ t.service_pause)
+abbrev pub HasOrigins : Config → Origins → Type 0
+HasOrigins c o = (c.keep_origins ≡ o.keep_origins) × (c.origin_idle ≡ o.origin_idle) × (c.dial ≡ o.dial) × (c.turn ≡ o.turn)
 
 abbrev pub HasPlaces : Config → Places → Type 0
 HasPlaces c p = (c.hosts ≡ p.hosts) × (c.reqmod ≡ p.reqmod) × (c.respmod ≡ p.respmod) × (c.parent ≡ p.parent)

@@ -83,89 +83,124 @@ IsFaultOf service name document found = IsServiceFault name document found
 IsFaultOf parent_proxy name document found = IsParentFault document found
 IsFaultOf kind name document found = (IsGood kind name document → ⊥) × (found ≡ name)
 
--- a key: its name, the kind of its value, and where in a configuration its value goes
+-- a key: its name, the kind of its value, where in a configuration its value goes, and whether it can't change while the proxy runs
 pub record Row : Type 0 where
   pub name : List ℕ
   pub kind : Kind
   pub goes : Config → ValueOf kind
+  pub is_fixed : Bool
 
-abbrev pub row : List ℕ → (kind : Kind) → (Config → ValueOf kind) → Row
-row name kind goes = record { name = name; kind = kind; goes = goes }
+-- a key that can't change while the proxy runs
+abbrev pub fixed : List ℕ → (kind : Kind) → (Config → ValueOf kind) → Row
+fixed name kind goes = record { name = name; kind = kind; goes = goes; is_fixed = true }
+
+-- a key that can
+abbrev pub live : List ℕ → (kind : Kind) → (Config → ValueOf kind) → Row
+live name kind goes = record { name = name; kind = kind; goes = goes; is_fixed = false }
+
+-- a key whose value is a whole number: its name, its range, the number where it is missing, whether it can't change while the proxy runs,
+-- and where in a configuration the number goes
+pub record NumberRow : Type 0 where
+  pub name : List ℕ
+  pub low : ℕ
+  pub high : ℕ
+  pub other : ℕ
+  pub is_fixed : Bool
+  pub goes : Config → ℕ
+
+-- a number that can't change while the proxy runs
+abbrev pub fixed_number : List ℕ → (low high other : ℕ) → (Config → ℕ) → NumberRow
+fixed_number name low high other goes = record { name = name; low = low; high = high; other = other; is_fixed = true; goes = goes }
+
+-- a number that can
+abbrev pub live_number : List ℕ → (low high other : ℕ) → (Config → ℕ) → NumberRow
+live_number name low high other goes = record { name = name; low = low; high = high; other = other; is_fixed = false; goes = goes }
+
+-- the key among those of all kinds
+abbrev pub of_number : NumberRow → Row
+of_number row = record { name = row.name; kind = number row.low row.high row.other; goes = row.goes; is_fixed = row.is_fixed }
 
 -- where users and the administrator connect
 abbrev pub port_rows : List Row
 port_rows =
-    row (codes "listen") address (λ c. c.listen)
-    ∷ row (codes "admin") admin_address (λ c. c.admin)
+    fixed (codes "listen") address (λ c. c.listen)
+    ∷ fixed (codes "admin") admin_address (λ c. c.admin)
     ∷ []
 
 -- how much there may be, and for how long without a moved byte
-abbrev pub size_rows : List Row
+abbrev pub size_rows : List NumberRow
 size_rows =
-    row (codes "shards") (number 1 MAX_SHARDS 2) (λ c. c.shards)
-    ∷ row (codes "capacity") (number 1 MAX_CAPACITY 16777216) (λ c. c.capacity)
-    ∷ row (codes "rows") (number 1 MAX_ROWS 256) (λ c. c.rows)
-    ∷ row (codes "journal") (number 1 65536 1024) (λ c. c.journal)
-    ∷ row (codes "deadline") (number 1 3600 60) (λ c. c.deadline)
-    ∷ row (codes "preview_limit") (number 0 MAX_PREVIEW 1024) (λ c. c.preview_limit)
-    ∷ row (codes "allow_limit") (number 0 MAX_ALLOW_LIMIT 65536) (λ c. c.allow_limit)
-    ∷ row (codes "window") (number 1 MAX_WINDOW 8192) (λ c. c.window)
+    fixed_number (codes "shards") 1 MAX_SHARDS 2 (λ c. c.shards)
+    ∷ live_number (codes "capacity") 1 MAX_CAPACITY 16777216 (λ c. c.capacity)
+    ∷ fixed_number (codes "rows") 1 MAX_ROWS 256 (λ c. c.rows)
+    ∷ fixed_number (codes "journal") 1 65536 1024 (λ c. c.journal)
+    ∷ live_number (codes "deadline") 1 3600 60 (λ c. c.deadline)
+    ∷ fixed_number (codes "preview_limit") 0 MAX_PREVIEW 1024 (λ c. c.preview_limit)
+    ∷ fixed_number (codes "allow_limit") 0 MAX_ALLOW_LIMIT 65536 (λ c. c.allow_limit)
+    ∷ fixed_number (codes "window") 1 MAX_WINDOW 8192 (λ c. c.window)
     ∷ []
 
 -- whether a message is sent again, how long it waits for a connection, and what is told of messages
 abbrev pub message_rows : List Row
 message_rows =
-    row (codes "retry") (truth true) (λ c. c.retry)
-    ∷ row (codes "wait") (number 0 3600 0) (λ c. c.wait)
-    ∷ row (codes "log") file_path (λ c. option_map string_bytes c.log)
-    ∷ row (codes "log_query") (truth true) (λ c. c.log_query)
-    ∷ row (codes "metrics") metrics_address (λ c. c.metrics)
+    fixed (codes "retry") (truth true) (λ c. c.retry)
+    ∷ live (codes "wait") (number 0 3600 0) (λ c. c.wait)
+    ∷ fixed (codes "log") file_path (λ c. option_map string_bytes c.log)
+    ∷ fixed (codes "log_query") (truth true) (λ c. c.log_query)
+    ∷ fixed (codes "metrics") metrics_address (λ c. c.metrics)
     ∷ []
 
 -- who may use the proxy, and where requests may go
 abbrev pub entrance_rows : List Row
 entrance_rows =
-    row (codes "users") user_networks (λ c. option_map (λ networks. networks.items) c.users)
-    ∷ row (codes "denied") denied_networks (λ c. c.denied.items)
-    ∷ row (codes "user_connections") (number 0 4096 0) (λ c. c.user_connections)
-    ∷ row (codes "client_ip") (truth false) (λ c. c.client_ip)
-    ∷ row (codes "carry") field_names (λ c. map string_bytes c.carry.items)
-    ∷ row (codes "proxy_protocol") (truth false) (λ c. c.proxy_protocol)
-    ∷ row (codes "hosts_file") file_path (λ c. option_map string_bytes c.hosts_file)
+    live (codes "users") user_networks (λ c. option_map (λ networks. networks.items) c.users)
+    ∷ live (codes "denied") denied_networks (λ c. c.denied.items)
+    ∷ fixed (codes "user_connections") (number 0 4096 0) (λ c. c.user_connections)
+    ∷ live (codes "client_ip") (truth false) (λ c. c.client_ip)
+    ∷ fixed (codes "carry") field_names (λ c. map string_bytes c.carry.items)
+    ∷ fixed (codes "proxy_protocol") (truth false) (λ c. c.proxy_protocol)
+    ∷ live (codes "hosts_file") file_path (λ c. option_map string_bytes c.hosts_file)
     ∷ []
 
--- how long connections lie idle and may take to open, how many bytes a turn moves, and when a service is paused
-abbrev pub time_rows : List Row
+-- which connections to origins are kept, when one is opened, and how many bytes a turn moves
+abbrev pub origin_rows : List Row
+origin_rows =
+    fixed (codes "keep_origins") (number 0 1024 0) (λ c. c.keep_origins)
+    ∷ fixed (codes "origin_idle") (number 1 3600 30) (λ c. c.origin_idle)
+    ∷ fixed (codes "dial") dial_time (λ c. c.dial)
+    ∷ fixed (codes "turn") turn_size (λ c. c.turn)
+    ∷ []
+
+-- how long connections to services lie idle, what heads and new connections may take, and when a service is paused
+abbrev pub time_rows : List NumberRow
 time_rows =
-    row (codes "keep_origins") (number 0 1024 0) (λ c. c.keep_origins)
-    ∷ row (codes "origin_idle") (number 1 3600 30) (λ c. c.origin_idle)
-    ∷ row (codes "dial") dial_time (λ c. c.dial)
-    ∷ row (codes "turn") turn_size (λ c. c.turn)
-    ∷ row (codes "service_idle") (number 0 3600 60) (λ c. c.service_idle)
-    ∷ row (codes "options_ttl") (number 0 2147483648 0) (λ c. c.options_ttl)
-    ∷ row (codes "head_deadline") (number 0 3600 0) (λ c. c.head_deadline)
-    ∷ row (codes "connect_deadline") (number 0 3600 0) (λ c. c.connect_deadline)
-    ∷ row (codes "service_failures") (number 0 1024 0) (λ c. c.service_failures)
-    ∷ row (codes "service_pause") (number 1 3600 30) (λ c. c.service_pause)
+    fixed_number (codes "service_idle") 0 3600 60 (λ c. c.service_idle)
+    ∷ fixed_number (codes "options_ttl") 0 2147483648 0 (λ c. c.options_ttl)
+    ∷ fixed_number (codes "head_deadline") 0 3600 0 (λ c. c.head_deadline)
+    ∷ fixed_number (codes "connect_deadline") 0 3600 0 (λ c. c.connect_deadline)
+    ∷ fixed_number (codes "service_failures") 0 1024 0 (λ c. c.service_failures)
+    ∷ fixed_number (codes "service_pause") 1 3600 30 (λ c. c.service_pause)
     ∷ []
 
 -- what refusals say
 abbrev pub page_rows : List Row
 page_rows =
-    row (codes "refusal_pages") file_path (λ c. option_map string_bytes c.refusal_pages)
+    live (codes "refusal_pages") file_path (λ c. option_map string_bytes c.refusal_pages)
     ∷ []
 
 -- where requests and messages go
 abbrev pub place_rows : List Row
 place_rows =
-    row (codes "hosts") host_table (λ c. c.hosts)
-    ∷ row (codes "reqmod") service (λ c. c.reqmod)
-    ∷ row (codes "respmod") service (λ c. c.respmod)
-    ∷ row (codes "parent") parent_proxy (λ c. c.parent)
+    live (codes "hosts") host_table (λ c. c.hosts)
+    ∷ fixed (codes "reqmod") service (λ c. c.reqmod)
+    ∷ fixed (codes "respmod") service (λ c. c.respmod)
+    ∷ fixed (codes "parent") parent_proxy (λ c. c.parent)
     ∷ []
 
 abbrev pub table : List Row
-table = port_rows ++ (size_rows ++ (message_rows ++ (entrance_rows ++ (time_rows ++ (page_rows ++ place_rows)))))
+table =
+    port_rows
+    ++ (map of_number size_rows ++ (message_rows ++ (entrance_rows ++ (origin_rows ++ (map of_number time_rows ++ (page_rows ++ place_rows))))))
 
 -- the names of the keys
 abbrev pub document_keys : List (List ℕ)

@@ -21,3 +21,4 @@ pub mod Groups
 pub mod Pages
 pub mod HostsFile
 pub mod Changes
+pub mod Numbers

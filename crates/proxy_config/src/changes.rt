@@ -1,11 +1,13 @@
 //! Which keys can't change while the proxy runs.
 
-ghost use Rattle.std.specs.Prelude.{◌≡◌, ◌↔◌, IsTrue, map, string_bytes};
+ghost use Rattle.std.specs.Prelude.{◌≡◌, ◌↔◌, IsTrue, length, map, string_bytes};
 ghost use Rattle.std.specs.Option.{option_copied};
-ghost use Rattle.proxy_config.specs.Changes.{first_other, fixed_rows, IsFirstChange, SameService, entrance_fixed, place_fixed, size_fixed, time_fixed, shown};
+ghost use Rattle.proxy_config.specs.Changes.{first_other, fixed_of, fixed_rows, IsFirstChange, IsFirstDiffering, SameService, shown};
+ghost use Rattle.proxy_config.specs.Keys.{entrance_rows, message_rows, of_number, origin_rows, place_rows, port_rows, size_rows, time_rows};
 
-use crate::config::Config;
+use crate::config::{Config, SIZES, TIMES};
 use crate::dial::Dial;
+use crate::number_key::NumberKey;
 use crate::point::ServicePoint;
 use std::net::SocketAddrV4;
 
@@ -68,31 +70,58 @@ fn same_service(a: &Option<ServicePoint>, b: &Option<ServicePoint>) -> bool
     }
 }
 
-/// The first change of where it listens, or of a size.
-fn change_of_sizes(old: &Config, new: &Config) -> Option<&'static str>
-    ensures { IsFirstChange size_fixed old.now new.now (option_copied result) }
+/// The first of these keys that can't change, and of which the numbers differ.
+fn first_differing<const N: usize>(
+    keys: &[NumberKey],
+    old: [u64; N],
+    new: [u64; N],
+) -> Option<&'static str>
+    requires { length keys.now ≡ N }
+    ensures { IsFirstDiffering keys.now old.entry new.entry (option_copied result) }
+{
+    for i in 0..N {
+        let key = &keys[i];
+        if key.is_fixed && old[i] != new[i] {
+            return Some(key.name);
+        }
+    }
+    None
+}
+
+/// The first change of where it listens.
+fn change_of_ports(old: &Config, new: &Config) -> Option<&'static str>
+    ensures { IsFirstChange (fixed_of port_rows) old.now new.now (option_copied result) }
 {
     first_other(&[
         ("listen", old.listen == new.listen),
         ("admin", old.admin == new.admin),
-        ("shards", old.shards == new.shards),
-        ("rows", old.rows == new.rows),
-        ("journal", old.journal == new.journal),
-        ("preview_limit", old.preview_limit == new.preview_limit),
-        ("allow_limit", old.allow_limit == new.allow_limit),
-        ("window", old.window == new.window),
-        ("retry", old.retry == new.retry),
     ])
 }
 
-/// The first change of what is told, or of who may use it.
-fn change_of_entrance(old: &Config, new: &Config) -> Option<&'static str>
-    ensures { IsFirstChange entrance_fixed old.now new.now (option_copied result) }
+/// The first change of how much there may be.
+fn change_of_sizes(old: &Config, new: &Config) -> Option<&'static str>
+    ensures { IsFirstChange (fixed_of (map of_number size_rows)) old.now new.now (option_copied result) }
+{
+    first_differing(&SIZES, old.sizes(), new.sizes())
+}
+
+/// The first change of whether a message is sent again, or of what is told of it.
+fn change_of_messages(old: &Config, new: &Config) -> Option<&'static str>
+    ensures { IsFirstChange (fixed_of message_rows) old.now new.now (option_copied result) }
 {
     first_other(&[
+        ("retry", old.retry == new.retry),
         ("log", old.log.is_some() == new.log.is_some()),
         ("log_query", old.log_query == new.log_query),
         ("metrics", same_address(old.metrics, new.metrics)),
+    ])
+}
+
+/// The first change of who may use it.
+fn change_of_entrance(old: &Config, new: &Config) -> Option<&'static str>
+    ensures { IsFirstChange (fixed_of entrance_rows) old.now new.now (option_copied result) }
+{
+    first_other(&[
         (
             "user_connections",
             old.user_connections == new.user_connections,
@@ -102,33 +131,28 @@ fn change_of_entrance(old: &Config, new: &Config) -> Option<&'static str>
     ])
 }
 
-/// The first change of a time.
-fn change_of_times(old: &Config, new: &Config) -> Option<&'static str>
-    ensures { IsFirstChange time_fixed old.now new.now (option_copied result) }
+/// The first change of connections to origins, or of turns.
+fn change_of_origins(old: &Config, new: &Config) -> Option<&'static str>
+    ensures { IsFirstChange (fixed_of origin_rows) old.now new.now (option_copied result) }
 {
     first_other(&[
         ("keep_origins", old.keep_origins == new.keep_origins),
         ("origin_idle", old.origin_idle == new.origin_idle),
         ("dial", same_dial(old.dial, new.dial)),
         ("turn", old.turn == new.turn),
-        ("service_idle", old.service_idle == new.service_idle),
-        ("options_ttl", old.options_ttl == new.options_ttl),
-        ("head_deadline", old.head_deadline == new.head_deadline),
-        (
-            "connect_deadline",
-            old.connect_deadline == new.connect_deadline,
-        ),
-        (
-            "service_failures",
-            old.service_failures == new.service_failures,
-        ),
-        ("service_pause", old.service_pause == new.service_pause),
     ])
+}
+
+/// The first change of a time.
+fn change_of_times(old: &Config, new: &Config) -> Option<&'static str>
+    ensures { IsFirstChange (fixed_of (map of_number time_rows)) old.now new.now (option_copied result) }
+{
+    first_differing(&TIMES, old.times(), new.times())
 }
 
 /// The first change of where messages and requests go.
 fn change_of_places(old: &Config, new: &Config) -> Option<&'static str>
-    ensures { IsFirstChange place_fixed old.now new.now (option_copied result) }
+    ensures { IsFirstChange (fixed_of place_rows) old.now new.now (option_copied result) }
 {
     first_other(&[
         ("reqmod", same_service(&old.reqmod, &new.reqmod)),
@@ -142,14 +166,11 @@ fn change_of_places(old: &Config, new: &Config) -> Option<&'static str>
 pub fn fixed_change(old: &Config, new: &Config) -> Option<&'static str>
     ensures { IsFirstChange fixed_rows old.now new.now (option_copied result) }
 {
-    if let Some(key) = change_of_sizes(old, new) {
-        return Some(key);
-    }
-    if let Some(key) = change_of_entrance(old, new) {
-        return Some(key);
-    }
-    if let Some(key) = change_of_times(old, new) {
-        return Some(key);
-    }
-    change_of_places(old, new)
+    change_of_ports(old, new)
+        .or(change_of_sizes(old, new))
+        .or(change_of_messages(old, new))
+        .or(change_of_entrance(old, new))
+        .or(change_of_origins(old, new))
+        .or(change_of_times(old, new))
+        .or(change_of_places(old, new))
 }

@@ -11,15 +11,19 @@ use crate::entrance::Entrance;
 use crate::fault::ConfigFault;
 use crate::file_path::read_path;
 use crate::host_table::Hosts;
+use crate::limits::MAX_SHARDS;
 use crate::network::Network;
+use crate::number_key::{NumberKey, number_key};
+use crate::numbers::read_numbers;
+use crate::origins::Origins;
 use crate::pages::Pages;
 use crate::places::Places;
 use crate::point::ServicePoint;
 use crate::ports::{read_admin, read_metrics};
-use crate::sizes::Sizes;
-use crate::times::Times;
 use crate::unknown::check_keys;
-use crate::values::{read_address, read_number, read_truth};
+use crate::values::{read_address, read_truth};
+use adapt_bytes::{MAX_ALLOW_LIMIT, MAX_PREVIEW, MAX_WINDOW};
+use span_bank::{MAX_CAPACITY, MAX_ROWS};
 use std::alloc::Global;
 use std::net::SocketAddrV4;
 use toml::Table;
@@ -116,14 +120,52 @@ pub struct Config {
     /// The proxy to which each request goes whose host isn't named here. Where there is none, such a request goes to its origin if the host
     /// is an IPv4 address, and nowhere if it is a name.
     pub parent: Option<SocketAddrV4>,
-    ghost in_range: { IsWithin 1 MAX_SHARDS shards × IsWithin 1 MAX_CAPACITY capacity × IsWithin 1 MAX_ROWS rows
-        × IsWithin 1 65536 journal × IsWithin 1 3600 deadline × IsWithin 0 MAX_PREVIEW preview_limit
-        × IsWithin 0 MAX_ALLOW_LIMIT allow_limit × IsWithin 1 MAX_WINDOW window × IsWithin 0 3600 wait
-        × IsWithin 0 4096 user_connections
-        × IsWithin 0 1024 keep_origins × IsWithin 1 3600 origin_idle × IsWithin 0 3600 service_idle × IsWithin 0 2147483648 options_ttl × IsWithin 0 3600 head_deadline
-        × IsWithin 0 3600 connect_deadline × IsWithin 0 1024 service_failures × IsWithin 1 3600 service_pause },
+    ghost sizes_fit: { IsWithin 1 MAX_SHARDS shards × (IsWithin 1 MAX_CAPACITY capacity × (IsWithin 1 MAX_ROWS rows × (IsWithin 1 65536 journal
+        × (IsWithin 1 3600 deadline × (IsWithin 0 MAX_PREVIEW preview_limit × (IsWithin 0 MAX_ALLOW_LIMIT allow_limit
+        × IsWithin 1 MAX_WINDOW window)))))) },
+    ghost others_fit: { IsWithin 0 3600 wait × IsWithin 0 4096 user_connections × IsWithin 0 1024 keep_origins × IsWithin 1 3600 origin_idle },
+    ghost times_fit: { IsWithin 0 3600 service_idle × (IsWithin 0 2147483648 options_ttl × (IsWithin 0 3600 head_deadline
+        × (IsWithin 0 3600 connect_deadline × (IsWithin 0 1024 service_failures × IsWithin 1 3600 service_pause)))) },
     ghost turn_fits: { IsTurn window turn },
 }
+
+/// The keys that say how much there may be, and for how long no byte may move.
+pub const SIZES: [NumberKey; 8] = [
+    number_key!(fixed "shards", 1 to MAX_SHARDS "threads", default 2),
+    number_key!(live "capacity", 1 to MAX_CAPACITY "bytes", default 16_777_216),
+    number_key!(fixed "rows", 1 to MAX_ROWS "transactions", default 256),
+    number_key!(fixed "journal", 1 to 65_536 "steps", default 1_024),
+    number_key!(live "deadline", 1 to 3_600 "seconds", default 60),
+    number_key!(fixed "preview_limit", 0 to MAX_PREVIEW "bytes", default 1_024),
+    number_key!(fixed "allow_limit", 0 to MAX_ALLOW_LIMIT "bytes", default 65_536),
+    number_key!(fixed "window", 1 to MAX_WINDOW "bytes", default 8_192),
+];
+
+/// The key that says how long an exchange waits.
+pub const WAITS: [NumberKey; 1] = [
+    number_key!(live "wait", 0 to 3_600 "seconds", default 0 ": none"),
+];
+
+/// The key that says how many connections one address of users may have.
+pub const CROWDS: [NumberKey; 1] = [
+    number_key!(fixed "user_connections", 0 to 4_096 "connections", default 0 ": no limit"),
+];
+
+/// The keys that say which connections to origins are kept.
+pub const ORIGINS: [NumberKey; 2] = [
+    number_key!(fixed "keep_origins", 0 to 1_024 "connections", default 0 ": none"),
+    number_key!(fixed "origin_idle", 1 to 3_600 "seconds", default 30),
+];
+
+/// The keys that say how long connections to services lie idle, what heads and new connections may take, and when a service is paused.
+pub const TIMES: [NumberKey; 6] = [
+    number_key!(fixed "service_idle", 0 to 3_600 "seconds", default 60),
+    number_key!(fixed "options_ttl", 0 to 2_147_483_648 "seconds", default 0 ": for ever"),
+    number_key!(fixed "head_deadline", 0 to 3_600 "seconds", default 0 ": none"),
+    number_key!(fixed "connect_deadline", 0 to 3_600 "seconds", default 0 ": that of deadline"),
+    number_key!(fixed "service_failures", 0 to 1_024 "failures", default 0 ": no pause"),
+    number_key!(fixed "service_pause", 1 to 3_600 "seconds", default 30),
+];
 
 /// The names of the keys.
 pub(crate) const KEYS: [&str; 37] = [
@@ -167,10 +209,35 @@ pub(crate) const KEYS: [&str; 37] = [
 ];
 
 impl Config {
-    ghost use Rattle.std.specs.Prelude.{IfOk, IfErr};
+    ghost use Rattle.std.specs.Prelude.{◌≡◌, codes, map, slice_index, IfOk, IfErr, Some};
     ghost use Rattle.toml.specs.View.{table_view};
     ghost use Rattle.proxy_config.specs.Config.{IsConfig, IsFirstFault};
     ghost use Rattle.proxy_config.specs.Fault.{Names};
+    ghost use Rattle.proxy_config.specs.Keys.{size_rows, time_rows};
+    ghost use Rattle.proxy_config.specs.Numbers.{AreOf};
+    ghost use Rattle.proxy_config.specs.TurnSize.{window_at};
+    ghost use Rattle.proxy_config.specs.Turns.{IsPast};
+
+    /// Reads the numbers of the keys of [`SIZES`].
+    fn read_sizes(alloc: Global, table: &Table) -> Result<[u64; 8], ConfigFault>
+        requires next { IsPast (codes "admin") (table_view table.now) }
+        ensures ok { IfOk result (AreOf size_rows (table_view table.now)) }
+        ensures window { IfOk result (λ sizes. window_at (table_view table.now) ≡ Some (slice_index sizes 7)) }
+        ensures past { IfOk result (λ _. IsPast (codes "window") (table_view table.now)) }
+        ensures err { IfErr result (Names (IsFirstFault (table_view table.now))) }
+    {
+        read_numbers(alloc, table, &SIZES)
+    }
+
+    /// Reads the numbers of the keys of [`TIMES`].
+    fn read_times(alloc: Global, table: &Table) -> Result<[u64; 6], ConfigFault>
+        requires next { IsPast (codes "turn") (table_view table.now) }
+        ensures ok { IfOk result (AreOf time_rows (table_view table.now)) }
+        ensures past { IfOk result (λ _. IsPast (codes "service_pause") (table_view table.now)) }
+        ensures err { IfErr result (Names (IsFirstFault (table_view table.now))) }
+    {
+        read_numbers(alloc, table, &TIMES)
+    }
 
     /// Reads a configuration out of its document, a line a key or a group of keys.
     pub(crate) fn read(alloc: Global, table: &Table) -> Result<Config, ConfigFault>
@@ -179,9 +246,18 @@ impl Config {
     {
         let listen = read_address(alloc, table, "listen")?;
         let admin = read_admin(alloc, table, listen)?;
-        let sizes = Sizes::read(alloc, table)?;
+        let [
+            shards,
+            capacity,
+            rows,
+            journal,
+            deadline,
+            preview_limit,
+            allow_limit,
+            window,
+        ] = Config::read_sizes(alloc, table)?;
         let retry = read_truth(alloc, table, "retry", true)?;
-        let wait = read_number(alloc, table, "wait", 0, 3_600, 0)?;
+        let [wait] = read_numbers::<1>(alloc, table, &WAITS)?;
         let log = read_path(alloc, table, "log")?;
         let log_query = read_truth(alloc, table, "log_query", true)?;
         let metrics = read_metrics(alloc, table, listen, admin)?;
@@ -194,7 +270,20 @@ impl Config {
             proxy_protocol,
             hosts_file,
         } = Entrance::read(alloc, table)?;
-        let times = Times::read(alloc, table, sizes.window)?;
+        let Origins {
+            keep_origins,
+            origin_idle,
+            dial,
+            turn,
+        } = Origins::read(alloc, table, window)?;
+        let [
+            service_idle,
+            options_ttl,
+            head_deadline,
+            connect_deadline,
+            service_failures,
+            service_pause,
+        ] = Config::read_times(alloc, table)?;
         let refusal_pages = read_path(alloc, table, "refusal_pages")?;
         let Places {
             hosts,
@@ -206,14 +295,14 @@ impl Config {
         Ok(Config {
             listen,
             admin,
-            shards: sizes.shards,
-            capacity: sizes.capacity,
-            rows: sizes.rows,
-            journal: sizes.journal,
-            deadline: sizes.deadline,
-            preview_limit: sizes.preview_limit,
-            allow_limit: sizes.allow_limit,
-            window: sizes.window,
+            shards,
+            capacity,
+            rows,
+            journal,
+            deadline,
+            preview_limit,
+            allow_limit,
+            window,
             retry,
             wait,
             log,
@@ -226,16 +315,16 @@ impl Config {
             carry,
             proxy_protocol,
             hosts_file,
-            keep_origins: times.keep_origins,
-            origin_idle: times.origin_idle,
-            dial: times.dial,
-            turn: times.turn,
-            service_idle: times.service_idle,
-            options_ttl: times.options_ttl,
-            head_deadline: times.head_deadline,
-            connect_deadline: times.connect_deadline,
-            service_failures: times.service_failures,
-            service_pause: times.service_pause,
+            keep_origins,
+            origin_idle,
+            dial,
+            turn,
+            service_idle,
+            options_ttl,
+            head_deadline,
+            connect_deadline,
+            service_failures,
+            service_pause,
             refusal_pages,
             pages: Pages::new(),
             hosts,
@@ -243,5 +332,35 @@ impl Config {
             respmod,
             parent,
         })
+    }
+
+    /// The numbers of the keys of [`SIZES`].
+    pub fn sizes(&self) -> [u64; 8]
+        ensures { result ≡ map (λ row. row.goes self.now) size_rows }
+    {
+        [
+            self.shards,
+            self.capacity,
+            self.rows,
+            self.journal,
+            self.deadline,
+            self.preview_limit,
+            self.allow_limit,
+            self.window,
+        ]
+    }
+
+    /// The numbers of the keys of [`TIMES`].
+    pub fn times(&self) -> [u64; 6]
+        ensures { result ≡ map (λ row. row.goes self.now) time_rows }
+    {
+        [
+            self.service_idle,
+            self.options_ttl,
+            self.head_deadline,
+            self.connect_deadline,
+            self.service_failures,
+            self.service_pause,
+        ]
     }
 }

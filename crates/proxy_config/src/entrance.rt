@@ -3,11 +3,13 @@
 ghost use Rattle.proxy_config.specs.Values.{IsWithin};
 
 use crate::carry::read_carry;
+use crate::config::CROWDS;
 use crate::fault::ConfigFault;
 use crate::file_path::read_path;
 use crate::network::Network;
 use crate::networks::{read_denied, read_users};
-use crate::values::{read_number, read_truth};
+use crate::numbers::read_numbers;
+use crate::values::read_truth;
 use std::alloc::Global;
 use toml::Table;
 
@@ -33,17 +35,20 @@ impl Entrance {
     ghost use Rattle.proxy_config.specs.Keys.{entrance_rows};
     ghost use Rattle.proxy_config.specs.Turns.{IsPast};
 
-    /// Reads it, a line a key.
+    /// Reads it, a line a key or a run of keys.
     pub(crate) fn read(alloc: Global, table: &Table) -> Result<Entrance, ConfigFault>
         requires next { IsPast (codes "metrics") (table_view table.now) }
         ensures ok { IfOk result (AreSaidOf HasEntrance entrance_rows (table_view table.now)) }
         ensures past { IfOk result (λ _. IsPast (codes "hosts_file") (table_view table.now)) }
         ensures err { IfErr result (Names (IsFirstFault (table_view table.now))) }
     {
+        let users = read_users(alloc, table)?;
+        let denied = read_denied(alloc, table)?;
+        let [user_connections] = read_numbers::<1>(alloc, table, &CROWDS)?;
         Ok(Entrance {
-            users: read_users(alloc, table)?,
-            denied: read_denied(alloc, table)?,
-            user_connections: read_number(alloc, table, "user_connections", 0, 4_096, 0)?,
+            users,
+            denied,
+            user_connections,
             client_ip: read_truth(alloc, table, "client_ip", false)?,
             carry: read_carry(alloc, table)?,
             proxy_protocol: read_truth(alloc, table, "proxy_protocol", false)?,

@@ -8,9 +8,9 @@ ghost use Rattle.toml.specs.Data.{get_member, as_table};
 ghost use Rattle.std.specs.declared.net.socket_addr.SocketAddrV4.{SocketAddrV4 as AnyAddress};
 ghost use Rattle.proxy_config.specs.Config.{IsFirstFault};
 ghost use Rattle.proxy_config.specs.Fault.{Names};
-ghost use Rattle.proxy_config.specs.Keys.Kind.{number, truth, address};
+ghost use Rattle.proxy_config.specs.Keys.Kind.{truth, address};
 ghost use Rattle.proxy_config.specs.Turns.{IsNext, IsPast};
-ghost use Rattle.proxy_config.specs.Values.{number_at, number_in, number_or, truth_or, IsAddress, HasAddress, IsWithin};
+ghost use Rattle.proxy_config.specs.Values.{number_in, number_or, truth_or, IsAddress, HasAddress};
 
 use crate::fault::{ConfigFault, needed};
 use std::alloc::Global;
@@ -109,26 +109,6 @@ pub(crate) fn address(table: &Table, key: &str) -> Option<SocketAddrV4>
         Some(value) => address_of(value),
         None => None,
     }
-}
-
-/// Reads the number of a key of the document; `other` where the key is missing.
-pub(crate) fn read_number(
-    alloc: Global,
-    table: &Table,
-    key: &str,
-    low: u64,
-    high: u64,
-    other: u64,
-) -> Result<u64, ConfigFault>
-    requires low { low ≤ other }
-    requires high { other ≤ high }
-    requires next { IsNext key.now (number low high other) (table_view table.now) }
-    ensures range { IfOk result (IsWithin low high) }
-    ensures ok { IfOk result (λ n. number_at key.now low high other (table_view table.now) ≡ Some n) }
-    ensures past { IfOk result (λ _. IsPast key.now (table_view table.now)) }
-    ensures err { IfErr result (Names (IsFirstFault (table_view table.now))) }
-{
-    needed(alloc, key, number_or(table, key, low, high, other))
 }
 
 /// Reads the truth value of a key of the document; `other` where the key is missing.

@@ -1,9 +1,9 @@
 //! Configurations: the first key that is wrong, the defaults, and where hosts are.
-use crate::listed::{index_of, put_address, put_counted};
+use crate::listed::{index_of, put_address};
 use crate::questions::{Subject, cut, put_lines};
 use proxy_config::{
-    Config, ConfigFault, Hosts, HostsFault, Network, ServicePoint, fixed_change, is_in, may_use,
-    read_config,
+    Config, ConfigFault, Hosts, HostsFault, Network, NumberKey, SIZES, ServicePoint, TIMES,
+    fixed_change, is_in, may_use, read_config,
 };
 use std::alloc::Global;
 use std::net::{Ipv4Addr, SocketAddrV4};
@@ -51,26 +51,12 @@ fn put_path(out: &mut Vec<u8>, key: &[u8], path: &Option<String>) -> Result<(), 
     }
 }
 
-/// The names of the numbers, in the order of `put_numbers`.
-const NUMBERS: &[u8] =
-    b"listen |\nadmin |\nshards |\ncapacity |\nrows |\njournal |\ndeadline |\npreview_limit |\nallow_limit |\nwindow ";
-
-/// Adds each number but the times.
-fn put_numbers(out: &mut Vec<u8>, config: &Config) -> Result<(), NoMemory> {
-    let numbers = [
-        u64::from(config.listen.port()),
-        u64::from(config.admin.port()),
-        config.shards,
-        config.capacity,
-        config.rows,
-        config.journal,
-        config.deadline,
-        config.preview_limit,
-        config.allow_limit,
-        config.window,
-    ];
-    put_counted(out, NUMBERS, &numbers)?;
-    put_line(out, b"")
+/// Adds the numbers of these keys, a line each.
+fn put_numbers(out: &mut Vec<u8>, keys: &[NumberKey], numbers: &[u64]) -> Result<(), NoMemory> {
+    for (key, number) in keys.iter().zip(numbers) {
+        put_number(out, key.name.as_bytes(), *number)?;
+    }
+    Ok(())
 }
 
 /// Adds where the counters are asked for.
@@ -138,24 +124,6 @@ fn put_parent(out: &mut Vec<u8>, parent: &Option<SocketAddrV4>) -> Result<(), No
     }
 }
 
-/// The names of the times, in the order of `put_times`.
-const TIMES: &[u8] =
-    b"service_idle |\noptions_ttl |\nhead_deadline |\nconnect_deadline |\nservice_failures |\nservice_pause ";
-
-/// Adds each time but `deadline` and `wait`.
-fn put_times(out: &mut Vec<u8>, config: &Config) -> Result<(), NoMemory> {
-    let times = [
-        config.service_idle,
-        config.options_ttl,
-        config.head_deadline,
-        config.connect_deadline,
-        config.service_failures,
-        config.service_pause,
-    ];
-    put_counted(out, TIMES, &times)?;
-    put_line(out, b"")
-}
-
 /// Adds what the keys between the log and the hosts say.
 fn put_tuning(out: &mut Vec<u8>, config: &Config) -> Result<(), NoMemory> {
     put_shown(out, b"log_query", &config.log_query)?;
@@ -165,13 +133,15 @@ fn put_tuning(out: &mut Vec<u8>, config: &Config) -> Result<(), NoMemory> {
     put_number(out, b"origin_idle", config.origin_idle)?;
     put_shown(out, b"dial", &config.dial)?;
     put_number(out, b"turn", config.turn)?;
-    put_times(out, config)?;
+    put_numbers(out, &TIMES, &config.times())?;
     put_path(out, b"refusal_pages", &config.refusal_pages)
 }
 
 /// Adds each value.
 fn put_values(out: &mut Vec<u8>, config: &Config) -> Result<(), NoMemory> {
-    put_numbers(out, config)?;
+    put_number(out, b"listen", u64::from(config.listen.port()))?;
+    put_number(out, b"admin", u64::from(config.admin.port()))?;
+    put_numbers(out, &SIZES, &config.sizes())?;
     put_shown(out, b"retry", &config.retry)?;
     put_number(out, b"wait", config.wait)?;
     put_path(out, b"log", &config.log)?;
@@ -225,6 +195,22 @@ impl<'a> Subject for Access<'a> {
     }
 }
 
+/// Single lines of configurations.
+#[derive(Drop)]
+struct SingleLines(Global);
+
+impl Subject for SingleLines {
+    /// Adds whether a configuration is good that has this line after the two addresses, or its fault.
+    fn put_said(&mut self, question: &[u8], out: &mut Vec<u8>) -> Result<(), NoMemory> {
+        let mut text = Vec::new(self.0);
+        put_all(&mut text, &[ADDRESSES, question])?;
+        match read_config(self.0, &text) {
+            Ok(_) => put_line(out, b"good"),
+            Err(fault) => put_config_fault(out, &fault),
+        }
+    }
+}
+
 /// The text of a row, after the two addresses if it isn't whole.
 fn text_of(alloc: Global, row: &Row<'_>) -> Result<Vec<u8>, NoMemory> {
     let mut text = Vec::new(alloc);
@@ -233,17 +219,20 @@ fn text_of(alloc: Global, row: &Row<'_>) -> Result<Vec<u8>, NoMemory> {
     Ok(text)
 }
 
-/// Adds the values, where hosts are, or who may do what, as the call asks; else that the configuration is good.
+/// Adds the values, where hosts are, who may do what, or which single lines are good, as the call asks; else that the configuration is
+/// good.
 fn put_good(
+    alloc: Global,
     out: &mut Vec<u8>,
     call: &[u8],
     config: &Config,
     row: &Row<'_>,
 ) -> Result<(), NoMemory> {
-    match index_of(b"values|hosts|access", call) {
+    match index_of(b"values|hosts|access|ranges", call) {
         Some(0) => put_values(out, config),
         Some(1) => put_lines(&mut Book(&config.hosts), row.get(b"want"), out),
         Some(2) => put_lines(&mut Access(config), row.get(b"want"), out),
+        Some(3) => put_lines(&mut SingleLines(alloc), row.get(b"want"), out),
         _ => put_line(out, b"good"),
     }
 }
@@ -293,7 +282,7 @@ pub fn put_config(
         Ok(mut config) => match index_of(b"hosts file|change", call) {
             Some(0) => put_named(alloc, &mut config, row, out),
             Some(1) => put_change(alloc, &config, row, out),
-            _ => put_good(out, call, &config, row),
+            _ => put_good(alloc, out, call, &config, row),
         },
         Err(fault) => put_config_fault(out, &fault),
     }

@@ -1,6 +1,7 @@
 -- Each check is that of its key.
-use Rattle.std.proofs.Common.{ℕ, List, [], ◌∷◌, Bool, codes, refl, sym, subst}
-use Rattle.proxy_config.specs.Changes.{IsFirstChange, place_fixed}
+use Rattle.std.proofs.Common.{ℕ, List, [], ◌∷◌, Bool, codes, sym, subst, rules}
+use Rattle.proxy_config.specs.Changes.{IsFirstChange, fixed_of}
+use Rattle.proxy_config.specs.Keys.{place_rows}
 use Rattle.proxy_config.specs.declared.config.Config.{Config}
 use Rattle.proxy_config.proofs.FixedKeys.{AreChecks, first_is}
 use Rattle.proxy_config.proofs.changes.change_of_places.Goals as goal
@@ -13,13 +14,5 @@ returns c =
     (codes "reqmod", c.same_service.result) ∷
     (codes "respmod", c.same_service-2.result) ∷
     (codes "parent", c.same_address.result) ∷ [] in
-    let are : AreChecks place_fixed old new checks = (
-      refl,
-      c.same_service.ensures,
-      (
-        refl,
-        c.same_service-2.ensures,
-        (refl, c.same_address.ensures, tt),
-      ),
-    ) in
-    subst (IsFirstChange place_fixed old new) (sym c.first_other.ensures) (first_is place_fixed old new checks are)
+    let are : AreChecks (fixed_of place_rows) old new checks = search rules in
+    subst (IsFirstChange (fixed_of place_rows) old new) (sym c.first_other.ensures) (first_is (fixed_of place_rows) old new checks are)

@@ -1,35 +1,29 @@
--- The keys of a group before are the same, where it has no change.
-use Rattle.std.proofs.Common.{◌++◌, Some, None, rules}
-use Rattle.proxy_config.specs.Changes.{entrance_fixed, place_fixed, size_fixed, time_fixed, IsFirstChange}
-use Rattle.proxy_config.proofs.FixedKeys.{none_before, some_before}
+-- The first change of some keys, or else that of those after them, is the first of all.
+use Rattle.std.proofs.Common.{◌++◌, List, map}
+use Rattle.proxy_config.specs.Changes.{fixed_of}
+use Rattle.proxy_config.specs.Keys.{Row, entrance_rows, message_rows, of_number, origin_rows, place_rows, port_rows, size_rows, time_rows}
+use Rattle.proxy_config.specs.declared.config.Config.{Config}
+use Rattle.proxy_config.proofs.FixedKeys.{first_or}
 use Rattle.proxy_config.proofs.changes.fixed_change.Goals as goal
-
-pub returns-in-Some : goal.returns-in-Some
-returns-in-Some c =
-    let first : IsFirstChange size_fixed c.args.old.now c.args.new.now (Some c.in-Some.key.now) = search rules in
-    some_before size_fixed (entrance_fixed ++ (time_fixed ++ place_fixed)) c.args.old.now c.args.new.now c.in-Some.key.now first
-
-pub returns-in-Some-change_of_entrance : goal.returns-in-Some-change_of_entrance
-returns-in-Some-change_of_entrance c =
-    let sizes : IsFirstChange size_fixed c.args.old.now c.args.new.now None = search rules in
-    let first : IsFirstChange entrance_fixed c.args.old.now c.args.new.now (Some c.in-Some-change_of_entrance.key.now) = search rules in
-    none_before size_fixed (entrance_fixed ++ (time_fixed ++ place_fixed)) c.args.old.now c.args.new.now _ sizes
-    (some_before entrance_fixed (time_fixed ++ place_fixed) c.args.old.now c.args.new.now c.in-Some-change_of_entrance.key.now first)
-
-pub returns-in-Some-change_of_times : goal.returns-in-Some-change_of_times
-returns-in-Some-change_of_times c =
-    let sizes : IsFirstChange size_fixed c.args.old.now c.args.new.now None = search rules in
-    let entrance : IsFirstChange entrance_fixed c.args.old.now c.args.new.now None = search rules in
-    let first : IsFirstChange time_fixed c.args.old.now c.args.new.now (Some c.in-Some-change_of_times.key.now) = search rules in
-    none_before size_fixed (entrance_fixed ++ (time_fixed ++ place_fixed)) c.args.old.now c.args.new.now _ sizes
-    (none_before entrance_fixed (time_fixed ++ place_fixed) c.args.old.now c.args.new.now _ entrance
-    (some_before time_fixed place_fixed c.args.old.now c.args.new.now c.in-Some-change_of_times.key.now first))
 
 pub returns : goal.returns
 returns c =
-    let sizes : IsFirstChange size_fixed c.args.old.now c.args.new.now None = search rules in
-    let entrance : IsFirstChange entrance_fixed c.args.old.now c.args.new.now None = search rules in
-    let times : IsFirstChange time_fixed c.args.old.now c.args.new.now None = search rules in
-    none_before size_fixed (entrance_fixed ++ (time_fixed ++ place_fixed)) c.args.old.now c.args.new.now _ sizes
-    (none_before entrance_fixed (time_fixed ++ place_fixed) c.args.old.now c.args.new.now _ entrance
-    (none_before time_fixed place_fixed c.args.old.now c.args.new.now _ times c.change_of_places.ensures))
+    let old : Config = c.args.old.now in
+    let new : Config = c.args.new.now in
+    let to_sizes : List Row = fixed_of port_rows ++ fixed_of (map of_number size_rows) in
+    let to_messages : List Row = to_sizes ++ fixed_of message_rows in
+    let to_entrance : List Row = to_messages ++ fixed_of entrance_rows in
+    let to_origins : List Row = to_entrance ++ fixed_of origin_rows in
+    let to_times : List Row = to_origins ++ fixed_of (map of_number time_rows) in
+    first_or to_times (fixed_of place_rows) old new c.or-5.result c.change_of_places.result c.or-6.result c.or-6.ensures
+    (first_or to_origins (fixed_of (map of_number time_rows)) old new c.or-4.result c.change_of_times.result c.or-5.result c.or-5.ensures
+    (first_or to_entrance (fixed_of origin_rows) old new c.or-3.result c.change_of_origins.result c.or-4.result c.or-4.ensures
+    (first_or to_messages (fixed_of entrance_rows) old new c.or-2.result c.change_of_entrance.result c.or-3.result c.or-3.ensures
+    (first_or to_sizes (fixed_of message_rows) old new c.or.result c.change_of_messages.result c.or-2.result c.or-2.ensures
+    (first_or (fixed_of port_rows) (fixed_of (map of_number size_rows)) old new c.change_of_ports.result c.change_of_sizes.result c.or.result
+    c.or.ensures c.change_of_ports.ensures c.change_of_sizes.ensures)
+    c.change_of_messages.ensures)
+    c.change_of_entrance.ensures)
+    c.change_of_origins.ensures)
+    c.change_of_times.ensures)
+    c.change_of_places.ensures

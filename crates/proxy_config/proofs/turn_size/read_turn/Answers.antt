@@ -3,7 +3,7 @@ use Rattle.std.proofs.Common.{◌≡◌, Option, Some, codes, ap, sym, ◌∙◌
 use Rattle.toml.specs.Data.{get_member}
 use Rattle.toml.specs.View.{table_view}
 use Rattle.proxy_config.specs.Keys.Kind.{turn_size}
-use Rattle.proxy_config.specs.TurnSize.{turn_at, turn_or, window_at}
+use Rattle.proxy_config.specs.TurnSize.{turn_at, turn_or}
 use Rattle.proxy_config.proofs.Judging.{past_found, fault_found, said, unsaid}
 use Rattle.proxy_config.proofs.turn_size.read_turn.Goals as goal
 

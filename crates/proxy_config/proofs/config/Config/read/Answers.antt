@@ -7,18 +7,24 @@ use Rattle.proxy_config.proofs.config.Config.read.Goals as goal
 
 pub returns-clause-ok : goal.returns-clause-ok
 returns-clause-ok c =
-    is_config (table_view c.args.table.now) _ c.in_ok-sizes.sizes c.in_ok-users.field-0 c.in_ok-times.times c.in_ok-hosts.field-0
+    is_config (table_view c.args.table.now) _ c.in_ok-users.field-0 c.in_ok-keep_origins.field-0 c.in_ok-hosts.field-0
     (c.in_ok-listen.ensures.ok & c.in_ok-admin.ensures.ok & tt)
-    c.in_ok-sizes.ensures.ok
-    (c.in_ok-retry.ensures.ok & c.in_ok-wait.ensures.ok & c.in_ok-log.ensures.ok & c.in_ok-log_query.ensures.ok & c.in_ok-metrics.ensures.ok
+    c.in_ok-shards.ensures.ok.said
+    (c.in_ok-retry.ensures.ok & c.in_ok-wait.ensures.ok.said.0 & c.in_ok-log.ensures.ok & c.in_ok-log_query.ensures.ok & c.in_ok-metrics.ensures.ok
     & tt)
     c.in_ok-users.ensures.ok
-    c.in_ok-times.ensures.ok
+    c.in_ok-keep_origins.ensures.ok
+    c.in_ok-service_idle.ensures.ok.said
     (c.in_ok-refusal_pages.ensures.ok & tt)
     c.in_ok-hosts.ensures.ok
     c.in_ok-check_keys.ensures.ok
     c.new.ensures
-    (refl, refl, refl, refl, refl, refl, refl, refl)
     (refl, refl, refl, refl, refl, refl, refl)
-    (refl, refl, refl, refl, refl, refl, refl, refl, refl, refl)
     (refl, refl, refl, refl)
+    (refl, refl, refl, refl)
+
+pub invariant_of-result-clause-sizes_fit : goal.invariant_of-result-clause-sizes_fit
+invariant_of-result-clause-sizes_fit c = c.in_ok-shards.ensures.ok.within
+
+pub invariant_of-result-clause-times_fit : goal.invariant_of-result-clause-times_fit
+invariant_of-result-clause-times_fit c = c.in_ok-service_idle.ensures.ok.within
