@@ -1,4 +1,4 @@
--- An exchange that is driven, step by step.
+-- An exchange that takes its steps, one by one.
 use Rattle.std.proofs.Common.{◌≡◌, ℕ, ◌+◌, ◌<◌, ◌≤◌, inl, inr, true, cond, List, [], ◌∷◌, ◌++◌, length, refl, ap, sym, ◌∙◌, subst, arith}
 use Rattle.std.proofs.lemmas.Bool.Decides.{leb_tells}
 use Rattle.event_loop.specs.declared.work.Driven.{Driven}
@@ -8,7 +8,7 @@ use Rattle.shard_exchange.specs.declared.tasks.Task.TheVariants as tasks
 use Rattle.shard_exchange.specs.declared.tasks.Step.{Step}
 use Rattle.shard_exchange.specs.declared.tasks.Step.TheVariants as steps
 use Rattle.shard_desk.specs.declared.driving.TheConstants.{ROUNDS, STEPS}
-use Rattle.shard_desk.specs.Driving.{Doing, Adds, is_round, weight, rounds, MayStep, leads_on, LeadOn, Drives}
+use Rattle.shard_desk.specs.Driving.{Doing, Adds, is_round, weight, rounds, MayStep, leads_on, LeadOn, Passes}
 use Rattle.shard_desk.specs.Driving.Doing.{Did}
 
 -- the steps so far led on; so many they are, and so much was done at connections
@@ -41,9 +41,9 @@ led_more before mid after taken spent phase step led room adds on = record {
 }
 
 -- it is blocked
-pub drives_blocked : (before after : List Doing → Type 0) (taken spent other : ℕ) → Led before after taken spent → taken ≤ STEPS
-    → Drives before after (Blocked other)
-drives_blocked before after taken spent other led most = record {
+pub passes_blocked : (before after : List Doing → Type 0) (taken spent other : ℕ) → Led before after taken spent → taken ≤ STEPS
+    → Passes before after (Blocked other)
+passes_blocked before after taken spent other led most = record {
   doings = led.doings;
   past = led.past;
   most = subst (λ (n : ℕ). n ≤ STEPS) (sym led.many) most;
@@ -51,9 +51,9 @@ drives_blocked before after taken spent other led most = record {
 }
 
 -- it goes on in the next turn, since so much was done at its connections
-pub drives_spent : (before after : List Doing → Type 0) (taken spent : ℕ) → Led before after taken spent → taken ≤ STEPS → ROUNDS ≤ spent
-    → Drives before after CutShort
-drives_spent before after taken spent led most much = record {
+pub passes_spent : (before after : List Doing → Type 0) (taken spent : ℕ) → Led before after taken spent → taken ≤ STEPS → ROUNDS ≤ spent
+    → Passes before after CutShort
+passes_spent before after taken spent led most much = record {
   doings = led.doings;
   past = led.past;
   most = subst (λ (n : ℕ). n ≤ STEPS) (sym led.many) most;
@@ -61,9 +61,9 @@ drives_spent before after taken spent led most much = record {
 }
 
 -- others take their steps, since so many were taken
-drives_paused : (before after : List Doing → Type 0) (taken spent : ℕ) → Led before after taken spent → taken ≡ STEPS → spent < ROUNDS
-    → Drives before after Paused
-drives_paused before after taken spent led all room = record {
+passes_paused : (before after : List Doing → Type 0) (taken spent : ℕ) → Led before after taken spent → taken ≡ STEPS → spent < ROUNDS
+    → Passes before after Paused
+passes_paused before after taken spent led all room = record {
   doings = led.doings;
   past = led.past;
   most = let e = led.many ∙ all in omega (arith, e);
@@ -71,21 +71,21 @@ drives_paused before after taken spent led all room = record {
 }
 
 -- it has more to do after all steps of a drive
-pub drives_left : (before after : List Doing → Type 0) (taken spent : ℕ) (driven : Driven) → Led before after taken spent → taken ≡ STEPS
-    → (spent < ROUNDS → driven ≡ Paused) → (ROUNDS ≤ spent → driven ≡ CutShort) → Drives before after driven
-drives_left before after taken spent driven led all paused cut = elim (leb_tells ROUNDS spent) as (λ _. Drives before after driven) [
+pub passes_left : (before after : List Doing → Type 0) (taken spent : ℕ) (driven : Driven) → Led before after taken spent → taken ≡ STEPS
+    → (spent < ROUNDS → driven ≡ Paused) → (ROUNDS ≤ spent → driven ≡ CutShort) → Passes before after driven
+passes_left before after taken spent driven led all paused cut = elim (leb_tells ROUNDS spent) as (λ _. Passes before after driven) [
   | inl much ↦
-      subst (λ (d : Driven). Drives before after d) (sym (cut much.1))
-      (drives_spent before after taken spent led (omega (arith, all)) much.1)
+      subst (λ (d : Driven). Passes before after d) (sym (cut much.1))
+      (passes_spent before after taken spent led (omega (arith, all)) much.1)
   | inr room ↦
-      subst (λ (d : Driven). Drives before after d) (sym (paused room.1))
-      (drives_paused before after taken spent led all room.1)
+      subst (λ (d : Driven). Passes before after d) (sym (paused room.1))
+      (passes_paused before after taken spent led all room.1)
 ]
 
 -- its user is lost
-pub drives_lost : (before mid after : List Doing → Type 0) (taken spent : ℕ) (phase : Phase) (step : Step) → Led before mid taken spent
-    → taken < STEPS → Adds mid after (Did phase tasks.Lose step) → Drives before after Over
-drives_lost before mid after taken spent phase step led most adds = record {
+pub passes_lost : (before mid after : List Doing → Type 0) (taken spent : ℕ) (phase : Phase) (step : Step) → Led before mid taken spent
+    → taken < STEPS → Adds mid after (Did phase tasks.Lose step) → Passes before after Over
+passes_lost before mid after taken spent phase step led most adds = record {
   doings = Did phase tasks.Lose step ∷ led.doings;
   past = λ past h. adds (led.doings ++ past) (led.past past h);
   most = let many = led.many in omega (arith, many, most);
@@ -102,10 +102,10 @@ drives_lost before mid after taken spent phase step led most adds = record {
 }
 
 -- the last step waits
-pub drives_waiting : (before mid after : List Doing → Type 0) (taken spent : ℕ) (phase : Phase) → Led before mid taken spent
+pub passes_waiting : (before mid after : List Doing → Type 0) (taken spent : ℕ) (phase : Phase) → Led before mid taken spent
     → taken < STEPS → (is_round phase ≡ true → spent < ROUNDS) → Adds mid after (Did phase tasks.Step steps.Waits)
-    → Drives before after Waiting
-drives_waiting before mid after taken spent phase led most room adds = record {
+    → Passes before after Waiting
+passes_waiting before mid after taken spent phase led most room adds = record {
   doings = Did phase tasks.Step steps.Waits ∷ led.doings;
   past = λ past h. adds (led.doings ++ past) (led.past past h);
   most = let many = led.many in omega (arith, many, most);
@@ -113,9 +113,9 @@ drives_waiting before mid after taken spent phase led most room adds = record {
 }
 
 -- with the last step it is over
-pub drives_over : (before mid after : List Doing → Type 0) (taken spent : ℕ) (phase : Phase) → Led before mid taken spent
-    → taken < STEPS → (is_round phase ≡ true → spent < ROUNDS) → Adds mid after (Did phase tasks.Step steps.Over) → Drives before after Over
-drives_over before mid after taken spent phase led most room adds = record {
+pub passes_over : (before mid after : List Doing → Type 0) (taken spent : ℕ) (phase : Phase) → Led before mid taken spent
+    → taken < STEPS → (is_round phase ≡ true → spent < ROUNDS) → Adds mid after (Did phase tasks.Step steps.Over) → Passes before after Over
+passes_over before mid after taken spent phase led most room adds = record {
   doings = Did phase tasks.Step steps.Over ∷ led.doings;
   past = λ past h. adds (led.doings ++ past) (led.past past h);
   most = let many = led.many in omega (arith, many, most);

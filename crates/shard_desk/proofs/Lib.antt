@@ -1,4 +1,5 @@
 pub mod Led
+pub mod Passing
 mod Asking
 mod Keeping
 mod Paging

@@ -1,14 +1,16 @@
 -- What an exchange does in a drive, and what that leads to.
-use Rattle.std.specs.Prelude.{◌≡◌, ℕ, ◌+◌, ◌/◌, ◌<◌, ◌≤◌, ◌⊎◌, ⊤, Bool, true, false, cond, length, List, [], ◌∷◌, ◌++◌}
+use Rattle.std.specs.Prelude.{◌≡◌, ℕ, ◌+◌, ◌/◌, ◌<◌, ◌≤◌, ◌⊎◌, ⊤, Bool, true, false, ◌&&◌, cond, if◌then◌else◌}
+use Rattle.std.specs.Prelude.{length, List, [], ◌∷◌, ◌++◌}
 use Rattle.event_loop.specs.declared.work.Driven.{Driven}
 use Rattle.event_loop.specs.declared.work.Driven.TheVariants.{Waiting, Paused, CutShort, Blocked, Over}
+use Rattle.event_loop.specs.Deeds.{is_paused}
 use Rattle.exchange_core.specs.declared.phase.Phase.{Phase}
 use Rattle.exchange_core.specs.declared.phase.Phase.TheVariants.{Planning, Preparing, AtGate}
 use Rattle.shard_exchange.specs.declared.tasks.Task.{Task}
 use Rattle.shard_exchange.specs.declared.tasks.Task.TheVariants as tasks
 use Rattle.shard_exchange.specs.declared.tasks.Step.{Step}
 use Rattle.shard_exchange.specs.declared.tasks.Step.TheVariants as steps
-use Rattle.shard_desk.specs.declared.driving.TheConstants.{FRAMING, ROUNDS, STEPS}
+use Rattle.shard_desk.specs.declared.driving.TheConstants.{FRAMING, LONE_PASSES, ROUNDS, STEPS}
 
 -- something that an exchange did
 pub data Doing : Type 0 where
@@ -61,8 +63,8 @@ pub record EndsWith (task : Task) (step : Step) (doings : List Doing) : Type 0 w
   pub may : task ≡ tasks.Step → MayStep phase before
   pub on : LeadOn before
 
--- these lead to this answer: it waits exactly where the last step waited; it pauses only where it has taken all steps of a drive, and done
--- less at its connections than a drive may; and it is cut short only where it has done as much
+-- these lead to this answer: it waits exactly where the last step waited; it pauses only where it has taken all steps of a pass, and done
+-- less at its connections than a pass may; and it is cut short only where it has done as much
 abbrev pub LeadTo : Driven → List Doing → Type 0
 LeadTo Waiting doings = EndsWith tasks.Step steps.Waits doings
 LeadTo Paused doings = LeadOn doings × (length doings ≡ STEPS) × (rounds doings < ROUNDS)
@@ -70,13 +72,40 @@ LeadTo CutShort doings = LeadOn doings × (ROUNDS ≤ rounds doings)
 LeadTo (Blocked other) doings = LeadOn doings
 LeadTo Over doings = EndsWith tasks.Step steps.Over doings ⊎ ((step : Step) × EndsWith tasks.Lose step doings)
 
--- an exchange was driven so far
-pub record Drives (before after : List Doing → Type 0) (driven : Driven) : Type 0 where
+-- an exchange took its steps once, and came so far
+pub record Passes (before after : List Doing → Type 0) (driven : Driven) : Type 0 where
   -- the newest first
   pub doings : List Doing
   pub past : (past : List Doing) → before past → after (doings ++ past)
   pub most : length doings ≤ STEPS
   pub leads : LeadTo driven doings
+
+-- what was done in these passes, upon a past; the newest first, as in each of them
+abbrev pub upon : (passes : List (List Doing)) (past : List Doing) → List Doing
+upon [] past = past
+upon (pass ∷ earlier) past = pass ++ upon earlier past
+
+-- each of these passes ended with a pause
+abbrev pub Pause : List (List Doing) → Type 0
+Pause [] = ⊤
+Pause (pass ∷ earlier) = LeadTo Paused pass × Pause earlier
+
+-- an exchange was driven so far: it took its steps once; or, where nobody else has a seat, again after each pause, and it is cut short
+-- where the last pass that it may take ends with one
+pub record Drives (alone : Bool) (before after : List Doing → Type 0) (driven : Driven) : Type 0 where
+  -- the passes before the last one, and what was done in that; the newest first
+  pub earlier : List (List Doing)
+  pub doings : List Doing
+  -- how that one ended
+  pub last : Driven
+  pub past : (past : List Doing) → before past → after (doings ++ upon earlier past)
+  pub paused : Pause earlier
+  pub again : 0 < length earlier → alone ≡ true
+  pub few : length earlier < LONE_PASSES
+  pub most : length doings ≤ STEPS
+  pub leads : LeadTo last doings
+  pub whole : (alone && is_paused last) ≡ true → length earlier + 1 ≡ LONE_PASSES
+  pub ends : driven ≡ (if alone && is_paused last then CutShort else last)
 
 -- how far an exchange came at a stop, by how far it came with its user's leave
 abbrev pub left_at : Step → Driven

@@ -68,6 +68,10 @@ waiting_not (Some seat) = Some (record seat { waits = None })
 abbrev pub heard_of : Seats → ℕ
 heard_of seats = seats.heard
 
+-- at most one seat is taken
+abbrev pub sits_alone : Seats → Bool
+sits_alone seats = nat_lt (slab_len seats.all) 2
+
 -- fewer users are served than may be
 abbrev pub HasRoom : Seats → Type 0
 HasRoom seats = slab_len seats.all - seats.refused < seats.most

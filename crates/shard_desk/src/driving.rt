@@ -3,8 +3,9 @@
 ghost use Rattle.std.specs.Prelude.{◌≡◌, ◌+◌, ◌<◌, ◌≤◌, ◌⊎◌, true, false, cond, IfSome};
 ghost use Rattle.slab.specs.Slab.{get};
 ghost use Rattle.trace_core.specs.declared.history.Point.{Point as AnyPoint};
-ghost use Rattle.shard_desk.specs.Driving.{Adds, Drives, IfBlocked, Leaves, is_round, weight};
+ghost use Rattle.shard_desk.specs.Driving.{Adds, Drives, IfBlocked, Leaves, Passes, is_round, weight};
 ghost use Rattle.shard_desk.specs.Driving.Doing.{Did};
+ghost use Rattle.shard_desk.specs.Seats.{sits_alone};
 ghost use Rattle.shard_desk.specs.Sparing.{GivesWay, has_ended, is_gone};
 
 use crate::exchanges::{Exchanges, Slotted};
@@ -29,6 +30,10 @@ const FRAMING: u64 = 256;
 
 /// The most steps of an exchange before others take theirs, with those that are made without its connections.
 const STEPS: u32 = 2;
+
+/// So often an exchange takes its steps in a drive where nobody else has a seat: as often as it would in the passes of a turn, with less on
+/// the way.
+const LONE_PASSES: u32 = 4;
 
 /// What a user's connection is in the midst of, as far as it may be spared.
 fn stay_of(phase: Phase) -> Stay {
@@ -67,7 +72,7 @@ struct Happened {
     stay: Option<Stay>,
     /// Whether the exchange went on: its seat was touched at this moment.
     went_on: bool,
-    /// What was done at its connections, in steps that move bodies.
+    /// What was done at its connections in a pass, in steps that move bodies.
     rounds: u64,
 }
 
@@ -214,22 +219,19 @@ fn take_step<E: Exchanges, R: Wait + Dial + Clock, G: Gate>(
     step
 }
 
-/// Drives an exchange until each of its connections waits, or others should get their turn. One whose user is lost ends, before the next
-/// step at a connection. One that wants a connection which a user has that has ended its bytes goes on once that one is ended.
-pub(crate) fn drive_on<E: Exchanges, R: Wait + Dial + Clock, G: Gate>(
+/// Has an exchange take its steps, until each of its connections waits, or others should get their turn. One whose user is lost ends, before
+/// the next step at a connection. One that wants a connection which a user has that has ended its bytes goes on once that one is ended.
+fn take_steps<E: Exchanges, R: Wait + Dial + Clock, G: Gate>(
     exchanges: &mut E,
     at: &Spot<'_, R, G>,
     exchange: &mut E::Exchange,
+    noted: &mut Happened,
 ) -> Driven
-    ensures drives { Drives (E.Exchange.past exchange.old) (E.Exchange.past exchange.new) result }
+    ensures passes { Passes (E.Exchange.past exchange.old) (E.Exchange.past exchange.new) result }
     ensures over { result ≡ Driven.Over → E.Exchange.is_over exchange.new ≡ true }
     ensures blocked { IfBlocked result (λ other. (point : AnyPoint) × GivesWay (E.Seating.seats_of (E.users_of exchanges.new)) point other) }
 {
-    let mut noted = Happened {
-        stay: None,
-        went_on: false,
-        rounds: 0,
-    };
+    noted.rounds = 0;
     for _taken in 0..STEPS {
         let phase = exchange.phase();
         if let Some(other) = in_way(exchanges.users(), at, phase) {
@@ -242,13 +244,39 @@ pub(crate) fn drive_on<E: Exchanges, R: Wait + Dial + Clock, G: Gate>(
         if noted.is_spent(phase) {
             return Driven::CutShort;
         }
-        match take_step(exchanges, at, exchange, phase, &mut noted) {
+        match take_step(exchanges, at, exchange, phase, noted) {
             Step::On | Step::Turned { .. } | Step::Unmoved => {}
             Step::Waits => return Driven::Waiting,
             Step::Over => return Driven::Over,
         }
     }
     noted.unfinished()
+}
+
+/// Drives an exchange: it takes its steps, and where nobody else has a seat it takes them again, rather than pause for others. Nobody comes
+/// meanwhile, so that is asked once.
+pub(crate) fn drive_on<E: Exchanges, R: Wait + Dial + Clock, G: Gate>(
+    exchanges: &mut E,
+    at: &Spot<'_, R, G>,
+    exchange: &mut E::Exchange,
+) -> Driven
+    ensures drives { Drives (sits_alone (E.Seating.seats_of (E.users_of exchanges.old))) (E.Exchange.past exchange.old) (E.Exchange.past exchange.new) result }
+    ensures over { result ≡ Driven.Over → E.Exchange.is_over exchange.new ≡ true }
+    ensures blocked { IfBlocked result (λ other. (point : AnyPoint) × GivesWay (E.Seating.seats_of (E.users_of exchanges.new)) point other) }
+{
+    let alone = exchanges.users().seats().sits_alone();
+    let mut noted = Happened {
+        stay: None,
+        went_on: false,
+        rounds: 0,
+    };
+    for _pass in 0..LONE_PASSES {
+        let driven = take_steps(exchanges, at, exchange, &mut noted);
+        if !alone || !driven.is_paused() {
+            return driven;
+        }
+    }
+    Driven::CutShort
 }
 
 /// Has the user of an exchange take its refusal at a stop, and drops what it still sends. `Over` where it is gone, or sends no more: then

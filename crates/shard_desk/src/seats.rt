@@ -41,7 +41,7 @@ pub struct Seats {
 
 impl Seats {
     ghost use Rattle.event_loop.specs.Shares.{has_none, is_over};
-    ghost use Rattle.shard_desk.specs.Seats.{heard_of, HasRoom, IsAnnounced, IsFor, MayRefuse, IsTaken, user_address};
+    ghost use Rattle.shard_desk.specs.Seats.{heard_of, HasRoom, IsAnnounced, IsFor, MayRefuse, IsTaken, sits_alone, user_address};
     ghost use Rattle.slab.specs.Slab.{get};
 
     /// No seat is taken, and at most `most` users may be served at once. `Err` if no memory was found for their seats.
@@ -115,6 +115,13 @@ impl Seats {
     /// Whether no seat is taken.
     pub fn is_empty(&self) -> bool {
         self.all.is_empty()
+    }
+
+    /// Whether nobody else sits here beside one user.
+    pub fn sits_alone(&self) -> bool
+        ensures { result ≡ sits_alone self.now }
+    {
+        self.all.len() < 2
     }
 
     /// Takes a seat for a user's connection of this number, from this address, at this moment, in milliseconds, and says what it is for.
