@@ -1,8 +1,7 @@
 -- Names of fields, one after the other.
-use Rattle.std.proofs.Common.{◌≡◌, ◌<◌, ◌+◌, ℕ, Bool, true, false, ◌||◌, ◌&&◌, List, [], ◌∷◌, ◌++◌, length, drop, get_or, map, nat_lt}
+use Rattle.std.proofs.Common.{◌≡◌, ◌<◌, ◌+◌, ℕ, Bool, true, false, ◌||◌, List, [], ◌∷◌, ◌++◌, length, drop, get_or, map, nat_lt}
 use Rattle.std.proofs.Common.{ltb-true, lt-ltb, String, Global, Option, Some, None, option_map, option_and_then, IfSome, IfNone, IsTrue}
 use Rattle.std.proofs.Common.{string_bytes, refl, sym, ap, ◌∙◌}
-use Rattle.std.proofs.lemmas.Bool.{false≢true}
 use Rattle.std.proofs.lemmas.List.{drop_more, map-append}
 use Rattle.std.proofs.lemmas.List.Sums.{AllPass-from_list_all, list_all-from_AllPass}
 use Rattle.std.specs.List.{list_all}
@@ -11,6 +10,7 @@ use Rattle.adapt_bytes.specs.Text.{IsToken, is_among, is_token_byte}
 use Rattle.toml.specs.View.{view, items_view}
 use Rattle.toml.specs.declared.value.Value.{Value}
 use Rattle.proxy_config.specs.Carry.{is_field_name, name_in, names_after}
+use Rattle.proxy_config.proofs.SameTexts.{both}
 
 -- two truth values that each follow from the other are the same
 same_truth : (r p : Bool) → (r ≡ true → p ≡ true) → (p ≡ true → r ≡ true) → r ≡ p
@@ -18,12 +18,6 @@ same_truth true true there back = refl
 same_truth true false there back = sym (there refl)
 same_truth false true there back = back refl
 same_truth false false there back = refl
-
--- of a true conjunction both sides are true
-both : (a b : Bool) → (a && b) ≡ true → (a ≡ true) × (b ≡ true)
-both true true e = (refl, refl)
-both true false e = absurd (false≢true e)
-both false b e = absurd (false≢true e)
 
 -- a name is a token just where its bytes are
 pub token_name : (r : Bool) (name : List ℕ) → (IsTrue r → IsToken name) → (IsToken name → IsTrue r) → r ≡ is_field_name name

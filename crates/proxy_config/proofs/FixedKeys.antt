@@ -52,7 +52,8 @@ first_is (row ∷ rows) old new (check ∷ checks) are =
 pub first_then : (rows more : List Row) (old new : Config) (found later : Option (List ℕ)) → IsFirstChange rows old new found
     → IsFirstChange more old new later → IsFirstChange (rows ++ more) old new (option_or found later)
 unfolding IsFirstChange
-first_then [] more old new found later first second = subst (λ (o : Option (List ℕ)). IsFirstChange more old new (option_or o later)) (sym first) second
+first_then [] more old new found later first second =
+    subst (λ (o : Option (List ℕ)). IsFirstChange more old new (option_or o later)) (sym first) second
 first_then (row ∷ rows) more old new found later first second =
     elim first as (λ _. IsFirstChange (row ∷ rows ++ more) old new (option_or found later)) [
       | inl agreed ↦ inl (agreed.0, first_then rows more old new found later agreed.1 second)

@@ -11,9 +11,11 @@ use Rattle.proxy_config.specs.Keys.{NumberRow, Row, of_number}
 use Rattle.proxy_config.specs.declared.config.Config.{Config}
 use Rattle.proxy_config.specs.declared.number_key.NumberKey.{NumberKey}
 use Rattle.proxy_config.proofs.FixedKeys.{first_here, none_first, same_number}
+use Rattle.proxy_config.proofs.SameTexts.{both}
 
 -- so it is with the keys from a place on, by the one there
-pub differing_from : (keys : List NumberKey) (old new : List ℕ) (at : ℕ) (key : NumberKey) → at < length keys → at < length old → at < length new
+pub differing_from : (keys : List NumberKey) (old new : List ℕ) (at : ℕ) (key : NumberKey)
+    → at < length keys → at < length old → at < length new
     → key ≡ get_or keys at key
     → first_differing (drop at keys) (drop at old) (drop at new)
     ≡ (if key.is_fixed && not (slice_index old at == slice_index new at) then Some key.name.now
@@ -39,7 +41,8 @@ passes_same can a b found later same =
     ap (λ (is : Bool). if can && not is then found else later) ((same_number a b).1 same) ∙ neither can found later
 
 -- and so where the key can change
-pub passes_live : (can : Bool) (a b : ℕ) (found later : Option (List ℕ)) → can ≡ false → (if can && not (a == b) then found else later) ≡ later
+pub passes_live : (can : Bool) (a b : ℕ) (found later : Option (List ℕ)) → can ≡ false
+    → (if can && not (a == b) then found else later) ≡ later
 passes_live can a b found later is = ap (λ (it : Bool). if it && not (a == b) then found else later) is
 
 -- whether keys are those of these rows, as far as names and changes go
@@ -48,11 +51,6 @@ are_of [] [] = true
 are_of [] (row ∷ rows) = false
 are_of (key ∷ keys) [] = false
 are_of (key ∷ keys) (row ∷ rows) = bytes_eq key.name.now row.name && (beq key.is_fixed row.is_fixed && are_of keys rows)
-
--- both of two are true where their conjunction is
-both : (a b : Bool) → (a && b) ≡ true → (a ≡ true) × (b ≡ true)
-both true b is = (refl, is)
-both false b is = absurd (false≢true is)
 
 -- the other way round
 swapped : (same : Bool) (a b : Option (List ℕ)) → (if same then b else a) ≡ (if not same then a else b)
@@ -97,5 +95,6 @@ pub differing_between : (keys : List NumberKey) (rows : List NumberRow) (old new
     → are_of keys rows ≡ true → IsFirstChange (fixed_of (map of_number rows)) old new found
 differing_between keys rows old new olds news found is of_old of_new are =
     subst (IsFirstChange (fixed_of (map of_number rows)) old new)
-    (sym (is.is ∙ ap (λ xs. first_differing keys xs news) of_old ∙ ap (λ xs. first_differing keys (map (λ row. row.goes old) rows) xs) of_new))
+    (sym (is.is ∙ ap (λ xs. first_differing keys xs news) of_old
+    ∙ ap (λ xs. first_differing keys (map (λ row. row.goes old) rows) xs) of_new))
     (differing_is keys rows old new are)

@@ -1,5 +1,6 @@
 -- Looking for the key of a name.
-use Rattle.std.proofs.Common.{◌≡◌, ℕ, List, [], ◌∷◌, ◌++◌, Bool, true, false, if◌then◌else◌, Option, Some, None, bytes_eq, option_map, refl, sym, ap, ◌∙◌}
+use Rattle.std.proofs.Common.{◌≡◌, ℕ, List, [], ◌∷◌, ◌++◌, Bool, true, false, if◌then◌else◌, Option, Some, None, bytes_eq}
+use Rattle.std.proofs.Common.{option_map, refl, sym, ap, ◌∙◌}
 use Rattle.std.specs.Option.{option_or}
 use Rattle.proxy_config.specs.Numbers.{IsKeyOf, name_among}
 use Rattle.proxy_config.specs.declared.number_key.NumberKey.{NumberKey}
@@ -11,7 +12,8 @@ or_later true name names more = refl
 or_later false name names more = refl
 
 -- a name among some, or else among those after them, is among all
-among_both : (names more : List (List ℕ)) (name : List ℕ) → name_among (names ++ more) name ≡ option_or (name_among names name) (name_among more name)
+among_both : (names more : List (List ℕ)) (name : List ℕ)
+    → name_among (names ++ more) name ≡ option_or (name_among names name) (name_among more name)
 among_both [] more name = refl
 among_both (other ∷ names) more name =
     ap (λ (found : Option (List ℕ)). if bytes_eq other name then Some other else found) (among_both names more name)

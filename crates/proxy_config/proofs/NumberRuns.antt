@@ -1,6 +1,6 @@
 -- Keys whose values are whole numbers, read one after the other.
-use Rattle.std.proofs.Common.{◌≡◌, ℕ, zero, suc, ◌+◌, ◌<◌, ◌≤◌, List, [], ◌∷◌, length, drop, Option, Some, None, Result, Ok, Err, IfOk, slice_get, slice_index}
-use Rattle.std.proofs.Common.{slice_set, unwrap_or, inl, inr, refl, sym, ap, ◌∙◌, subst, arith}
+use Rattle.std.proofs.Common.{◌≡◌, ℕ, zero, suc, ◌+◌, ◌<◌, ◌≤◌, List, [], ◌∷◌, length, drop, Option, Some, None, Result, Ok, Err, IfOk}
+use Rattle.std.proofs.Common.{slice_get, slice_index, slice_set, unwrap_or, inl, inr, refl, sym, ap, ◌∙◌, subst, arith}
 use Rattle.std.proofs.lemmas.Option.{none-some, slice_get_within}
 use Rattle.std.proofs.lemmas.Bool.Decides.{leb_tells}
 use Rattle.std.proofs.lemmas.List.{get_or-set_other, get_or-set_same, length-set}
@@ -29,7 +29,8 @@ pub record AreReadTo (keys : List NumberKey) (document : Members) (numbers : Lis
 
 -- of rows that begin with the keys from a place on, the first is that of the key there, and the others begin with those after it
 begin_at : (at : ℕ) (keys : List NumberKey) (rows : List Row) (key : NumberKey) → slice_get keys at ≡ Some key
-    → BeginWith (drop at keys) rows → Begins rows key.name.now (whole key.low key.high key.other) × BeginWith (drop (suc at) keys) (rest rows)
+    → BeginWith (drop at keys) rows
+    → Begins rows key.name.now (whole key.low key.high key.other) × BeginWith (drop (suc at) keys) (rest rows)
 begin_at at [] rows key is begin = absurd (none-some key is)
 begin_at zero (first ∷ keys) [] key is begin = absurd begin
 begin_at zero (first ∷ keys) (row ∷ rows) key is begin =
@@ -78,7 +79,8 @@ read_more keys document numbers at many number key so_far is within new =
       ];
       are_rows = subst S next (subst Q (rest_from at (rows_of keys)) begin.1);
       reached = subst T next (subst R (rest_from at (rows_of keys))
-          (goes_on (drop at (rows_of keys)) key.name.now (whole key.low key.high key.other) document begin.0 so_far.reached (number, new.0)));
+          (goes_on (drop at (rows_of keys)) key.name.now (whole key.low key.high key.other) document begin.0 so_far.reached
+          (number, new.0)));
     }
 
 -- the key at fault is the document's first

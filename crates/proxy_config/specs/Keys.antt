@@ -200,7 +200,8 @@ place_rows =
 abbrev pub table : List Row
 table =
     port_rows
-    ++ (map of_number size_rows ++ (message_rows ++ (entrance_rows ++ (origin_rows ++ (map of_number time_rows ++ (page_rows ++ place_rows))))))
+    ++ (map of_number size_rows
+    ++ (message_rows ++ (entrance_rows ++ (origin_rows ++ (map of_number time_rows ++ (page_rows ++ place_rows))))))
 
 -- the names of the keys
 abbrev pub document_keys : List (List ℕ)

@@ -34,7 +34,8 @@ ArePast keys document = Reaches (drop (length keys) (rows_of keys)) document
 abbrev pub AreSaidFrom : ℕ → List NumberKey → Members → List ℕ → Type 0
 AreSaidFrom at [] document numbers = Unit {0}
 AreSaidFrom at (key ∷ keys) document numbers =
-    (number_at key.name.now key.low key.high key.other document ≡ Some (slice_index numbers at)) × AreSaidFrom (at + 1) keys document numbers
+    (number_at key.name.now key.low key.high key.other document ≡ Some (slice_index numbers at))
+    × AreSaidFrom (at + 1) keys document numbers
 
 -- from this place on, each number lies in the range of its key
 abbrev pub AreWithinFrom : ℕ → List NumberKey → List ℕ → Type 0

@@ -16,4 +16,5 @@ returns c =
     (codes "carry", c.same_names.result) ∷
     (codes "proxy_protocol", beq old.proxy_protocol new.proxy_protocol) ∷ [] in
     let are : AreChecks (fixed_of entrance_rows) old new checks = search (rules, same_number, same_truth) in
-    subst (IsFirstChange (fixed_of entrance_rows) old new) (sym c.first_other.ensures) (first_is (fixed_of entrance_rows) old new checks are)
+    subst (IsFirstChange (fixed_of entrance_rows) old new) (sym c.first_other.ensures)
+    (first_is (fixed_of entrance_rows) old new checks are)

@@ -10,7 +10,8 @@ loop-i-preserved g c =
     let of_keys : c.loop-i.i < length c.args.keys.now = search (rules, arith) in
     let of_old : c.loop-i.i < length c.args.old = search (rules, arith) in
     let of_new : c.loop-i.i < length c.args.new = search (rules, arith) in
-    let step = differing_from c.args.keys.now c.args.old c.args.new c.loop-i.i c.index-keys-i.result of_keys of_old of_new c.index-keys-i.is in
+    let step = differing_from c.args.keys.now c.args.old c.args.new c.loop-i.i c.index-keys-i.result of_keys of_old of_new
+    c.index-keys-i.is in
     let next = c.loop-i.i + 1 in
     let later = first_differing (drop next c.args.keys.now) (drop next c.args.old) (drop next c.args.new) in
     let can = c.index-keys-i.result.is_fixed in

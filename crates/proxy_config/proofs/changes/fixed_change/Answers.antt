@@ -20,8 +20,8 @@ returns c =
     (first_or to_entrance (fixed_of origin_rows) old new c.or-3.result c.change_of_origins.result c.or-4.result c.or-4.ensures
     (first_or to_messages (fixed_of entrance_rows) old new c.or-2.result c.change_of_entrance.result c.or-3.result c.or-3.ensures
     (first_or to_sizes (fixed_of message_rows) old new c.or.result c.change_of_messages.result c.or-2.result c.or-2.ensures
-    (first_or (fixed_of port_rows) (fixed_of (map of_number size_rows)) old new c.change_of_ports.result c.change_of_sizes.result c.or.result
-    c.or.ensures c.change_of_ports.ensures c.change_of_sizes.ensures)
+    (first_or (fixed_of port_rows) (fixed_of (map of_number size_rows)) old new c.change_of_ports.result c.change_of_sizes.result
+    c.or.result c.or.ensures c.change_of_ports.ensures c.change_of_sizes.ensures)
     c.change_of_messages.ensures)
     c.change_of_entrance.ensures)
     c.change_of_origins.ensures)

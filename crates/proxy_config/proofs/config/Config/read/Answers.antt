@@ -7,11 +7,11 @@ use Rattle.proxy_config.proofs.config.Config.read.Goals as goal
 
 pub returns-clause-ok : goal.returns-clause-ok
 returns-clause-ok c =
+    let wait = c.in_ok-wait.ensures.ok in
     is_config (table_view c.args.table.now) _ c.in_ok-users.field-0 c.in_ok-keep_origins.field-0 c.in_ok-hosts.field-0
     (c.in_ok-listen.ensures.ok & c.in_ok-admin.ensures.ok & tt)
     c.in_ok-shards.ensures.ok.said
-    (c.in_ok-retry.ensures.ok & c.in_ok-wait.ensures.ok.said.0 & c.in_ok-log.ensures.ok & c.in_ok-log_query.ensures.ok & c.in_ok-metrics.ensures.ok
-    & tt)
+    (c.in_ok-retry.ensures.ok & wait.said.0 & c.in_ok-log.ensures.ok & c.in_ok-log_query.ensures.ok & c.in_ok-metrics.ensures.ok & tt)
     c.in_ok-users.ensures.ok
     c.in_ok-keep_origins.ensures.ok
     c.in_ok-service_idle.ensures.ok.said
