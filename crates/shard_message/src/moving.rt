@@ -259,6 +259,7 @@ impl<O: Kinds> Moving<O> {
 
     /// Takes the transaction apart of a message that is over, or ends by this. What became of the message is noted. The origin's connection
     /// had given and taken so many bytes before, when it was dialed; by this course its request may be withdrawn or not.
+    #[inline(never)]
     pub fn settle<P, R: Wait>(
         self,
         rt: &R,

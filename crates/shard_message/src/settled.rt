@@ -213,7 +213,7 @@ fn settled_of<O: Kinds, M: Drop>(
 
 /// Takes a request's transaction apart, which is closed: the response comes next where the origin has the whole request. A byte of an answer
 /// had gone to the user or not, and the origin's connection had given and taken so many bytes before, when it was dialed.
-#[inline(never)]
+#[inline(always)]
 pub(crate) fn settle_request<
     P,
     O: Outside<P>,
@@ -292,7 +292,7 @@ where
 
 /// Takes a response's transaction apart, which is closed: the user's next request comes next, where its connection carries one. A byte of
 /// the answer had gone to the user or not.
-#[inline(never)]
+#[inline(always)]
 pub(crate) fn settle_response<
     P,
     O: Outside<P>,
