@@ -2,6 +2,7 @@
 on by what stood when it began."""
 import os
 import random
+import re
 import shlex
 import signal
 import subprocess
@@ -333,15 +334,19 @@ def a_reload_moves_the_log(bench):
     same("audit", plain.stop(), IDLE)
 
 
+def fixed_numbers():
+    """The keys of the program's tables whose numbers can't change while it runs."""
+    with open(os.path.join(TOP, "crates", "proxy_config", "src", "config.rt")) as file:
+        return re.findall(r'number_key!\(fixed "(\w+)"', file.read())
+
+
 @case
 def a_key_that_needs_a_start_is_named(bench):
     """Each of them, and of several the first; nothing has changed then."""
     origin, service = bench.origin(), bench.icap()
     proxy = by_file(bench, origin, logged=False)
     address = '"127.0.0.1:%d"' % free_port()
-    numbers = [("shards", 3), ("rows", 99), ("journal", 99), ("preview_limit", 9), ("allow_limit", 9), ("window", 4096), ("user_connections", 99),
-               ("keep_origins", 9), ("origin_idle", 9), ("turn", 8192), ("service_idle", 9), ("options_ttl", 9), ("head_deadline", 9),
-               ("connect_deadline", 9), ("service_failures", 9), ("service_pause", 9)]
+    numbers = [(name, 9) for name in fixed_numbers()] + [("turn", 8192)]
     words = [("retry", "false"), ("log_query", "false"), ("metrics", address), ("carry", '["X-A"]'), ("proxy_protocol", "true"), ("dial", '"late"')]
     rows = [(name, "%s = %s\n" % (name, value), "", ()) for name, value in numbers + words if not (KEPT and name == "keep_origins")]
     rows += [("reqmod", "", "", [("reqmod", service.port, "/x")]), ("respmod", "", "", [("respmod", service.port, "/x")]),
