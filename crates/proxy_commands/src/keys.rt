@@ -125,13 +125,17 @@ pub fn put_value_of_key<E: Write>(key: &str, errors: &mut E) -> io::Result<()> {
     let NumberKey {
         low,
         high,
-        other,
+        default,
         unit,
         meaning,
         ..
     } = number;
+    let (colon, meaning) = match meaning {
+        Some(meaning) => (": ", meaning),
+        None => ("", ""),
+    };
     writeln!(
         errors,
-        "adaptproxy: {key}: {low} to {high} {unit} (default {other}{meaning})"
+        "adaptproxy: {key}: {low} to {high} {unit} (default {default}{colon}{meaning})"
     )
 }

@@ -18,7 +18,7 @@ AreChecks (row ∷ rows) old new [] = ⊥
 AreChecks (row ∷ rows) old new (check ∷ checks) = (check.0 ≡ row.name) × (IsTrue check.1 ↔ Agrees row old new)
     × AreChecks rows old new checks
 
--- two numbers, and two truth values, are compared
+-- two numbers compare as equal just where they are the same
 pub same_number : (a b : ℕ) → IsTrue (a == b) ↔ (a ≡ b)
 same_number a b = ((Decides-eqb a b).0, (Decides-eqb a b).1)
 

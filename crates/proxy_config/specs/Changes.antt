@@ -3,10 +3,9 @@ use denote.Ref.{Bor}
 use Rattle.std.specs.Prelude.{◌≡◌, ◌⊎◌, ℕ, List, [], ◌∷◌, ◌==◌, map, Bool, ◌&&◌, not, ⊤, if◌then◌else◌, Option, Some, None}
 use Rattle.std.specs.Prelude.{string_bytes}
 use Rattle.std.specs.List.{filter}
-use Rattle.proxy_config.specs.Keys.{Kind, Row, ValueOf, table}
+use Rattle.proxy_config.specs.Keys.{Kind, NumberRule, Row, ValueOf, table}
 use Rattle.proxy_config.specs.Keys.Kind.{file_path, service}
 use Rattle.proxy_config.specs.declared.config.Config.{Config}
-use Rattle.proxy_config.specs.declared.number_key.NumberKey.{NumberKey}
 use Rattle.proxy_config.specs.declared.point.ServicePoint.{ServicePoint}
 
 -- both services have the same host, address, path and number of connections, or both are missing
@@ -30,8 +29,9 @@ Stays file_path one other = AreBoth one other
 Stays service one other = SameService one other
 Stays kind one other = one ≡ other
 
+-- of this key the value of the new configuration can stay in the place of the old one's
 abbrev pub Agrees : Row → Config → Config → Type 0
-Agrees row old new = Stays row.kind (row.goes old) (row.goes new)
+Agrees row old new = Stays row.kind (row.value_in old) (row.value_in new)
 
 -- of these keys this is the first on which two configurations don't agree, if there is one
 unfoldable pub IsFirstChange : List Row → Config → Config → Option (List ℕ) → Type 0
@@ -39,10 +39,11 @@ IsFirstChange [] old new found = found ≡ None
 IsFirstChange (row ∷ rows) old new found =
     (Agrees row old new × IsFirstChange rows old new found) ⊎ ((Agrees row old new → ⊥) × (found ≡ Some row.name))
 
--- the keys that can't change
+-- those of these keys that can't change
 abbrev pub fixed_of : List Row → List Row
 fixed_of = filter (λ row. row.is_fixed)
 
+-- all keys that can't change
 abbrev pub fixed_rows : List Row
 fixed_rows = fixed_of table
 
@@ -55,14 +56,14 @@ abbrev pub first_other : List (List ℕ × Bool) → Option (List ℕ)
 first_other [] = None
 first_other (check ∷ checks) = if check.1 then first_other checks else Some check.0
 
--- the first of these keys that can't change, and of which the numbers differ
-abbrev pub first_differing : List NumberKey → (old new : List ℕ) → Option (List ℕ)
+-- by these rules the first key that can't change, and of which the numbers differ
+abbrev pub first_differing : List NumberRule → (old new : List ℕ) → Option (List ℕ)
 first_differing [] old new = None
-first_differing (key ∷ keys) [] new = None
-first_differing (key ∷ keys) (one ∷ old) [] = None
-first_differing (key ∷ keys) (one ∷ old) (other ∷ new) =
-    if key.is_fixed && not (one == other) then Some key.name.now else first_differing keys old new
+first_differing (rule ∷ rules) [] new = None
+first_differing (rule ∷ rules) (one ∷ old) [] = None
+first_differing (rule ∷ rules) (one ∷ old) (other ∷ new) =
+    if rule.is_fixed && not (one == other) then Some rule.name else first_differing rules old new
 
 -- it is the one found, or there is none
-pub record IsFirstDiffering (keys : List NumberKey) (old new : List ℕ) (found : Option (List ℕ)) : Type 0 where
-  pub is : found ≡ first_differing keys old new
+pub record IsFirstDiffering (rules : List NumberRule) (old new : List ℕ) (found : Option (List ℕ)) : Type 0 where
+  pub is : found ≡ first_differing rules old new

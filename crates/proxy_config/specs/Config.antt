@@ -13,7 +13,7 @@ use Rattle.proxy_config.specs.declared.config.Config.{Config}
 -- the configuration has the value that the document says for each key
 abbrev pub AreSaid : List Row → Members → Config → Type 0
 AreSaid [] document config = Unit {0}
-AreSaid (row ∷ rows) document config = Says row.kind row.name document (row.goes config) × AreSaid rows document config
+AreSaid (row ∷ rows) document config = Says row.kind row.name document (row.value_in config) × AreSaid rows document config
 
 -- the document says these values, and has no other key; no page is read
 pub record IsConfig (document : Members) (config : Config) : Type 0 where

@@ -23,8 +23,8 @@ use Rattle.proxy_config.specs.Services.{IsServiceOf, IsServiceFault}
 
 -- what the value of a key may be; a number has a range, and like a truth value a default
 pub data Kind : Type 0 where
-  number : (low high other : ℕ) → Kind
-  truth : (other : Bool) → Kind
+  number : (low high default : ℕ) → Kind
+  truth : (default : Bool) → Kind
   address : Kind
   admin_address : Kind
   metrics_address : Kind
@@ -40,8 +40,8 @@ pub data Kind : Type 0 where
 
 -- the values of a kind
 abbrev pub ValueOf : Kind → Type 0
-ValueOf (number low high other) = ℕ
-ValueOf (truth other) = Bool
+ValueOf (number low high default) = ℕ
+ValueOf (truth default) = Bool
 ValueOf address = SocketAddrV4
 ValueOf admin_address = SocketAddrV4
 ValueOf metrics_address = Option SocketAddrV4
@@ -57,8 +57,8 @@ ValueOf parent_proxy = Option SocketAddrV4
 
 -- the value that a document says for a key, its default where the key is missing
 abbrev pub Says : (kind : Kind) → List ℕ → Members → ValueOf kind → Type 0
-Says (number low high other) name document value = number_at name low high other document ≡ Some value
-Says (truth other) name document value = truth_or other (get_member name document) ≡ Some value
+Says (number low high default) name document value = number_at name low high default document ≡ Some value
+Says (truth default) name document value = truth_or default (get_member name document) ≡ Some value
 Says address name document value = HasAddress name document value
 Says admin_address name document value = IsAdmin document value
 Says metrics_address name document value = IsMetrics document value
@@ -83,42 +83,50 @@ IsFaultOf service name document found = IsServiceFault name document found
 IsFaultOf parent_proxy name document found = IsParentFault document found
 IsFaultOf kind name document found = (IsGood kind name document → ⊥) × (found ≡ name)
 
--- a key: its name, the kind of its value, where in a configuration its value goes, and whether it can't change while the proxy runs
+-- a key: its name, the kind of its value, its value in a configuration, and whether it can't change while the proxy runs
 pub record Row : Type 0 where
   pub name : List ℕ
   pub kind : Kind
-  pub goes : Config → ValueOf kind
+  pub value_in : Config → ValueOf kind
   pub is_fixed : Bool
 
 -- a key that can't change while the proxy runs
 abbrev pub fixed : List ℕ → (kind : Kind) → (Config → ValueOf kind) → Row
-fixed name kind goes = record { name = name; kind = kind; goes = goes; is_fixed = true }
+fixed name kind value_in = record { name = name; kind = kind; value_in = value_in; is_fixed = true }
 
 -- a key that can
 abbrev pub live : List ℕ → (kind : Kind) → (Config → ValueOf kind) → Row
-live name kind goes = record { name = name; kind = kind; goes = goes; is_fixed = false }
+live name kind value_in = record { name = name; kind = kind; value_in = value_in; is_fixed = false }
 
--- a key whose value is a whole number: its name, its range, the number where it is missing, whether it can't change while the proxy runs,
--- and where in a configuration the number goes
-pub record NumberRow : Type 0 where
+-- what is said of a key whose value is a whole number: its name, its range, the number where it is missing, and whether it can't change
+-- while the proxy runs
+pub record NumberRule : Type 0 where
   pub name : List ℕ
   pub low : ℕ
   pub high : ℕ
-  pub other : ℕ
+  pub default : ℕ
   pub is_fixed : Bool
-  pub goes : Config → ℕ
+
+-- such a key, and its number in a configuration
+pub record NumberRow : Type 0 where
+  pub rule : NumberRule
+  pub value_in : Config → ℕ
 
 -- a number that can't change while the proxy runs
-abbrev pub fixed_number : List ℕ → (low high other : ℕ) → (Config → ℕ) → NumberRow
-fixed_number name low high other goes = record { name = name; low = low; high = high; other = other; is_fixed = true; goes = goes }
+abbrev pub fixed_number : List ℕ → (low high default : ℕ) → (Config → ℕ) → NumberRow
+fixed_number name low high default value_in =
+    record { rule = record { name = name; low = low; high = high; default = default; is_fixed = true }; value_in = value_in }
 
 -- a number that can
-abbrev pub live_number : List ℕ → (low high other : ℕ) → (Config → ℕ) → NumberRow
-live_number name low high other goes = record { name = name; low = low; high = high; other = other; is_fixed = false; goes = goes }
+abbrev pub live_number : List ℕ → (low high default : ℕ) → (Config → ℕ) → NumberRow
+live_number name low high default value_in =
+    record { rule = record { name = name; low = low; high = high; default = default; is_fixed = false }; value_in = value_in }
 
 -- the key among those of all kinds
 abbrev pub of_number : NumberRow → Row
-of_number row = record { name = row.name; kind = number row.low row.high row.other; goes = row.goes; is_fixed = row.is_fixed }
+of_number row =
+    let rule : NumberRule = row.rule in
+    record { name = rule.name; kind = number rule.low rule.high rule.default; value_in = row.value_in; is_fixed = rule.is_fixed }
 
 -- where users and the administrator connect
 abbrev pub port_rows : List Row
@@ -140,36 +148,73 @@ size_rows =
     ∷ fixed_number (codes "window") 1 MAX_WINDOW 8192 (λ c. c.window)
     ∷ []
 
--- whether a message is sent again, how long it waits for a connection, and what is told of messages
-abbrev pub message_rows : List Row
-message_rows =
+-- whether a message is sent again
+abbrev pub retry_rows : List Row
+retry_rows =
     fixed (codes "retry") (truth true) (λ c. c.retry)
-    ∷ live (codes "wait") (number 0 3600 0) (λ c. c.wait)
-    ∷ fixed (codes "log") file_path (λ c. option_map string_bytes c.log)
+    ∷ []
+
+-- how long an exchange waits for a connection
+abbrev pub wait_rows : List NumberRow
+wait_rows =
+    live_number (codes "wait") 0 3600 0 (λ c. c.wait)
+    ∷ []
+
+-- what is told of messages
+abbrev pub told_rows : List Row
+told_rows =
+    fixed (codes "log") file_path (λ c. option_map string_bytes c.log)
     ∷ fixed (codes "log_query") (truth true) (λ c. c.log_query)
     ∷ fixed (codes "metrics") metrics_address (λ c. c.metrics)
     ∷ []
 
--- who may use the proxy, and where requests may go
-abbrev pub entrance_rows : List Row
-entrance_rows =
+-- the keys of messages
+abbrev pub message_rows : List Row
+message_rows = retry_rows ++ (map of_number wait_rows ++ told_rows)
+
+-- where users may come from, and where requests may go
+abbrev pub network_rows : List Row
+network_rows =
     live (codes "users") user_networks (λ c. option_map (λ networks. networks.items) c.users)
     ∷ live (codes "denied") denied_networks (λ c. c.denied.items)
-    ∷ fixed (codes "user_connections") (number 0 4096 0) (λ c. c.user_connections)
-    ∷ live (codes "client_ip") (truth false) (λ c. c.client_ip)
+    ∷ []
+
+-- how many connections one address of users may have
+abbrev pub crowd_rows : List NumberRow
+crowd_rows =
+    fixed_number (codes "user_connections") 0 4096 0 (λ c. c.user_connections)
+    ∷ []
+
+-- which headers and fields say more of a user, and where further host names are
+abbrev pub header_rows : List Row
+header_rows =
+    live (codes "client_ip") (truth false) (λ c. c.client_ip)
     ∷ fixed (codes "carry") field_names (λ c. map string_bytes c.carry.items)
     ∷ fixed (codes "proxy_protocol") (truth false) (λ c. c.proxy_protocol)
     ∷ live (codes "hosts_file") file_path (λ c. option_map string_bytes c.hosts_file)
     ∷ []
 
--- which connections to origins are kept, when one is opened, and how many bytes a turn moves
-abbrev pub origin_rows : List Row
-origin_rows =
-    fixed (codes "keep_origins") (number 0 1024 0) (λ c. c.keep_origins)
-    ∷ fixed (codes "origin_idle") (number 1 3600 30) (λ c. c.origin_idle)
-    ∷ fixed (codes "dial") dial_time (λ c. c.dial)
+-- who may use the proxy, and where requests may go
+abbrev pub entrance_rows : List Row
+entrance_rows = network_rows ++ (map of_number crowd_rows ++ header_rows)
+
+-- which connections to origins are kept
+abbrev pub kept_rows : List NumberRow
+kept_rows =
+    fixed_number (codes "keep_origins") 0 1024 0 (λ c. c.keep_origins)
+    ∷ fixed_number (codes "origin_idle") 1 3600 30 (λ c. c.origin_idle)
+    ∷ []
+
+-- when a connection to an origin is opened, and how many bytes a turn moves
+abbrev pub turn_rows : List Row
+turn_rows =
+    fixed (codes "dial") dial_time (λ c. c.dial)
     ∷ fixed (codes "turn") turn_size (λ c. c.turn)
     ∷ []
+
+-- the keys of connections to origins, and of turns
+abbrev pub origin_rows : List Row
+origin_rows = map of_number kept_rows ++ turn_rows
 
 -- how long connections to services lie idle, what heads and new connections may take, and when a service is paused
 abbrev pub time_rows : List NumberRow
@@ -197,6 +242,7 @@ place_rows =
     ∷ fixed (codes "parent") parent_proxy (λ c. c.parent)
     ∷ []
 
+-- all keys, in the order in which they are judged
 abbrev pub table : List Row
 table =
     port_rows

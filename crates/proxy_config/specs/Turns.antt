@@ -9,6 +9,7 @@ abbrev pub rows_from : List ℕ → List Row → List Row
 rows_from name [] = []
 rows_from name (row ∷ rows) = if bytes_eq row.name name then row ∷ rows else rows_from name rows
 
+-- the rows after the first
 abbrev pub rest : List Row → List Row
 rest [] = []
 rest (row ∷ rows) = rows

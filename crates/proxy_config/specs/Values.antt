@@ -21,17 +21,17 @@ number_in low high _ = None
 
 -- the number that a key has: the default where the key is missing
 abbrev pub number_or : ℕ → ℕ → ℕ → Option Data → Option ℕ
-number_or low high other None = Some other
-number_or low high other (Some value) = number_in low high value
+number_or low high default None = Some default
+number_or low high default (Some value) = number_in low high value
 
 -- the number of a key: the default where the key is missing, none where it is no whole number of the range
 abbrev pub number_at : List ℕ → ℕ → ℕ → ℕ → Members → Option ℕ
-number_at key low high other document = number_or low high other (get_member key document)
+number_at key low high default document = number_or low high default (get_member key document)
 
 -- the truth value that a key has: the default where the key is missing
 abbrev pub truth_or : Bool → Option Data → Option Bool
-truth_or other None = Some other
-truth_or other (Some value) = as_bool value
+truth_or default None = Some default
+truth_or default (Some value) = as_bool value
 
 -- the value is the text of an IPv4 address and a port that isn't 0
 abbrev pub IsAddress : Data → SocketAddrV4 → Type 0

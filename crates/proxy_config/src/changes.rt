@@ -3,9 +3,10 @@
 ghost use Rattle.std.specs.Prelude.{◌≡◌, ◌↔◌, IsTrue, length, map, string_bytes};
 ghost use Rattle.std.specs.Option.{option_copied};
 ghost use Rattle.proxy_config.specs.Changes.{first_other, fixed_of, fixed_rows, IsFirstChange, IsFirstDiffering, SameService, shown};
+ghost use Rattle.proxy_config.specs.Numbers.{key_rules};
 ghost use Rattle.proxy_config.specs.Keys.{entrance_rows, message_rows, of_number, origin_rows, place_rows, port_rows, size_rows, time_rows};
 
-use crate::config::{Config, SIZES, TIMES};
+use crate::config::{CROWDS, Config, KEPT, SIZES, TIMES, WAITS};
 use crate::dial::Dial;
 use crate::number_key::NumberKey;
 use crate::point::ServicePoint;
@@ -77,7 +78,7 @@ fn first_differing<const N: usize>(
     new: [u64; N],
 ) -> Option<&'static str>
     requires { length keys.now ≡ N }
-    ensures { IsFirstDiffering keys.now old.entry new.entry (option_copied result) }
+    ensures { IsFirstDiffering (key_rules keys.now) old.entry new.entry (option_copied result) }
 {
     for i in 0..N {
         let key = &keys[i];
@@ -109,38 +110,38 @@ fn change_of_sizes(old: &Config, new: &Config) -> Option<&'static str>
 fn change_of_messages(old: &Config, new: &Config) -> Option<&'static str>
     ensures { IsFirstChange (fixed_of message_rows) old.now new.now (option_copied result) }
 {
-    first_other(&[
-        ("retry", old.retry == new.retry),
-        ("log", old.log.is_some() == new.log.is_some()),
-        ("log_query", old.log_query == new.log_query),
-        ("metrics", same_address(old.metrics, new.metrics)),
-    ])
+    first_other(&[("retry", old.retry == new.retry)])
+        .or(first_differing(&WAITS, [old.wait], [new.wait]))
+        .or(first_other(&[
+            ("log", old.log.is_some() == new.log.is_some()),
+            ("log_query", old.log_query == new.log_query),
+            ("metrics", same_address(old.metrics, new.metrics)),
+        ]))
 }
 
 /// The first change of who may use it.
 fn change_of_entrance(old: &Config, new: &Config) -> Option<&'static str>
     ensures { IsFirstChange (fixed_of entrance_rows) old.now new.now (option_copied result) }
 {
-    first_other(&[
-        (
-            "user_connections",
-            old.user_connections == new.user_connections,
-        ),
+    first_differing(&CROWDS, [old.user_connections], [new.user_connections]).or(first_other(&[
         ("carry", same_names(&old.carry, &new.carry)),
         ("proxy_protocol", old.proxy_protocol == new.proxy_protocol),
-    ])
+    ]))
 }
 
 /// The first change of connections to origins, or of turns.
 fn change_of_origins(old: &Config, new: &Config) -> Option<&'static str>
     ensures { IsFirstChange (fixed_of origin_rows) old.now new.now (option_copied result) }
 {
-    first_other(&[
-        ("keep_origins", old.keep_origins == new.keep_origins),
-        ("origin_idle", old.origin_idle == new.origin_idle),
+    first_differing(
+        &KEPT,
+        [old.keep_origins, old.origin_idle],
+        [new.keep_origins, new.origin_idle],
+    )
+    .or(first_other(&[
         ("dial", same_dial(old.dial, new.dial)),
         ("turn", old.turn == new.turn),
-    ])
+    ]))
 }
 
 /// The first change of a time.

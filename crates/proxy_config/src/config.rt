@@ -123,7 +123,9 @@ pub struct Config {
     ghost sizes_fit: { IsWithin 1 MAX_SHARDS shards × (IsWithin 1 MAX_CAPACITY capacity × (IsWithin 1 MAX_ROWS rows × (IsWithin 1 65536 journal
         × (IsWithin 1 3600 deadline × (IsWithin 0 MAX_PREVIEW preview_limit × (IsWithin 0 MAX_ALLOW_LIMIT allow_limit
         × IsWithin 1 MAX_WINDOW window)))))) },
-    ghost others_fit: { IsWithin 0 3600 wait × IsWithin 0 4096 user_connections × IsWithin 0 1024 keep_origins × IsWithin 1 3600 origin_idle },
+    ghost wait_fits: { IsWithin 0 3600 wait },
+    ghost crowds_fit: { IsWithin 0 4096 user_connections },
+    ghost kept_fit: { IsWithin 0 1024 keep_origins × IsWithin 1 3600 origin_idle },
     ghost times_fit: { IsWithin 0 3600 service_idle × (IsWithin 0 2147483648 options_ttl × (IsWithin 0 3600 head_deadline
         × (IsWithin 0 3600 connect_deadline × (IsWithin 0 1024 service_failures × IsWithin 1 3600 service_pause)))) },
     ghost turn_fits: { IsTurn window turn },
@@ -142,28 +144,28 @@ pub const SIZES: [NumberKey; 8] = [
 ];
 
 /// The key that says how long an exchange waits.
-pub const WAITS: [NumberKey; 1] = [
-    number_key!(live "wait", 0 to 3_600 "seconds", default 0 ": none"),
+pub(crate) const WAITS: [NumberKey; 1] = [
+    number_key!(live "wait", 0 to 3_600 "seconds", default 0: "none"),
 ];
 
 /// The key that says how many connections one address of users may have.
-pub const CROWDS: [NumberKey; 1] = [
-    number_key!(fixed "user_connections", 0 to 4_096 "connections", default 0 ": no limit"),
+pub(crate) const CROWDS: [NumberKey; 1] = [
+    number_key!(fixed "user_connections", 0 to 4_096 "connections", default 0: "no limit"),
 ];
 
 /// The keys that say which connections to origins are kept.
-pub const ORIGINS: [NumberKey; 2] = [
-    number_key!(fixed "keep_origins", 0 to 1_024 "connections", default 0 ": none"),
+pub(crate) const KEPT: [NumberKey; 2] = [
+    number_key!(fixed "keep_origins", 0 to 1_024 "connections", default 0: "none"),
     number_key!(fixed "origin_idle", 1 to 3_600 "seconds", default 30),
 ];
 
 /// The keys that say how long connections to services lie idle, what heads and new connections may take, and when a service is paused.
 pub const TIMES: [NumberKey; 6] = [
     number_key!(fixed "service_idle", 0 to 3_600 "seconds", default 60),
-    number_key!(fixed "options_ttl", 0 to 2_147_483_648 "seconds", default 0 ": for ever"),
-    number_key!(fixed "head_deadline", 0 to 3_600 "seconds", default 0 ": none"),
-    number_key!(fixed "connect_deadline", 0 to 3_600 "seconds", default 0 ": that of deadline"),
-    number_key!(fixed "service_failures", 0 to 1_024 "failures", default 0 ": no pause"),
+    number_key!(fixed "options_ttl", 0 to 2_147_483_648 "seconds", default 0: "for ever"),
+    number_key!(fixed "head_deadline", 0 to 3_600 "seconds", default 0: "none"),
+    number_key!(fixed "connect_deadline", 0 to 3_600 "seconds", default 0: "that of deadline"),
+    number_key!(fixed "service_failures", 0 to 1_024 "failures", default 0: "no pause"),
     number_key!(fixed "service_pause", 1 to 3_600 "seconds", default 30),
 ];
 
@@ -209,20 +211,20 @@ pub(crate) const KEYS: [&str; 37] = [
 ];
 
 impl Config {
-    ghost use Rattle.std.specs.Prelude.{◌≡◌, codes, map, slice_index, IfOk, IfErr, Some};
+    ghost use Rattle.std.specs.Prelude.{◌≡◌, codes, map, IfOk, IfErr, Some};
     ghost use Rattle.toml.specs.View.{table_view};
     ghost use Rattle.proxy_config.specs.Config.{IsConfig, IsFirstFault};
     ghost use Rattle.proxy_config.specs.Fault.{Names};
     ghost use Rattle.proxy_config.specs.Keys.{size_rows, time_rows};
-    ghost use Rattle.proxy_config.specs.Numbers.{AreOf};
+    ghost use Rattle.proxy_config.specs.Numbers.{AreRead, row_rules, window_among};
     ghost use Rattle.proxy_config.specs.TurnSize.{window_at};
     ghost use Rattle.proxy_config.specs.Turns.{IsPast};
 
     /// Reads the numbers of the keys of [`SIZES`].
     fn read_sizes(alloc: Global, table: &Table) -> Result<[u64; 8], ConfigFault>
         requires next { IsPast (codes "admin") (table_view table.now) }
-        ensures ok { IfOk result (AreOf size_rows (table_view table.now)) }
-        ensures window { IfOk result (λ sizes. window_at (table_view table.now) ≡ Some (slice_index sizes 7)) }
+        ensures ok { IfOk result (AreRead (row_rules size_rows) (table_view table.now)) }
+        ensures window { IfOk result (λ sizes. window_at (table_view table.now) ≡ Some (window_among sizes)) }
         ensures past { IfOk result (λ _. IsPast (codes "window") (table_view table.now)) }
         ensures err { IfErr result (Names (IsFirstFault (table_view table.now))) }
     {
@@ -232,7 +234,7 @@ impl Config {
     /// Reads the numbers of the keys of [`TIMES`].
     fn read_times(alloc: Global, table: &Table) -> Result<[u64; 6], ConfigFault>
         requires next { IsPast (codes "turn") (table_view table.now) }
-        ensures ok { IfOk result (AreOf time_rows (table_view table.now)) }
+        ensures ok { IfOk result (AreRead (row_rules time_rows) (table_view table.now)) }
         ensures past { IfOk result (λ _. IsPast (codes "service_pause") (table_view table.now)) }
         ensures err { IfErr result (Names (IsFirstFault (table_view table.now))) }
     {
@@ -336,7 +338,7 @@ impl Config {
 
     /// The numbers of the keys of [`SIZES`].
     pub fn sizes(&self) -> [u64; 8]
-        ensures { result ≡ map (λ row. row.goes self.now) size_rows }
+        ensures { result ≡ map (λ row. row.value_in self.now) size_rows }
     {
         [
             self.shards,
@@ -352,7 +354,7 @@ impl Config {
 
     /// The numbers of the keys of [`TIMES`].
     pub fn times(&self) -> [u64; 6]
-        ensures { result ≡ map (λ row. row.goes self.now) time_rows }
+        ensures { result ≡ map (λ row. row.value_in self.now) time_rows }
     {
         [
             self.service_idle,

@@ -39,7 +39,7 @@ mod values;
 mod words;
 
 pub use changes::fixed_change;
-pub use config::{CROWDS, Config, ORIGINS, SIZES, TIMES, WAITS};
+pub use config::{Config, SIZES, TIMES};
 pub use dial::Dial;
 pub use fault::ConfigFault;
 pub use host_table::Hosts;

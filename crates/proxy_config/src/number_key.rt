@@ -12,38 +12,41 @@ pub struct NumberKey {
     /// The greatest one.
     pub high: u64,
     /// The number where the key is missing.
-    pub other: u64,
+    pub default: u64,
     /// Whether it can't change while the proxy runs.
     pub is_fixed: bool,
     /// What is counted, as `seconds`.
     pub unit: &'static str,
-    /// What the default means, as `: none`; empty where that is plain.
-    pub meaning: &'static str,
-    ghost fits: { (low ≤ other) × (other ≤ high) },
+    /// What the default means, as `none`; `None` where that is plain.
+    pub meaning: Option<&'static str>,
+    ghost fits: { (low ≤ default) × (default ≤ high) },
 }
 
 /// A row of a table of such keys: whether it can change while the proxy runs (`fixed` or `live`), its name, its range, what is counted, and
 /// its default, with what that means where it isn't plain.
 macro_rules! number_key {
-    (fixed $name:literal, $low:tt to $high:tt $unit:literal, default $other:literal $meaning:literal) => {
-        crate::number_key::number_key!(true, $name, $low, $high, $unit, $other, $meaning)
+    ($mark:ident $name:literal, $low:tt to $high:tt $unit:literal, default $default:literal) => {
+        crate::number_key::number_key!($mark $name, $low to $high $unit, default $default, None)
     };
-    (live $name:literal, $low:tt to $high:tt $unit:literal, default $other:literal $meaning:literal) => {
-        crate::number_key::number_key!(false, $name, $low, $high, $unit, $other, $meaning)
+    ($mark:ident $name:literal, $low:tt to $high:tt $unit:literal, default $default:literal: $meaning:literal) => {
+        crate::number_key::number_key!($mark $name, $low to $high $unit, default $default, Some($meaning))
     };
-    ($can:ident $name:literal, $low:tt to $high:tt $unit:literal, default $other:literal) => {
-        crate::number_key::number_key!($can $name, $low to $high $unit, default $other "")
-    };
-    ($is_fixed:literal, $name:literal, $low:tt, $high:tt, $unit:literal, $other:literal, $meaning:literal) => {
+    ($mark:ident $name:literal, $low:tt to $high:tt $unit:literal, default $default:literal, $meaning:expr) => {
         NumberKey {
             name: $name,
             low: $low,
             high: $high,
-            other: $other,
-            is_fixed: $is_fixed,
+            default: $default,
+            is_fixed: crate::number_key::number_key!($mark),
             unit: $unit,
             meaning: $meaning,
         }
+    };
+    (fixed) => {
+        true
+    };
+    (live) => {
+        false
     };
 }
 

@@ -4,9 +4,10 @@ ghost use Rattle.std.specs.Prelude.{◌≡◌, IfOk, IfErr, length};
 ghost use Rattle.toml.specs.View.{table_view};
 ghost use Rattle.proxy_config.specs.Config.{IsFirstFault};
 ghost use Rattle.proxy_config.specs.Fault.{Names};
-ghost use Rattle.proxy_config.specs.Numbers.{AreNext, ArePast, AreRead, IsKeyOf, names_of, number_names};
+ghost use Rattle.proxy_config.specs.Keys.{table as key_table};
+ghost use Rattle.proxy_config.specs.Numbers.{AreNext, ArePast, AreRead, IsKeyOf, key_rules, rules_among};
 
-use crate::config::{CROWDS, ORIGINS, SIZES, TIMES, WAITS};
+use crate::config::{CROWDS, KEPT, SIZES, TIMES, WAITS};
 use crate::fault::{ConfigFault, needed};
 use crate::number_key::NumberKey;
 use crate::values::number_or;
@@ -20,15 +21,15 @@ pub(crate) fn read_numbers<const N: usize>(
     keys: &[NumberKey],
 ) -> Result<[u64; N], ConfigFault>
     requires length { length keys.now ≡ N }
-    requires next { AreNext keys.now (table_view table.now) }
-    ensures ok { IfOk result (AreRead keys.now (table_view table.now)) }
-    ensures past { IfOk result (λ _. ArePast keys.now (table_view table.now)) }
+    requires next { AreNext (key_rules keys.now) (table_view table.now) }
+    ensures ok { IfOk result (AreRead (key_rules keys.now) (table_view table.now)) }
+    ensures past { IfOk result (λ _. ArePast (key_rules keys.now) (table_view table.now)) }
     ensures err { IfErr result (Names (IsFirstFault (table_view table.now))) }
 {
     let mut numbers = [0; N];
     for i in 0..N {
         let key = &keys[i];
-        let number = number_or(table, key.name, key.low, key.high, key.other);
+        let number = number_or(table, key.name, key.low, key.high, key.default);
         numbers[i] = needed(alloc, key.name, number)?;
     }
     Ok(numbers)
@@ -36,7 +37,7 @@ pub(crate) fn read_numbers<const N: usize>(
 
 /// The key of these that has a name.
 fn key_in(keys: &[NumberKey], name: &str) -> Option<NumberKey>
-    ensures { IsKeyOf (names_of keys.now) name.now result }
+    ensures { IsKeyOf (key_rules keys.now) name.now result }
 {
     for key in keys {
         if key.name == name {
@@ -48,11 +49,11 @@ fn key_in(keys: &[NumberKey], name: &str) -> Option<NumberKey>
 
 /// The key that has a name, where its value is a whole number; but for `turn`, which other keys bound.
 pub fn number_named(name: &str) -> Option<NumberKey>
-    ensures { IsKeyOf number_names name.now result }
+    ensures { IsKeyOf (rules_among key_table) name.now result }
 {
     key_in(&SIZES, name)
         .or(key_in(&WAITS, name))
         .or(key_in(&CROWDS, name))
-        .or(key_in(&ORIGINS, name))
+        .or(key_in(&KEPT, name))
         .or(key_in(&TIMES, name))
 }

@@ -2,7 +2,7 @@
 
 ghost use Rattle.proxy_config.specs.Values.{IsWithin};
 
-use crate::config::ORIGINS;
+use crate::config::KEPT;
 use crate::dial::{Dial, read_dial};
 use crate::fault::ConfigFault;
 use crate::numbers::read_numbers;
@@ -39,7 +39,7 @@ impl Origins {
         ensures past { IfOk result (λ _. IsPast (codes "turn") (table_view table.now)) }
         ensures err { IfErr result (Names (IsFirstFault (table_view table.now))) }
     {
-        let [keep_origins, origin_idle] = read_numbers::<2>(alloc, table, &ORIGINS)?;
+        let [keep_origins, origin_idle] = read_numbers::<2>(alloc, table, &KEPT)?;
         Ok(Origins {
             keep_origins,
             origin_idle,

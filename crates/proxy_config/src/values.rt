@@ -48,27 +48,27 @@ pub(crate) fn number_in(value: &Value, low: u64, high: u64) -> Option<u64>
     }
 }
 
-/// The whole number of a key, where it lies in the range; `other` where the key is missing.
-pub(crate) fn number_or(table: &Table, key: &str, low: u64, high: u64, other: u64) -> Option<u64>
-    requires low { low ≤ other }
-    requires high { other ≤ high }
-    ensures number { result ≡ number_or low high other (get_member key.now (table_view table.now)) }
+/// The whole number of a key, where it lies in the range; the default where the key is missing.
+pub(crate) fn number_or(table: &Table, key: &str, low: u64, high: u64, default: u64) -> Option<u64>
+    requires low { low ≤ default }
+    requires high { default ≤ high }
+    ensures number { result ≡ number_or low high default (get_member key.now (table_view table.now)) }
     ensures low { IfSome result (λ n. low ≤ n) }
     ensures high { IfSome result (λ n. n ≤ high) }
 {
     match value_of(table, key) {
         Some(value) => number_in(value, low, high),
-        None => Some(other),
+        None => Some(default),
     }
 }
 
-/// The truth value of a key; `other` where the key is missing.
-fn truth_or(table: &Table, key: &str, other: bool) -> Option<bool>
-    ensures { result ≡ truth_or other (get_member key.now (table_view table.now)) }
+/// The truth value of a key; the default where the key is missing.
+fn truth_or(table: &Table, key: &str, default: bool) -> Option<bool>
+    ensures { result ≡ truth_or default (get_member key.now (table_view table.now)) }
 {
     match value_of(table, key) {
         Some(value) => value.as_bool(),
-        None => Some(other),
+        None => Some(default),
     }
 }
 
@@ -111,19 +111,19 @@ pub(crate) fn address(table: &Table, key: &str) -> Option<SocketAddrV4>
     }
 }
 
-/// Reads the truth value of a key of the document; `other` where the key is missing.
+/// Reads the truth value of a key of the document; the default where the key is missing.
 pub(crate) fn read_truth(
     alloc: Global,
     table: &Table,
     key: &str,
-    other: bool,
+    default: bool,
 ) -> Result<bool, ConfigFault>
-    requires { IsNext key.now (truth other) (table_view table.now) }
-    ensures ok { IfOk result (λ b. truth_or other (get_member key.now (table_view table.now)) ≡ Some b) }
+    requires { IsNext key.now (truth default) (table_view table.now) }
+    ensures ok { IfOk result (λ b. truth_or default (get_member key.now (table_view table.now)) ≡ Some b) }
     ensures past { IfOk result (λ _. IsPast key.now (table_view table.now)) }
     ensures err { IfErr result (Names (IsFirstFault (table_view table.now))) }
 {
-    needed(alloc, key, truth_or(table, key, other))
+    needed(alloc, key, truth_or(table, key, default))
 }
 
 /// Reads the IPv4 address and port of a key of the document.

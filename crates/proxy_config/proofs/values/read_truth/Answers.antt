@@ -11,8 +11,8 @@ pub returns-clause-past : goal.returns-clause-past
 returns-clause-past c =
     let key = c.args.key.now in
     let document = table_view c.args.table.now in
-    let says = truth_or c.args.other (get_member key document) in
-    past_found (λ b. says ≡ Some b) c.truth_or.result c.needed.result key (truth c.args.other) document c.requires
+    let says = truth_or c.args.default (get_member key document) in
+    past_found (λ b. says ≡ Some b) c.truth_or.result c.needed.result key (truth c.args.default) document c.requires
     (λ b is. (b, is))
     (said c.truth_or.result says c.truth_or.ensures)
     c.needed.ensures.ok
@@ -21,8 +21,8 @@ pub returns-clause-err : goal.returns-clause-err
 returns-clause-err c =
     let key = c.args.key.now in
     let document = table_view c.args.table.now in
-    let says = truth_or c.args.other (get_member key document) in
-    fault_found (λ b. says ≡ Some b) c.truth_or.result c.needed.result key (truth c.args.other) document c.requires
+    let says = truth_or c.args.default (get_member key document) in
+    fault_found (λ b. says ≡ Some b) c.truth_or.result c.needed.result key (truth c.args.default) document c.requires
     (λ found none same. (λ good. none good.0 good.1, same))
     (unsaid c.truth_or.result says c.truth_or.ensures)
     c.needed.ensures.none
