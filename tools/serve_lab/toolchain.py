@@ -55,12 +55,22 @@ class Module:
         """A word of the call, as it is without the toolchain that kept the module."""
         return "--sysroot=" + self.toolchain if word.startswith("--sysroot=") else word
 
-    def compile(self, program, flags, more=()):
-        """Compiles it with these flags beside its own, and links it with further object files."""
-        made = program + ".o"
+    def translate(self, made, flags):
+        """Has clang make a file of it, with these flags beside its own."""
         words = [self.kept if word.endswith(".bc") else word for word in self.words]
         words[1 + words.index("-o")] = made
         subprocess.run([self.clang, *words, *flags], check=True)
+
+    def optimized(self, kept, flags):
+        """The module that clang makes of it with these flags, kept at this path: it is compiled as this one is."""
+        self.translate(kept, [*flags, "-emit-llvm"])
+        shutil.copyfile(self.kept + ".words", kept + ".words")
+        return Module(kept)
+
+    def compile(self, program, flags, more=()):
+        """Compiles it with these flags beside its own, and links it with further object files."""
+        made = program + ".o"
+        self.translate(made, flags)
         libraries = [os.path.join(self.kit, "c", name) for name in ("libos_c.a", "liblibc_c.a")]
         subprocess.run([os.path.join(self.kit, "bin", "rattle-link"), "--target", "x86_64-unknown-linux-gnu", "--toolchain", self.toolchain,
                         "-o", program, made, *libraries, *more], capture_output=True, check=True)

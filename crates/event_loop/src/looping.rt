@@ -25,7 +25,6 @@ use crate::work::Work;
 use mio::{Poll, Token};
 use socket_wire::Dial;
 use std::alloc::{AllocError, Global};
-use std::io::{self, ErrorKind};
 use std::sync::Wait;
 use std::time::{Clock, Duration, Instant};
 
@@ -127,7 +126,7 @@ impl<K: Work> EventLoop<K> {
     }
 
     /// A turn begins: its poll has reported, and the clock is read.
-    fn begin_turn<R: Clock>(&mut self, rt: &R) -> io::Result<()>
+    fn begin_turn<R: Clock>(&mut self, rt: &R) -> Result<(), LoopFault>
         ensures { Does K.Work self.old self.new (Heard (nat_lt (length self.old.reports.seen.items) EVENTS) ∷ []) }
     {
         self.hear_poll();
@@ -164,10 +163,13 @@ impl<K: Work> EventLoop<K> {
     }
 
     /// Reads the clock.
-    fn read_clock<R: Clock>(&mut self, rt: &R) -> io::Result<()>
+    fn read_clock<R: Clock>(&mut self, rt: &R) -> Result<(), LoopFault>
         ensures { Does K.Work self.old self.new [] }
     {
-        let elapsed = self.start.elapsed(rt)?;
+        let elapsed = match self.start.elapsed(rt) {
+            Ok(elapsed) => elapsed,
+            Err(error) => return Err(LoopFault::of(error)),
+        };
         self.elapsed = elapsed
             .as_secs()
             .saturating_mul(SECOND)
@@ -225,9 +227,9 @@ impl<K: Work> EventLoop<K> {
     {
         let fault = match self.run(rt, alloc, number, inboxes) {
             Ok(()) => None,
-            Err(error) => {
+            Err(fault) => {
                 stop_all(inboxes);
-                Some(LoopFault::of(error))
+                Some(fault)
             }
         };
         let now = self.now();
@@ -244,7 +246,7 @@ impl<K: Work> EventLoop<K> {
         alloc: Global,
         number: usize,
         inboxes: &[Inbox],
-    ) -> io::Result<()>
+    ) -> Result<(), LoopFault>
         requires { number < length inboxes.now }
         ensures { IsTied K.Work self.old → Ran K.Work self.old.work self.new.work (λ deeds. ⊤) }
     {
@@ -274,7 +276,7 @@ impl<K: Work> EventLoop<K> {
         alloc: Global,
         number: usize,
         inboxes: &[Inbox],
-    ) -> io::Result<bool>
+    ) -> Result<bool, LoopFault>
         requires { number < length inboxes.now }
         ensures serves { IfOk result (λ stops. stops ≡ false
             → Did K.Work (polled self.old self.new) self.new (ServesRound K.Work self.old self.new)) }
@@ -299,7 +301,7 @@ impl<K: Work> EventLoop<K> {
         rt: &R,
         number: usize,
         inboxes: &[Inbox],
-    ) -> io::Result<()>
+    ) -> Result<(), LoopFault>
         requires { number < length inboxes.now }
         ensures { Did K.Work self.old self.new (λ deeds. ⊤) }
     {
@@ -310,7 +312,7 @@ impl<K: Work> EventLoop<K> {
     }
 
     /// Drives all exchanges, for their deadlines, where the second is no longer this one.
-    fn drive_late<R: Wait + Dial + Clock>(&mut self, rt: &R, before: u64) -> io::Result<()>
+    fn drive_late<R: Wait + Dial + Clock>(&mut self, rt: &R, before: u64) -> Result<(), LoopFault>
         ensures { Did K.Work self.old self.new (λ deeds. OnOk result ((second self.new ≡ before → ⊥)
             → (key : ℕ) → key < K.bound self.old.work → Gets key deeds self.new.ready)) }
     {
@@ -321,7 +323,7 @@ impl<K: Work> EventLoop<K> {
     }
 
     /// Sees that every loop begins. `Err` where one hasn't for too long, as where the system gives no thread for it.
-    fn wait_for_all(&mut self, inboxes: &[Inbox]) -> io::Result<()>
+    fn wait_for_all(&mut self, inboxes: &[Inbox]) -> Result<(), LoopFault>
         ensures { Does K.Work self.old self.new [] }
     {
         if self.complete || have_begun(inboxes) {
@@ -331,6 +333,6 @@ impl<K: Work> EventLoop<K> {
         if self.now() < BEGIN {
             return Ok(());
         }
-        Err(io::Error::from(ErrorKind::TimedOut))
+        Err(LoopFault::System)
     }
 }

@@ -4,12 +4,12 @@ ghost use Rattle.std.specs.Prelude.{[], ◌∷◌, ⊤};
 ghost use Rattle.event_loop.specs.Deeds.Deed.{Drained};
 ghost use Rattle.event_loop.specs.Turns.{Does, Did};
 
+use crate::ended::LoopFault;
 use crate::inbox::{Inbox, stop_all};
 use crate::looping::EventLoop;
 use crate::mail::Inboxes;
 use crate::work::Work;
 use socket_wire::Dial;
-use std::io;
 use std::sync::Wait;
 use std::time::Clock;
 
@@ -20,7 +20,7 @@ impl<K: Work> EventLoop<K> {
         &mut self,
         rt: &R,
         inboxes: &[Inbox],
-    ) -> io::Result<()>
+    ) -> Result<(), LoopFault>
         ensures { Did K.Work self.old self.new (λ deeds. ⊤) }
     {
         if !self.draining {

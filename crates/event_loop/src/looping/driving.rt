@@ -5,10 +5,10 @@ ghost use Rattle.event_loop.specs.Marks.{is_marked};
 ghost use Rattle.event_loop.specs.Deeds.Deed.{Drove};
 ghost use Rattle.event_loop.specs.Turns.{Works, Does, Did, Drives, Gets, IsDriven, IsAsked, ways};
 
+use crate::ended::LoopFault;
 use crate::looping::EventLoop;
 use crate::work::{Driven, Work};
 use socket_wire::Dial;
-use std::io;
 use std::sync::Wait;
 use std::time::Clock;
 
@@ -58,7 +58,11 @@ impl<K: Work> EventLoop<K> {
 
     /// Drives an exchange, unless it has a mark: then it is driven with all that have one, before any time is waited. So others wait for
     /// one drive of an exchange that has much to do, in each pass.
-    pub(super) fn drive<R: Wait + Dial + Clock>(&mut self, rt: &R, key: usize) -> io::Result<()>
+    pub(super) fn drive<R: Wait + Dial + Clock>(
+        &mut self,
+        rt: &R,
+        key: usize,
+    ) -> Result<(), LoopFault>
         ensures { Did K.Work self.old self.new (λ deeds. OnOk result (Gets key deeds self.new.ready)) }
     {
         if self.ready.has(key) {
@@ -70,7 +74,7 @@ impl<K: Work> EventLoop<K> {
     }
 
     /// Drives those that the queues name: what the first in one waits for may have come back, or one has to give way to it.
-    pub(super) fn drive_first<R: Wait + Dial + Clock>(&mut self, rt: &R) -> io::Result<()>
+    pub(super) fn drive_first<R: Wait + Dial + Clock>(&mut self, rt: &R) -> Result<(), LoopFault>
         ensures { Did K.Work self.old self.new (λ deeds. OnOk result ((queue : ℕ)
             → queue < K.queues self.old.work → IsAsked queue deeds self.new.ready)) }
     {
@@ -84,7 +88,7 @@ impl<K: Work> EventLoop<K> {
 
     /// Reads the clock, unless nothing was driven since it was read.
     #[inline(always)]
-    fn read_clock_after<R: Clock>(&mut self, rt: &R, has_driven: bool) -> io::Result<()>
+    fn read_clock_after<R: Clock>(&mut self, rt: &R, has_driven: bool) -> Result<(), LoopFault>
         ensures { Does K.Work self.old self.new [] }
     {
         if has_driven {
@@ -96,7 +100,7 @@ impl<K: Work> EventLoop<K> {
     /// Drives those that have a mark, once each: an event was news for them, or they have more to do. The first goes on at the moment that
     /// was read last, as the turn began; before each further one the clock is read.
     #[inline(always)]
-    fn drive_marked<R: Wait + Dial + Clock>(&mut self, rt: &R) -> io::Result<()>
+    fn drive_marked<R: Wait + Dial + Clock>(&mut self, rt: &R) -> Result<(), LoopFault>
         ensures { Did K.Work self.old self.new (λ deeds. OnOk result ((key : ℕ)
             → is_marked self.old.ready key ≡ true → IsDriven key deeds)) }
     {
@@ -117,7 +121,7 @@ impl<K: Work> EventLoop<K> {
     }
 
     /// Drives on those that paused, once each. Before each the clock is read.
-    fn drive_paused<R: Wait + Dial + Clock>(&mut self, rt: &R) -> io::Result<()>
+    fn drive_paused<R: Wait + Dial + Clock>(&mut self, rt: &R) -> Result<(), LoopFault>
         ensures { Did K.Work self.old self.new (λ deeds. ⊤) }
     {
         if self.paused.is_empty() {
@@ -137,7 +141,7 @@ impl<K: Work> EventLoop<K> {
 
     /// Drives those that have a mark, and goes round those of them that pause. One that is cut short, or pauses in the last pass, goes on in
     /// the next turn, before which no time is waited.
-    pub(super) fn drive_ready<R: Wait + Dial + Clock>(&mut self, rt: &R) -> io::Result<()>
+    pub(super) fn drive_ready<R: Wait + Dial + Clock>(&mut self, rt: &R) -> Result<(), LoopFault>
         ensures { Did K.Work self.old self.new (λ deeds. OnOk result ((key : ℕ)
             → is_marked self.old.ready key ≡ true → IsDriven key deeds)) }
     {
@@ -149,7 +153,7 @@ impl<K: Work> EventLoop<K> {
     }
 
     /// Drives all, for their deadlines.
-    pub(super) fn drive_all<R: Wait + Dial + Clock>(&mut self, rt: &R) -> io::Result<()>
+    pub(super) fn drive_all<R: Wait + Dial + Clock>(&mut self, rt: &R) -> Result<(), LoopFault>
         ensures { Did K.Work self.old self.new (λ deeds. OnOk result ((key : ℕ)
             → key < K.bound self.old.work → Gets key deeds self.new.ready)) }
     {

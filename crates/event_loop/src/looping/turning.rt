@@ -5,6 +5,7 @@ ghost use Rattle.event_loop.specs.Deeds.Deed.{MadeRoom};
 ghost use Rattle.event_loop.specs.Turns.{Does, Did, AreServed, AreNotes, IsServed, IsAsked, IsAdmitted, Serves};
 
 use crate::asker::MAX_ASKERS;
+use crate::ended::LoopFault;
 use crate::event::Event;
 use crate::inbox::{Handed, Inbox};
 use crate::looping::{ADMIN, EventLoop, LISTENER, METRICS, WAKER};
@@ -13,7 +14,6 @@ use crate::ports::pass_on;
 use crate::work::{Admitted, Work};
 use socket_wire::{Dial, peer_of};
 use std::alloc::Global;
-use std::io;
 use std::sync::Wait;
 use std::time::Clock;
 
@@ -26,7 +26,7 @@ impl<K: Work> EventLoop<K> {
         alloc: Global,
         number: usize,
         inboxes: &[Inbox],
-    ) -> io::Result<()>
+    ) -> Result<(), LoopFault>
         requires { number < length inboxes.now }
         ensures { Did K.Work self.old self.new (λ deeds.
             OnOk result (Serves K.Work self.old self.new self.old.reports.seen.items deeds)) }
@@ -54,7 +54,7 @@ impl<K: Work> EventLoop<K> {
     }
 
     /// Drives those that the queues name, where the loop was woken.
-    fn wake_up<R: Wait + Dial + Clock>(&mut self, rt: &R, woken: bool) -> io::Result<()>
+    fn wake_up<R: Wait + Dial + Clock>(&mut self, rt: &R, woken: bool) -> Result<(), LoopFault>
         ensures { Did K.Work self.old self.new (λ deeds. OnOk result (woken ≡ true → (queue : ℕ)
             → queue < K.queues self.old.work → IsAsked queue deeds self.new.ready)) }
     {
@@ -72,7 +72,7 @@ impl<K: Work> EventLoop<K> {
         woken: bool,
         number: usize,
         inboxes: &[Inbox],
-    ) -> io::Result<()>
+    ) -> Result<(), LoopFault>
         requires { number < length inboxes.now }
         ensures { Did K.Work self.old self.new (λ deeds. ⊤) }
     {
@@ -207,7 +207,7 @@ impl<K: Work> EventLoop<K> {
         number: usize,
         inboxes: &[Inbox],
         users: Vec<Handed>,
-    ) -> io::Result<()>
+    ) -> Result<(), LoopFault>
         ensures { Did K.Work self.old self.new (λ deeds.
             OnOk result (All (λ user. IsAdmitted user.number deeds self.new.ready) users.items)) }
     {
