@@ -4,7 +4,7 @@ counted."""
 import os
 import threading
 
-from serve_lab.loopback import Closed, Icap, Origin, Proxy, Reader, User, body_of, fields_of
+from serve_lab.loopback import Icap, Origin, Proxy, Reader, User, body_of, fields_of
 
 USERS = 16
 PREVIEW = [b"Preview: 1024", b"Transfer-Preview: *"]
@@ -51,7 +51,7 @@ def ask_at_once(port, request, body, count):
                 if (answer.status, answer.body) != (200, body):
                     raise AssertionError("status %d, %d bytes" % (answer.status, len(answer.body)))
             user.close()
-        except (AssertionError, Closed, OSError) as fault:
+        except Exception as fault:  # a broken answer ends in many ways, as where its status is no number
             faults.append(fault)
 
     users = [threading.Thread(target=ask, daemon=True) for _ in range(USERS)]

@@ -8,14 +8,15 @@ use std::io::{self, ErrorKind};
 /// Why a loop ends before it has to stop.
 #[derive(Clone, Copy)]
 pub enum LoopFault {
-    /// The system fails it, as its poll or its clock.
+    /// The system fails it: its poll, its clock, or a thread that doesn't begin.
     System,
     /// No memory was found.
     NoMemory,
 }
 
 impl LoopFault {
-    /// The fault that an error of the system means.
+    /// The fault that an error of the system means. Errors become faults where they come up: an error takes 96 bytes, which each function
+    /// on its way would clear and copy, also where nothing failed.
     pub fn of(error: io::Error) -> LoopFault
         ensures { (result ≡ LoopFault.NoMemory) ↔ (error_kind error ≡ ErrorKind.OutOfMemory) }
     {
