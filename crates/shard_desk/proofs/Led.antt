@@ -28,6 +28,11 @@ may_step : (phase : Phase) (before after : List Doing → Type 0) (taken spent :
     → (is_round phase ≡ true → spent < ROUNDS) → MayStep phase led.doings
 may_step phase before after taken spent led room is = subst (λ (n : ℕ). n < ROUNDS) (sym led.rounds_are) (room is)
 
+-- a step in a phase that was read off is one in that phase
+pub adds_read : (mid after : List Doing → Type 0) (phase there : Phase) (step : Step) → phase ≡ there
+    → Adds mid after (Did there tasks.Step step) → Adds mid after (Did phase tasks.Step step)
+adds_read mid after phase there step read adds = subst (λ it. Adds mid after (Did it tasks.Step step)) (sym read) adds
+
 -- one more
 pub led_more : (before mid after : List Doing → Type 0) (taken spent : ℕ) (phase : Phase) (step : Step) → Led before mid taken spent
     → (is_round phase ≡ true → spent < ROUNDS) → Adds mid after (Did phase tasks.Step step) → leads_on step ≡ true

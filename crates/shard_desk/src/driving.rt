@@ -187,36 +187,31 @@ fn in_way<S: Seating, R: Wait, G>(users: &S, at: &Spot<'_, R, G>, phase: Phase) 
     }
 }
 
-/// A step of an exchange in this phase. One at a connection is counted. Its seat is touched where it went on, and something moved; but
-/// what the proxy itself says at the end is written, and the connection closed after it, within one deadline.
-fn take_step<E: Exchanges, R: Wait + Dial + Clock, G: Gate>(
-    exchanges: &mut E,
+/// Takes note of a step of an exchange that was in the one phase before it, and is in the other one after it. One at a connection is
+/// counted. Its seat is touched where it went on, and something moved; but what the proxy itself says at the end is written, and the
+/// connection closed after it, within one deadline.
+fn note_step<S: Seating, R: Wait + Clock, G>(
+    users: &mut S,
     at: &Spot<'_, R, G>,
-    exchange: &mut E::Exchange,
-    phase: Phase,
+    before: Phase,
+    after: Phase,
+    step: Step,
     noted: &mut Happened,
-) -> Step
-    requires room { is_round phase ≡ true → noted.old.rounds < ROUNDS }
-    requires phase { phase ≡ E.Exchange.phase_of exchange.old }
-    ensures past { Adds (E.Exchange.past exchange.old) (E.Exchange.past exchange.new) (Did phase Task.Step result) }
-    ensures counted { noted.new.rounds ≡ cond (is_round phase) (noted.old.rounds + weight result) noted.old.rounds }
-    ensures over { result ≡ Step.Over → E.Exchange.is_over exchange.new ≡ true }
+)
+    requires room { is_round before ≡ true → noted.old.rounds < ROUNDS }
+    ensures counted { noted.new.rounds ≡ cond (is_round before) (noted.old.rounds + weight step) noted.old.rounds }
 {
-    watch(exchanges.users_mut().seats_mut(), at, phase);
-    let step = exchanges.act(at, exchange, Task::Step);
-    if is_round(phase) {
+    if is_round(before) {
         noted.count(step);
     }
-    if has_moved(step) && !noted.went_on && !is_ending(phase) {
+    if has_moved(step) && !noted.went_on && !is_ending(before) {
         noted.went_on = true;
-        exchanges.users_mut().seats_mut().touch(at.key, at.now);
+        users.seats_mut().touch(at.key, at.now);
     }
-    let next = exchange.phase();
-    note_stay(exchanges.users_mut(), at, next, noted);
-    if next == Phase::Head && (step == Step::On || phase == Phase::Idle) {
-        exchanges.users_mut().seats_mut().begin_head(at.key, at.now);
+    note_stay(users, at, after, noted);
+    if after == Phase::Head && (step == Step::On || before == Phase::Idle) {
+        users.seats_mut().begin_head(at.key, at.now);
     }
-    step
 }
 
 /// Has an exchange take its steps, until each of its connections waits, or others should get their turn. One whose user is lost ends, before
@@ -244,7 +239,12 @@ fn take_steps<E: Exchanges, R: Wait + Dial + Clock, G: Gate>(
         if noted.is_spent(phase) {
             return Driven::CutShort;
         }
-        match take_step(exchanges, at, exchange, phase, noted) {
+        watch(exchanges.users_mut().seats_mut(), at, phase);
+        // Here, and not in a function of its own: each one on the way down to a connection is a frame more.
+        let step = exchanges.act(at, exchange, Task::Step);
+        let after = exchange.phase();
+        note_step(exchanges.users_mut(), at, phase, after, step, noted);
+        match step {
             Step::On | Step::Turned { .. } | Step::Unmoved => {}
             Step::Waits => return Driven::Waiting,
             Step::Over => return Driven::Over,
