@@ -67,6 +67,18 @@ class Module:
         shutil.copyfile(self.kept + ".words", kept + ".words")
         return Module(kept)
 
+    def rewritten(self, kept, rewrite):
+        """The module with its lines in LLVM's language rewritten, kept at this path: it is compiled as this one is."""
+        text = kept + ".before"
+        subprocess.run([self.clang, "--no-default-config", "-x", "ir", self.kept, "-S", "-emit-llvm", "-O0", "-Xclang", "-disable-llvm-passes",
+                        "-o", text], check=True)
+        with open(text, encoding="utf-8", errors="surrogateescape") as lines, \
+                open(kept, "w", encoding="utf-8", errors="surrogateescape") as out:
+            out.writelines(rewrite(lines))
+        os.remove(text)
+        shutil.copyfile(self.kept + ".words", kept + ".words")
+        return Module(kept)
+
     def compile(self, program, flags, more=()):
         """Compiles it with these flags beside its own, and links it with further object files."""
         made = program + ".o"
